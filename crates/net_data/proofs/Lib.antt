@@ -1,0 +1,6 @@
+pub mod Frames
+pub mod Preserve
+pub mod Pairs
+pub mod Removals
+pub mod SeenLemmas
+pub mod RanksLemmas

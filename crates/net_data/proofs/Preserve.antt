@@ -1,0 +1,266 @@
+-- Edits keep a network valid.
+use Rattle.std.proofs.Common.{◌≡◌, ℕ, ◌+◌, ◌<◌, ◌≤◌, ◌≢◌, Bool, true, false, not, ◌&&◌, ◌||◌, eqb, ltb, leb, Option, Some, None, is_some, ◌⊎◌, inl, inr, ⊎_elim, List, [], ◌∷◌, ◌++◌, length, cond, refl, ap, sym, ◌∙◌, subst, arith}
+use Rattle.std.specs.List.{AllByRecursion, list_all, list_any, find}
+use Rattle.std.specs.Option.{option_map_or, option_map, option_or, option_and_then}
+use Rattle.std.proofs.lemmas.Bool.{and_parts, and_from, or_cases, or_parts, or_left, or_right, cases_Bool, not-true, not-false, not_from_false, not_from_true, cond_both, eqb-true, eqb-false, ltb-true, ltb-false, leb-true, leb-false, cases_eq, eq-eqb, ne_eqb}
+use Rattle.std.proofs.lemmas.Bool.Decides.{nat_tests}
+use Rattle.net_items.specs.declared.items.Kind.{Kind}
+use Rattle.net_items.specs.declared.items.Point.{Point}
+use Rattle.net_items.specs.declared.items.LinkSet.{LinkSet}
+use Rattle.net_items.specs.declared.items.Plan.{Plan}
+use Rattle.net_items.specs.declared.lists.Row.{Row}
+use Rattle.net_items.specs.declared.links.Link.{Link}
+use Rattle.link_state.specs.declared.marks.LinkChange.{LinkChange}
+use Rattle.net_data.specs.declared.events.Event.{Event}
+use Rattle.net_data.specs.declared.events.Event.TheVariants as on
+use Rattle.net_data.specs.declared.events.Cause.{Cause}
+use Rattle.net_data.specs.declared.events.Refusal.{Refusal}
+use Rattle.net_data.specs.declared.events.Refusal.TheVariants.{BadRow}
+use Rattle.net_items.specs.Keyed.{IsRising, at_key, put, edit}
+use Rattle.link_state.specs.Marks.{marks_after}
+use Rattle.net_data.specs.Network.{Network}
+use Rattle.net_items.specs.Lookups.{point_at, has_point, is_stp, kind_is_stp, mate_of, joins, set_at, set_between, joined, row_at, vias_of}
+use Rattle.net_data.specs.Valid.{all_vias, any_via, is_distinct, is_nil, is_lower, is_mate, is_free, has_mate_row, is_small_row, IsRightRow, IsRightPlan, IsRightSet, IsOnePerPair, AreMates, IsValid}
+use Rattle.net_data.specs.Edits.{when, first, cause_of, bad_row, row_uses, uses_pair, refusal_of, changed, new_link, new_links, in_order, with_mate, with_change}
+use Rattle.net_items.proofs.KeyedLemmas.{at_key-put, at_key-edit, All-put, All-then, All-edit, IsRising-put, IsRising-edit, length-put, length-put_pos, length-edit, is_some-put, put_new, some_find-put, none_find-put, some_find-edit}
+use Rattle.net_data.proofs.Frames.{list_all-then, IsRightRow-then, IsRightPlan-then, IsRightSet-then}
+
+-- a test that refuses nothing failed
+pub when_none : {R : Type 0} (b : Bool) (r : R) (o : Option R) → option_or (when b r) o ≡ None → (b ≡ false) × (o ≡ None)
+when_none true r o h = absurd (cc)
+when_none false r o h = (refl, h)
+
+pub or_none : {R : Type 0} (o p : Option R) → option_or o p ≡ None → (o ≡ None) × (p ≡ None)
+or_none None p h = (refl, h)
+or_none (Some r) p h = absurd (cc)
+
+pub map_none : {R S : Type 0} (f : R → S) (o : Option R) → option_map f o ≡ None → o ≡ None
+map_none f None h = refl
+map_none f (Some r) h = absurd (cc)
+
+pub not_some : {R : Type 0} (o : Option R) → is_some o ≡ false → o ≡ None
+not_some None h = refl
+not_some (Some r) h = absurd (cc)
+
+stp_none : (points : List Point) (p : ℕ) → point_at points p ≡ None → is_stp points p ≡ true → ⊥
+stp_none points p e h = let no : is_stp points p ≡ false = ap (λ o. option_map_or (λ (p : Point). kind_is_stp p.kind) o false) e in cc
+
+module _ (net : Network) (v : IsValid net) where
+  -- a new point
+  pub valid-AddPoint : (c : ℕ) (kind : Kind) → refusal_of net (on.AddPoint c kind) ≡ None → IsValid (changed net (on.AddPoint c kind))
+  valid-AddPoint c kind none =
+      let tests = when_none (has_point net.points c) _ _ none in
+      let room = when_none (leb 1024 (length net.points)) _ _ tests.1 in
+      let few : length net.points < 1024 = leb-false _ _ room.0 in
+      let key : Point → ℕ = λ p. p.code in
+      let new : Point = record { code = c; kind = kind; mate = None } in
+      let points' : List Point = put (λ p. p.code) new net.points in
+      let absent : point_at net.points c ≡ None = not_some (point_at net.points c) tests.0 in
+      let there : (p : ℕ) → has_point net.points p ≡ true → has_point points' p ≡ true = λ p h. is_some-put (λ p. p.code) new net.points p h in
+      let stps : (p : ℕ) → is_stp net.points p ≡ true → is_stp points' p ≡ true = λ p h. ⊎_elim (λ e. rw e h) (λ e. absurd (stp_none net.points p e.0 h)) (put_new (λ p. p.code) new net.points p absent) in
+      let mates : (p : ℕ) → mate_of points' p ≡ mate_of net.points p = λ p. ⊎_elim (λ e. ap (option_and_then (λ (p : Point). p.mate)) e) (λ e. ap (option_and_then (λ (p : Point). p.mate)) e.1 ∙ sym (ap (option_and_then (λ (p : Point). p.mate)) e.0)) (put_new (λ p. p.code) new net.points p absent) in
+      record {
+        ni_small = v.ni_small;
+        few_points = let l = length-put (λ (p : Point). p.code) new net.points in omega arith;
+        points_rise = IsRising-put (λ p. p.code) new net.points v.points_rise;
+        mates = λ p m e. let old = v.mates p m (sym (mates p) ∙ e) in record { differ = old.differ; stp = stps p old.stp; back = mates m ∙ old.back };
+        sets_rise = v.sets_rise;
+        sets_right = All-then (λ (s : LinkSet). s.id) (IsRightSet net.points) (IsRightSet points') (λ s h. IsRightSet-then net.points points' s there h) net.sets v.sets_right;
+        one_per_pair = v.one_per_pair;
+        plans_rise = v.plans_rise;
+        plans_right = All-then (λ (p : Plan). p.dest) (IsRightPlan net.points net.sets) (IsRightPlan points' net.sets)
+            (λ p h. IsRightPlan-then net.points points' net.sets net.sets p there stps (λ y z h. h) mates h) net.plans v.plans_right;
+      }
+
+  -- the option
+  pub valid-SetTfr : (b : Bool) → IsValid (changed net (on.SetTfr b))
+  valid-SetTfr b = record {
+    ni_small = v.ni_small;
+    few_points = v.few_points;
+    points_rise = v.points_rise;
+    mates = v.mates;
+    sets_rise = v.sets_rise;
+    sets_right = v.sets_right;
+    one_per_pair = v.one_per_pair;
+    plans_rise = v.plans_rise;
+    plans_right = v.plans_right;
+  }
+
+-- a change of a link keeps its set's id, ends and codes
+pub IsRightSet-with_change : (points : List Point) (slc : ℕ) (change : LinkChange) (s : LinkSet) → IsRightSet points s → IsRightSet points (with_change slc change s)
+IsRightSet-with_change points slc change s right =
+    let mark : Link → Link = λ l. record l { marks = marks_after change l.marks } in
+    record {
+      small = right.small;
+      a_there = right.a_there;
+      b_there = right.b_there;
+      ends_differ = right.ends_differ;
+      some_link = let e = length-edit (λ (l : Link). l.slc) slc mark s.links in let some = right.some_link in omega arith;
+      links_rise = IsRising-edit (λ (l : Link). l.slc) slc mark (λ l. refl) s.links right.links_rise;
+      links_small = All-edit (λ (l : Link). l.slc) (λ l. l.slc < 16) slc mark (λ l h. h) s.links right.links_small;
+    }
+
+-- a change of a link joins no other points
+joined-with_change : (id slc : ℕ) (change : LinkChange) (sets : List LinkSet) (y z : ℕ) → joined (edit (λ (s : LinkSet). s.id) id (with_change slc change) sets) y z ≡ joined sets y z
+joined-with_change id slc change sets y z = some_find-edit (λ (s : LinkSet). s.id) (joins y z) id (with_change slc change) (λ s. refl) sets
+
+IsOnePerPair-with_change : (id slc : ℕ) (change : LinkChange) (sets : List LinkSet) → IsOnePerPair sets → IsOnePerPair (edit (λ (s : LinkSet). s.id) id (with_change slc change) sets)
+IsOnePerPair-with_change id slc change [] one = tt
+IsOnePerPair-with_change id slc change (s ∷ ss) one =
+    cond_both (eqb s.id id) _ _ IsOnePerPair (λ b. one) (λ b. (joined-with_change id slc change ss s.a s.b ∙ one.0, IsOnePerPair-with_change id slc change ss one.1))
+
+module _ (net : Network) (v : IsValid net) where
+  -- a change of a link
+  pub valid-Link : (id slc : ℕ) (change : LinkChange) → IsValid (changed net (on.Link id slc change))
+  valid-Link id slc change =
+      let sets' : List LinkSet = edit (λ (s : LinkSet). s.id) id (with_change slc change) net.sets in
+      record {
+        ni_small = v.ni_small;
+        few_points = v.few_points;
+        points_rise = v.points_rise;
+        mates = v.mates;
+        sets_rise = IsRising-edit (λ (s : LinkSet). s.id) id (with_change slc change) (λ s. refl) net.sets v.sets_rise;
+        sets_right = All-edit (λ (s : LinkSet). s.id) (IsRightSet net.points) id (with_change slc change) (IsRightSet-with_change net.points slc change) net.sets v.sets_right;
+        one_per_pair = IsOnePerPair-with_change id slc change net.sets v.one_per_pair;
+        plans_rise = v.plans_rise;
+        plans_right = All-then (λ (p : Plan). p.dest) (IsRightPlan net.points net.sets) (IsRightPlan net.points sets')
+            (λ p h. IsRightPlan-then net.points net.points net.sets sets' p (λ c h. h) (λ c h. h) (λ y z h. joined-with_change id slc change net.sets y z ∙ h) (λ c. refl) h) net.plans v.plans_right;
+      }
+
+-- new links
+pub IsRising-new_links : (slcs : List ℕ) → IsRising (λ (l : Link). l.slc) (new_links slcs)
+IsRising-new_links [] = tt
+IsRising-new_links (slc ∷ slcs) = IsRising-put (λ (l : Link). l.slc) (new_link slc) (new_links slcs) (IsRising-new_links slcs)
+
+new_links-small : (slcs : List ℕ) → list_all (λ c. ltb c 16) slcs ≡ true → AllByRecursion (λ (l : Link). l.slc < 16) (new_links slcs)
+new_links-small [] h = tt
+new_links-small (slc ∷ slcs) h =
+    let both = and_parts (ltb slc 16) _ h in
+    All-put (λ (l : Link). l.slc) (λ l. l.slc < 16) (new_link slc) (new_links slcs) (ltb-true _ _ both.0) (new_links-small slcs both.1)
+
+new_links-some : (slcs : List ℕ) → is_nil slcs ≡ false → 0 < length (new_links slcs)
+new_links-some [] h = absurd (cc)
+new_links-some (slc ∷ slcs) h = length-put_pos (λ (l : Link). l.slc) (new_link slc) (new_links slcs)
+
+-- a set is between the same points from either end
+pub joins_back : (s t : LinkSet) → joins s.a s.b t ≡ joins t.a t.b s
+joins_back s t = grind (arith, nat_tests)
+
+IsOnePerPair-put : (t : LinkSet) (ss : List LinkSet) → joined ss t.a t.b ≡ false → IsOnePerPair ss → IsOnePerPair (put (λ (s : LinkSet). s.id) t ss)
+IsOnePerPair-put t [] apart one = (refl, tt)
+IsOnePerPair-put t (s ∷ ss) apart one =
+    let not_here : joins t.a t.b s ≡ false = grind arith in
+    let not_later : joined ss t.a t.b ≡ false = grind arith in
+    cond_both (ltb t.id s.id) _ _ IsOnePerPair (λ b. (apart, one))
+    (λ b. cond_both (eqb t.id s.id) _ _ IsOnePerPair (λ c. (not_later, one.1))
+    (λ c. (none_find-put (λ (s : LinkSet). s.id) (joins s.a s.b) t ss one.0 (joins_back s t ∙ not_here), IsOnePerPair-put t ss not_later one.1)))
+
+module _ (net : Network) (v : IsValid net) where
+  -- a new set
+  pub valid-AddSet : (id a b : ℕ) (slcs : List ℕ) → refusal_of net (on.AddSet id a b slcs) ≡ None → IsValid (changed net (on.AddSet id a b slcs))
+  valid-AddSet id a b slcs none =
+      let t1 = when_none (not (has_point net.points a && has_point net.points b)) _ _ none in
+      let t2 = when_none (is_some (set_at net.sets id)) _ _ t1.1 in
+      let t3 = or_none (option_map _ (set_between net.sets a b)) _ t2.1 in
+      let t4 = when_none (eqb a b) _ _ t3.1 in
+      let t5 = when_none (is_nil slcs || not (list_all (λ c. ltb c 16) slcs && is_distinct slcs)) _ _ t4.1 in
+      let t6 = when_none (ltb 4095 id) _ _ t5.1 in
+      let ends = and_parts (has_point net.points a) (has_point net.points b) (not-false _ t1.0) in
+      let links = or_parts (is_nil slcs) _ t5.0 in
+      let codes = and_parts (list_all (λ c. ltb c 16) slcs) _ (not-false _ links.1) in
+      let absent : set_at net.sets id ≡ None = not_some _ t2.0 in
+      let apart : joined net.sets a b ≡ false = ap is_some (map_none _ _ t3.0) in
+      let new : LinkSet = record { id = id; a = a; b = b; links = new_links slcs } in
+      let sets' : List LinkSet = put (λ (s : LinkSet). s.id) new net.sets in
+      record {
+        ni_small = v.ni_small;
+        few_points = v.few_points;
+        points_rise = v.points_rise;
+        mates = v.mates;
+        sets_rise = IsRising-put (λ (s : LinkSet). s.id) new net.sets v.sets_rise;
+        sets_right = All-put (λ (s : LinkSet). s.id) (IsRightSet net.points) new net.sets
+            (record {
+              small = ltb-false 4095 id t6.0;
+              a_there = ends.0;
+              b_there = ends.1;
+              ends_differ = eqb-false a b t4.0;
+              some_link = new_links-some slcs links.0;
+              links_rise = IsRising-new_links slcs;
+              links_small = new_links-small slcs codes.0;
+            }) v.sets_right;
+        one_per_pair = IsOnePerPair-put new net.sets apart v.one_per_pair;
+        plans_rise = v.plans_rise;
+        plans_right = All-then (λ (p : Plan). p.dest) (IsRightPlan net.points net.sets) (IsRightPlan net.points sets')
+            (λ p h. IsRightPlan-then net.points net.points net.sets sets' p (λ c h. h) (λ c h. h) (λ y z h. some_find-put (λ (s : LinkSet). s.id) (joins y z) new net.sets absent h) (λ c. refl) h) net.plans v.plans_right;
+      }
+
+-- the rows in order
+row_at-in_order : (rows : List Row) (z : ℕ) → row_at (in_order rows) z ≡ row_at rows z
+row_at-in_order [] z = refl
+row_at-in_order (r ∷ rs) z = at_key-put (λ (r : Row). r.point) r (in_order rs) z ∙ ap (λ o. cond (eqb r.point z) (Some r) o) (row_at-in_order rs z)
+
+pub IsRising-in_order : (rows : List Row) → IsRising (λ (r : Row). r.point) (in_order rows)
+IsRising-in_order [] = tt
+IsRising-in_order (r ∷ rs) = IsRising-put (λ (r : Row). r.point) r (in_order rs) (IsRising-in_order rs)
+
+All-in_order : (P : Row → Type 0) (rows : List Row) → AllByRecursion P rows → AllByRecursion P (in_order rows)
+All-in_order P [] all = tt
+All-in_order P (r ∷ rs) all = All-put (λ (r : Row). r.point) P r (in_order rs) all.0 (All-in_order P rs all.1)
+
+-- rows with no cause are right
+rows_right_from : (points : List Point) (sets : List LinkSet) (dest : ℕ) (rows earlier rs : List Row) → bad_row points sets dest rows earlier rs ≡ None → list_all (λ (r : Row). has_point points r.point) rs ≡ true → list_all is_small_row rs ≡ true → AllByRecursion (IsRightRow points sets dest rows) rs
+rows_right_from points sets dest rows earlier [] none there small = tt
+rows_right_from points sets dest rows earlier (r ∷ rs) none there small =
+    let both = or_none (option_map (λ cause. BadRow r.point cause) (cause_of points sets dest rows earlier r)) _ none in
+    let t1 = when_none (eqb r.point dest) _ _ (map_none _ (cause_of points sets dest rows earlier r) both.0) in
+    let t2 = when_none (list_any (λ (other : Row). eqb other.point r.point) earlier) _ _ t1.1 in
+    let t3 = when_none (not (all_vias (joined sets r.point) r)) _ _ t2.1 in
+    let t4 = when_none (not (is_distinct (vias_of r))) _ _ t3.1 in
+    let t5 = when_none (not (all_vias (is_lower points dest rows r) r)) _ _ t4.1 in
+    let t6 = when_none (not (all_vias (is_free points dest r.point) r)) _ _ t5.1 in
+    let t7 = when_none (r.mate && not (has_mate_row points sets dest rows r)) _ _ t6.1 in
+    let t8 = when_none (is_nil r.classes && not r.mate) _ _ t7.1 in
+    let here = and_parts (has_point points r.point) _ there in
+    let fits = and_parts (is_small_row r) _ small in (
+      record {
+        is_there = here.0;
+        small = fits.0;
+        not_dest = t1.0;
+        vias_joined = not-false _ t3.0;
+        vias_once = not-false _ t4.0;
+        vias_lower = not-false _ t5.0;
+        vias_not_mate = not-false _ t6.0;
+        mate_right = t7.0;
+        has_route = t8.0;
+      },
+      rows_right_from points sets dest rows (earlier ++ r ∷ []) rs both.1 here.1 fits.1,
+    )
+
+module _ (net : Network) (v : IsValid net) where
+  -- a plan
+  pub valid-SetPlan : (p : Plan) → refusal_of net (on.SetPlan p) ≡ None → IsValid (changed net (on.SetPlan p))
+  valid-SetPlan p none =
+      let t1 = when_none (not (has_point net.points p.dest && list_all (λ (r : Row). has_point net.points r.point) p.rows)) _ _ none in
+      let t2 = or_none (bad_row net.points net.sets p.dest p.rows [] p.rows) _ t1.1 in
+      let t3 = when_none (not (list_all is_small_row p.rows)) _ _ t2.1 in
+      let there = and_parts (has_point net.points p.dest) _ (not-false _ t1.0) in
+      let right : AllByRecursion (IsRightRow net.points net.sets p.dest p.rows) p.rows = rows_right_from net.points net.sets p.dest p.rows [] p.rows t2.0 there.1 (not-false _ t3.0) in
+      let new : Plan = record p { rows = in_order p.rows } in
+      record {
+        ni_small = v.ni_small;
+        few_points = v.few_points;
+        points_rise = v.points_rise;
+        mates = v.mates;
+        sets_rise = v.sets_rise;
+        sets_right = v.sets_right;
+        one_per_pair = v.one_per_pair;
+        plans_rise = IsRising-put (λ (p : Plan). p.dest) new net.plans v.plans_rise;
+        plans_right = All-put (λ (p : Plan). p.dest) (IsRightPlan net.points net.sets) new net.plans
+            (record {
+              is_there = there.0;
+              rows_rise = IsRising-in_order p.rows;
+              rows_right = All-then (λ (r : Row). r.point) (IsRightRow net.points net.sets p.dest p.rows) (IsRightRow net.points net.sets p.dest (in_order p.rows))
+                  (λ r h. IsRightRow-then net.points net.points net.sets net.sets p.dest p.rows (in_order p.rows) r (λ c h. h) (λ z h. h) refl (row_at-in_order p.rows) (λ c h. h) h)
+                  (in_order p.rows) (All-in_order _ p.rows right);
+            }) v.plans_right;
+      }

@@ -1,0 +1,8 @@
+use Rattle.std.proofs.Common.{◌≡◌, drop, sym, subst}
+use Rattle.net_items.specs.declared.links.Link.{Link}
+use Rattle.net_items.specs.Keyed.{IsRising}
+use Rattle.net_data.proofs.Preserve.{IsRising-new_links}
+use Rattle.net_data.proofs.edits.new_links.Goals as goal
+
+pub put-requires : goal.put-requires
+put-requires c = rw c.loop-place.invariant.done (IsRising-new_links (drop c.loop-place.place c.args.slcs.now))

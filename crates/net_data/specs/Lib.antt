@@ -1,0 +1,5 @@
+pub mod Network
+pub mod Valid
+pub mod Edits
+pub mod Seen
+pub mod Ranks

@@ -1,0 +1,485 @@
+//! The network.
+
+ghost use Rattle.std.specs.Prelude.{◌≡◌, ◌≢◌, ◌↔◌, IsTrue, ◌<◌, [], true, OnOk, OnErr, IfOk, IsOk, None};
+ghost use Rattle.std.specs.Option.{option_copied};
+ghost use Rattle.net_data.specs.Network.{Network};
+ghost use Rattle.net_items.specs.Lookups.{plan_at, mate_of as the_mate};
+ghost use Rattle.net_data.specs.Edits.{refusal_of as the_refusal, changed, takes_none, Answers};
+
+use point_codes::PointCode;
+use crate::copies::plan_in_order;
+use net_items::copies::copy_sets;
+use crate::edits::{
+    add_link_to_set, change_link_of_set, new_links, put_point, put_set, remove_link_of_set,
+    remove_point, remove_set, set_mate,
+};
+use net_items::equals::{are_same_points, are_same_sets};
+use crate::events::{Event, Refusal};
+use net_items::items::{Kind, LinkSet, Plan, Point};
+use net_items::lists::Slcs;
+use net_items::lookups::{find_set_between, is_point, is_stp, mate_of};
+use link_state::LinkChange;
+use crate::plans::Plans;
+use crate::refusals::{
+    are_good_links, are_small_rows, bad_row, find_set, has_points, is_any_end, is_set,
+    set_has_last_link, set_has_link,
+};
+use std::alloc::{AllocError, Global};
+use std::marker::Model;
+
+/// A valid network.
+#[derive(Drop)]
+pub struct Net {
+    ni: u8,
+    tfr: bool,
+    points: Vec<Point>,
+    sets: Vec<LinkSet>,
+    plans: Plans,
+}
+
+impl Model for Net {
+    ghost use Rattle.net_data.specs.Network.{Network};
+    ghost use Rattle.net_data.specs.Valid.{IsValid};
+
+    ghost Value = { Network };
+
+    ghost view = { λ n. record { ni = n.ni; tfr = n.tfr; points = n.points.items; sets = n.sets.items; plans = n.plans } };
+
+    ghost invariant = { λ n. IsValid (record { ni = n.ni; tfr = n.tfr; points = n.points.items; sets = n.sets.items; plans = n.plans }) };
+}
+
+impl Net {
+    pub fn empty(alloc: Global, ni: u8) -> Net
+        requires { ni < 4 }
+        ensures { result ≡ record { ni = ni; tfr = true; points = []; sets = []; plans = [] } }
+    {
+        Net {
+            ni,
+            tfr: true,
+            points: Vec::new(alloc),
+            sets: Vec::new(alloc),
+            plans: Plans::new(alloc),
+        }
+    }
+
+    /// A copy of the network. Its plans are shared.
+    pub fn copy(&self, alloc: Global) -> Result<Net, AllocError>
+        ensures { IfOk result (λ n. n ≡ self.now) }
+    {
+        Ok(Net {
+            ni: self.ni,
+            tfr: self.tfr,
+            points: Vec::from_slice(alloc, self.points.as_slice())?,
+            sets: copy_sets(alloc, self.sets.as_slice())?,
+            plans: self.plans.copy(alloc)?,
+        })
+    }
+
+    /// Whether all is equal.
+    pub fn equals(&self, other: &Net) -> bool
+        ensures { IsTrue result ↔ (self.now ≡ other.now) }
+    {
+        self.ni == other.ni
+            && self.tfr == other.tfr
+            && are_same_points(self.points.as_slice(), other.points.as_slice())
+            && are_same_sets(self.sets.as_slice(), other.sets.as_slice())
+            && self.plans.equals(&other.plans)
+    }
+
+    /// The network indicator.
+    pub fn ni(&self) -> u8
+        ensures { result ≡ self.now.ni }
+    {
+        self.ni
+    }
+
+    /// Whether the network has the option of TFR.
+    pub fn tfr(&self) -> bool
+        ensures { result ≡ self.now.tfr }
+    {
+        self.tfr
+    }
+
+    /// The points in rising code.
+    pub fn points(&self) -> &[Point]
+        ensures { result.now ≡ self.now.points }
+    {
+        self.points.as_slice()
+    }
+
+    pub fn mate_of(&self, code: PointCode) -> Option<PointCode>
+        ensures { result ≡ the_mate self.now.points code }
+    {
+        mate_of(self.points.as_slice(), code)
+    }
+
+    /// The sets in rising id.
+    pub fn sets(&self) -> &[LinkSet]
+        ensures { result.now ≡ self.now.sets }
+    {
+        self.sets.as_slice()
+    }
+
+    pub fn plan(&self, dest: PointCode) -> Option<&Plan>
+        ensures { option_copied result ≡ plan_at self.now.plans dest }
+    {
+        self.plans.find(dest)
+    }
+
+    /// The plans in rising destination.
+    pub fn plans(&self) -> &Plans
+        ensures { result.now ≡ self.now.plans }
+    {
+        &self.plans
+    }
+
+    fn refusal_of_add_point(&self, code: PointCode, kind: Kind) -> Option<Refusal>
+        ensures { result ≡ the_refusal self.now (Event.AddPoint code kind) }
+    {
+        if is_point(self.points.as_slice(), code) {
+            return Some(Refusal::PointThere);
+        }
+        if self.points.len() >= 1024 {
+            return Some(Refusal::Limit);
+        }
+        None
+    }
+
+    fn refusal_of_remove_point(&self, code: PointCode) -> Option<Refusal>
+        ensures { result ≡ the_refusal self.now (Event.RemovePoint code) }
+    {
+        if !is_point(self.points.as_slice(), code) {
+            return Some(Refusal::NoPoint);
+        }
+        if is_any_end(self.sets.as_slice(), code) || self.plans.any_uses_point(code) {
+            return Some(Refusal::PointUsed);
+        }
+        if self.mate_of(code).is_some() {
+            return Some(Refusal::Paired);
+        }
+        None
+    }
+
+    fn refusal_of_pair(&self, p: PointCode, q: PointCode) -> Option<Refusal>
+        ensures { result ≡ the_refusal self.now (Event.Pair p q) }
+    {
+        let points = self.points.as_slice();
+        if !is_point(points, p) || !is_point(points, q) {
+            return Some(Refusal::NoPoint);
+        }
+        if !is_stp(points, p) || !is_stp(points, q) {
+            return Some(Refusal::NotStp);
+        }
+        if mate_of(points, p).is_some() || mate_of(points, q).is_some() {
+            return Some(Refusal::Paired);
+        }
+        if self.plans.any_uses_pair(p, q) {
+            return Some(Refusal::PairUsed);
+        }
+        if p == q {
+            return Some(Refusal::SameEnds);
+        }
+        None
+    }
+
+    fn refusal_of_unpair(&self, p: PointCode) -> Option<Refusal>
+        ensures { result ≡ the_refusal self.now (Event.Unpair p) }
+    {
+        if !is_point(self.points.as_slice(), p) {
+            return Some(Refusal::NoPoint);
+        }
+        match self.mate_of(p) {
+            None => Some(Refusal::NotPaired),
+            Some(mate) => {
+                if self.plans.any_has_flag(p) || self.plans.any_has_flag(mate) {
+                    return Some(Refusal::PairUsed);
+                }
+                None
+            }
+        }
+    }
+
+    fn refusal_of_add_set(
+        &self,
+        id: u16,
+        a: PointCode,
+        b: PointCode,
+        slcs: &Slcs,
+    ) -> Option<Refusal>
+        ensures { result ≡ the_refusal self.now (Event.AddSet id a b slcs.now) }
+    {
+        if !is_point(self.points.as_slice(), a) || !is_point(self.points.as_slice(), b) {
+            return Some(Refusal::NoPoint);
+        }
+        if is_set(self.sets.as_slice(), id) {
+            return Some(Refusal::SetThere);
+        }
+        if let Some(set) = find_set_between(self.sets.as_slice(), a, b) {
+            return Some(Refusal::Joined(set.id));
+        }
+        if a == b {
+            return Some(Refusal::SameEnds);
+        }
+        if !are_good_links(slcs.as_slice()) {
+            return Some(Refusal::BadLinks);
+        }
+        if id > 4095 {
+            return Some(Refusal::Limit);
+        }
+        None
+    }
+
+    fn refusal_of_remove_set(&self, id: u16) -> Option<Refusal>
+        ensures { result ≡ the_refusal self.now (Event.RemoveSet id) }
+    {
+        match find_set(self.sets.as_slice(), id) {
+            None => Some(Refusal::NoSet),
+            Some(set) => {
+                if self.plans.any_uses_set(self.points.as_slice(), set) {
+                    return Some(Refusal::SetUsed);
+                }
+                None
+            }
+        }
+    }
+
+    fn refusal_of_link(&self, id: u16, slc: u8, change: LinkChange) -> Option<Refusal>
+        ensures { result ≡ the_refusal self.now (Event.Link id slc change) }
+    {
+        if !is_set(self.sets.as_slice(), id) {
+            return Some(Refusal::NoSet);
+        }
+        if !set_has_link(self.sets.as_slice(), id, slc) {
+            return Some(Refusal::NoLink);
+        }
+        None
+    }
+
+    fn refusal_of_add_link(&self, id: u16, slc: u8) -> Option<Refusal>
+        ensures { result ≡ the_refusal self.now (Event.AddLink id slc) }
+    {
+        if !is_set(self.sets.as_slice(), id) {
+            return Some(Refusal::NoSet);
+        }
+        if slc > 15 {
+            return Some(Refusal::BadLinks);
+        }
+        if set_has_link(self.sets.as_slice(), id, slc) {
+            return Some(Refusal::LinkThere);
+        }
+        None
+    }
+
+    fn refusal_of_remove_link(&self, id: u16, slc: u8) -> Option<Refusal>
+        ensures { result ≡ the_refusal self.now (Event.RemoveLink id slc) }
+    {
+        if !is_set(self.sets.as_slice(), id) {
+            return Some(Refusal::NoSet);
+        }
+        if !set_has_link(self.sets.as_slice(), id, slc) {
+            return Some(Refusal::NoLink);
+        }
+        if set_has_last_link(self.sets.as_slice(), id) {
+            return Some(Refusal::LastLink);
+        }
+        None
+    }
+
+    fn refusal_of_set_plan(&self, plan: &Plan) -> Option<Refusal>
+        ensures { result ≡ the_refusal self.now (Event.SetPlan plan.now) }
+    {
+        let points = self.points.as_slice();
+        let rows = plan.rows.as_slice();
+        if !is_point(points, plan.dest) || !has_points(points, rows) {
+            return Some(Refusal::NoPoint);
+        }
+        if let Some(refusal) = bad_row(points, self.sets.as_slice(), plan.dest, rows) {
+            return Some(refusal);
+        }
+        if !are_small_rows(rows) {
+            return Some(Refusal::Limit);
+        }
+        None
+    }
+
+    fn refusal_of_drop_plan(&self, dest: PointCode) -> Option<Refusal>
+        ensures { result ≡ the_refusal self.now (Event.DropPlan dest) }
+    {
+        if !is_point(self.points.as_slice(), dest) {
+            return Some(Refusal::NoPoint);
+        }
+        if !self.plans.has(dest) {
+            return Some(Refusal::NoPlan);
+        }
+        None
+    }
+
+    /// The first refusal of an edit. It takes no memory.
+    pub fn refusal_of(&self, event: &Event) -> Option<Refusal>
+        ensures { result ≡ the_refusal self.now event.now }
+    {
+        match event {
+            Event::Link(id, slc, change) => self.refusal_of_link(*id, *slc, *change),
+            Event::AddPoint(code, kind) => self.refusal_of_add_point(*code, *kind),
+            Event::RemovePoint(code) => self.refusal_of_remove_point(*code),
+            Event::Pair(p, q) => self.refusal_of_pair(*p, *q),
+            Event::Unpair(p) => self.refusal_of_unpair(*p),
+            Event::AddSet(id, a, b, slcs) => self.refusal_of_add_set(*id, *a, *b, slcs),
+            Event::RemoveSet(id) => self.refusal_of_remove_set(*id),
+            Event::AddLink(id, slc) => self.refusal_of_add_link(*id, *slc),
+            Event::RemoveLink(id, slc) => self.refusal_of_remove_link(*id, *slc),
+            Event::SetPlan(plan) => self.refusal_of_set_plan(plan),
+            Event::DropPlan(dest) => self.refusal_of_drop_plan(*dest),
+            Event::SetTfr(_) => None,
+        }
+    }
+
+    fn change_link(&mut self, id: u16, slc: u8, change: LinkChange)
+        requires { the_refusal self.old (Event.Link id slc change) ≡ None }
+        ensures { self.new ≡ changed self.old (Event.Link id slc change) }
+    {
+        change_link_of_set(&mut self.sets, id, slc, change);
+    }
+
+    fn add_point(&mut self, code: PointCode, kind: Kind) -> Result<(), AllocError>
+        requires { the_refusal self.old (Event.AddPoint code kind) ≡ None }
+        ensures ok { OnOk result (self.new ≡ changed self.old (Event.AddPoint code kind)) }
+        ensures err { OnErr result (self.new ≡ self.old) }
+    {
+        put_point(
+            &mut self.points,
+            Point {
+                code,
+                kind,
+                mate: None,
+            },
+        )?;
+        Ok(())
+    }
+
+    fn remove_point(&mut self, code: PointCode)
+        requires { the_refusal self.old (Event.RemovePoint code) ≡ None }
+        ensures { self.new ≡ changed self.old (Event.RemovePoint code) }
+    {
+        remove_point(&mut self.points, code);
+    }
+
+    fn pair(&mut self, p: PointCode, q: PointCode)
+        requires { the_refusal self.old (Event.Pair p q) ≡ None }
+        ensures { self.new ≡ changed self.old (Event.Pair p q) }
+    {
+        set_mate(&mut self.points, q, Some(p));
+        set_mate(&mut self.points, p, Some(q));
+    }
+
+    fn unpair(&mut self, p: PointCode)
+        requires { the_refusal self.old (Event.Unpair p) ≡ None }
+        ensures { self.new ≡ changed self.old (Event.Unpair p) }
+    {
+        if let Some(mate) = self.mate_of(p) {
+            set_mate(&mut self.points, mate, None);
+            set_mate(&mut self.points, p, None);
+        }
+    }
+
+    fn add_set(
+        &mut self,
+        alloc: Global,
+        id: u16,
+        a: PointCode,
+        b: PointCode,
+        slcs: &Slcs,
+    ) -> Result<(), AllocError>
+        requires { the_refusal self.old (Event.AddSet id a b slcs.now) ≡ None }
+        ensures ok { OnOk result (self.new ≡ changed self.old (Event.AddSet id a b slcs.now)) }
+        ensures err { OnErr result (self.new ≡ self.old) }
+    {
+        let links = new_links(alloc, slcs.as_slice())?;
+        put_set(&mut self.sets, LinkSet { id, a, b, links })?;
+        Ok(())
+    }
+
+    fn remove_set(&mut self, id: u16)
+        requires { the_refusal self.old (Event.RemoveSet id) ≡ None }
+        ensures { self.new ≡ changed self.old (Event.RemoveSet id) }
+    {
+        remove_set(&mut self.sets, id);
+    }
+
+    fn add_link(&mut self, id: u16, slc: u8) -> Result<(), AllocError>
+        requires { the_refusal self.old (Event.AddLink id slc) ≡ None }
+        ensures ok { OnOk result (self.new ≡ changed self.old (Event.AddLink id slc)) }
+        ensures err { OnErr result (self.new ≡ self.old) }
+    {
+        add_link_to_set(&mut self.sets, id, slc)?;
+        Ok(())
+    }
+
+    fn remove_link(&mut self, id: u16, slc: u8)
+        requires { the_refusal self.old (Event.RemoveLink id slc) ≡ None }
+        ensures { self.new ≡ changed self.old (Event.RemoveLink id slc) }
+    {
+        remove_link_of_set(&mut self.sets, id, slc);
+    }
+
+    fn set_plan(&mut self, alloc: Global, plan: &Plan) -> Result<(), AllocError>
+        requires { the_refusal self.old (Event.SetPlan plan.now) ≡ None }
+        ensures ok { OnOk result (self.new ≡ changed self.old (Event.SetPlan plan.now)) }
+        ensures err { OnErr result (self.new ≡ self.old) }
+    {
+        let plan = plan_in_order(alloc, plan)?;
+        self.plans.put(alloc, plan)?;
+        Ok(())
+    }
+
+    fn drop_plan(&mut self, dest: PointCode)
+        requires { the_refusal self.old (Event.DropPlan dest) ≡ None }
+        ensures { self.new ≡ changed self.old (Event.DropPlan dest) }
+    {
+        self.plans.remove(dest);
+    }
+
+    fn set_tfr(&mut self, tfr: bool)
+        ensures { self.new ≡ changed self.old (Event.SetTfr tfr) }
+    {
+        self.tfr = tfr;
+    }
+
+    /// An edit that isn't refused. Only want of memory fails, and not where the edit takes none.
+    fn change(&mut self, alloc: Global, event: &Event) -> Result<(), AllocError>
+        requires { the_refusal self.old event.now ≡ None }
+        ensures ok { OnOk result (self.new ≡ changed self.old event.now) }
+        ensures err { OnErr result (self.new ≡ self.old) }
+        ensures no_memory { takes_none event.now ≡ true → IsOk result }
+    {
+        match event {
+            Event::Link(id, slc, change) => self.change_link(*id, *slc, *change),
+            Event::AddPoint(code, kind) => return self.add_point(*code, *kind),
+            Event::RemovePoint(code) => self.remove_point(*code),
+            Event::Pair(p, q) => self.pair(*p, *q),
+            Event::Unpair(p) => self.unpair(*p),
+            Event::AddSet(id, a, b, slcs) => return self.add_set(alloc, *id, *a, *b, slcs),
+            Event::RemoveSet(id) => self.remove_set(*id),
+            Event::AddLink(id, slc) => return self.add_link(*id, *slc),
+            Event::RemoveLink(id, slc) => self.remove_link(*id, *slc),
+            Event::SetPlan(plan) => return self.set_plan(alloc, plan),
+            Event::DropPlan(dest) => self.drop_plan(*dest),
+            Event::SetTfr(tfr) => self.set_tfr(*tfr),
+        }
+        Ok(())
+    }
+
+    /// One edit: the first refusal, else that one change. Want of memory comes last and changes nothing.
+    pub fn apply(&mut self, alloc: Global, event: &Event) -> Result<(), Refusal>
+        ensures answer { Answers self.old event.now result self.new }
+        ensures no_memory { takes_none event.now ≡ true → result ≢ Err Refusal.OutOfMemory }
+    {
+        if let Some(refusal) = self.refusal_of(event) {
+            return Err(refusal);
+        }
+        match self.change(alloc, event) {
+            Ok(()) => Ok(()),
+            Err(_) => Err(Refusal::OutOfMemory),
+        }
+    }
+}

@@ -1,0 +1,219 @@
+//! The plans of a network, in rising destination, shared with its copies.
+
+ghost use Rattle.std.specs.Prelude.{◌≡◌, ◌↔◌, IsTrue, ◌<◌, [], OnOk, OnErr, IfOk, IfErr, map, is_some, true, length, slice_index_or};
+ghost use Rattle.std.specs.Arc.{arc_value};
+ghost use Rattle.std.specs.List.{list_any};
+ghost use Rattle.std.specs.Option.{option_copied};
+ghost use Rattle.net_items.specs.Keyed.{IsRising, IsFoundAt, IsGapAt, put, without};
+ghost use Rattle.net_items.specs.Lookups.{plan_at};
+ghost use Rattle.net_data.specs.Edits.{uses_pair as pair_used, uses_point as point_used, uses_set as set_used, has_flag as flagged};
+
+use point_codes::PointCode;
+use crate::equals::are_same_plans;
+use net_items::items::{LinkSet, Plan, Point};
+use crate::uses::{has_flag, uses_pair, uses_point, uses_set};
+use std::alloc::{AllocError, Global};
+use std::marker::Model;
+use std::sync::Arc;
+
+#[derive(Drop)]
+pub struct Plans {
+    list: Vec<Arc<Plan>>,
+}
+
+impl Model for Plans {
+    ghost use Rattle.std.specs.Prelude.{List, map};
+    ghost use Rattle.std.specs.Arc.{arc_value};
+    ghost use Rattle.net_items.specs.declared.items.Plan.{Plan};
+
+    ghost Value = { List Plan };
+
+    ghost view = { λ p. map arc_value p.list.items };
+}
+
+fn place_of_plan(list: &[Arc<Plan>], dest: PointCode) -> Result<usize, usize>
+    requires { IsRising (λ p. p.dest) (map arc_value list.now) }
+    ensures found { IfOk result (IsFoundAt (λ p. p.dest) dest (map arc_value list.now)) }
+    ensures absent { IfErr result (IsGapAt (λ p. p.dest) dest (map arc_value list.now)) }
+{
+    list.binary_search_by_key(&dest, |p| p.dest)
+}
+
+fn any_uses_pair(plans: &[Arc<Plan>], y: PointCode, z: PointCode) -> bool
+    ensures { result ≡ list_any (pair_used y z) (map arc_value plans.now) }
+{
+    let mut rest = plans;
+    while let Some((first, others)) = rest.split_first() {
+        if uses_pair(y, z, first) {
+            return true;
+        }
+        rest = others;
+    }
+    false
+}
+
+fn any_uses_point(plans: &[Arc<Plan>], code: PointCode) -> bool
+    ensures { result ≡ list_any (point_used code) (map arc_value plans.now) }
+{
+    let mut rest = plans;
+    while let Some((first, others)) = rest.split_first() {
+        if uses_point(code, first) {
+            return true;
+        }
+        rest = others;
+    }
+    false
+}
+
+fn any_has_flag(plans: &[Arc<Plan>], y: PointCode) -> bool
+    ensures { result ≡ list_any (flagged y) (map arc_value plans.now) }
+{
+    let mut rest = plans;
+    while let Some((first, others)) = rest.split_first() {
+        if has_flag(y, first) {
+            return true;
+        }
+        rest = others;
+    }
+    false
+}
+
+fn any_uses_set(plans: &[Arc<Plan>], points: &[Point], set: &LinkSet) -> bool
+    requires { IsRising (λ p. p.code) points.now }
+    ensures { result ≡ list_any (set_used points.now set.now) (map arc_value plans.now) }
+{
+    let mut rest = plans;
+    while let Some((first, others)) = rest.split_first() {
+        if uses_set(points, set, first) {
+            return true;
+        }
+        rest = others;
+    }
+    false
+}
+
+fn copy_list(alloc: Global, plans: &[Arc<Plan>]) -> Result<Vec<Arc<Plan>>, AllocError>
+    ensures { IfOk result (λ v. map arc_value v.items ≡ map arc_value plans.now) }
+{
+    let mut copies = Vec::with_capacity(alloc, plans.len())?;
+    for plan in plans {
+        copies.push(Arc::try_clone(plan)?)?;
+    }
+    Ok(copies)
+}
+
+impl Plans {
+    pub fn new(alloc: Global) -> Plans
+        ensures { result ≡ [] }
+    {
+        Plans {
+            list: Vec::new(alloc),
+        }
+    }
+
+    pub fn len(&self) -> usize
+        ensures { result ≡ length self.now }
+    {
+        self.list.len()
+    }
+
+    /// The plan at a place.
+    pub fn at(&self, place: usize) -> &Plan
+        requires { place < length self.now }
+        ensures { result.now ≡ slice_index_or self.now place result.now }
+    {
+        &self.list[place]
+    }
+
+    pub fn find(&self, dest: PointCode) -> Option<&Plan>
+        requires { IsRising (λ p. p.dest) self.now }
+        ensures { option_copied result ≡ plan_at self.now dest }
+    {
+        match place_of_plan(self.list.as_slice(), dest) {
+            Ok(at) => Some(&self.list[at]),
+            Err(_) => None,
+        }
+    }
+
+    pub fn has(&self, dest: PointCode) -> bool
+        requires { IsRising (λ p. p.dest) self.now }
+        ensures { result ≡ is_some (plan_at self.now dest) }
+    {
+        match place_of_plan(self.list.as_slice(), dest) {
+            Ok(_) => true,
+            Err(_) => false,
+        }
+    }
+
+    /// Puts in a plan, in the place of one of its destination.
+    pub fn put(&mut self, alloc: Global, plan: Plan) -> Result<(), AllocError>
+        requires { IsRising (λ p. p.dest) self.old }
+        ensures ok { OnOk result (self.new ≡ put (λ p. p.dest) plan self.old) }
+        ensures err { OnErr result (self.new ≡ self.old) }
+    {
+        let dest = plan.dest;
+        let shared = Arc::new(alloc, plan)?;
+        match place_of_plan(self.list.as_slice(), dest) {
+            Ok(at) => {
+                self.list[at] = shared;
+            }
+            Err(at) => {
+                self.list.insert(at, shared)?;
+            }
+        }
+        Ok(())
+    }
+
+    /// Removes the plan of a destination.
+    pub fn remove(&mut self, dest: PointCode)
+        requires rising { IsRising (λ p. p.dest) self.old }
+        requires there { is_some (plan_at self.old dest) ≡ true }
+        ensures { self.new ≡ without (λ p. p.dest) dest self.old }
+    {
+        match place_of_plan(self.list.as_slice(), dest) {
+            Ok(at) => {
+                self.list.remove(at);
+            }
+            Err(_) => unreachable!(),
+        }
+    }
+
+    pub fn copy(&self, alloc: Global) -> Result<Plans, AllocError>
+        ensures { IfOk result (λ p. p ≡ self.now) }
+    {
+        Ok(Plans {
+            list: copy_list(alloc, self.list.as_slice())?,
+        })
+    }
+
+    pub fn equals(&self, other: &Plans) -> bool
+        ensures { IsTrue result ↔ (self.now ≡ other.now) }
+    {
+        are_same_plans(self.list.as_slice(), other.list.as_slice())
+    }
+
+    pub fn any_uses_pair(&self, y: PointCode, z: PointCode) -> bool
+        ensures { result ≡ list_any (pair_used y z) self.now }
+    {
+        any_uses_pair(self.list.as_slice(), y, z)
+    }
+
+    pub fn any_uses_point(&self, code: PointCode) -> bool
+        ensures { result ≡ list_any (point_used code) self.now }
+    {
+        any_uses_point(self.list.as_slice(), code)
+    }
+
+    pub fn any_has_flag(&self, y: PointCode) -> bool
+        ensures { result ≡ list_any (flagged y) self.now }
+    {
+        any_has_flag(self.list.as_slice(), y)
+    }
+
+    pub fn any_uses_set(&self, points: &[Point], set: &LinkSet) -> bool
+        requires { IsRising (λ p. p.code) points.now }
+        ensures { result ≡ list_any (set_used points.now set.now) self.now }
+    {
+        any_uses_set(self.list.as_slice(), points, set)
+    }
+}

@@ -1,0 +1,192 @@
+//! Equality by value.
+
+ghost use Rattle.std.specs.Prelude.{◌≡◌, ◌↔◌, IsTrue};
+
+use point_codes::PointCode;
+use crate::items::{LinkSet, Plan, Point};
+use crate::lists::{Row, Vias};
+use crate::links::Link;
+use link_state::{LinkChange, Marks};
+
+fn are_same_codes(a: &[PointCode], b: &[PointCode]) -> bool
+    ensures { IsTrue result ↔ (a.now ≡ b.now) }
+{
+    let mut xs = a;
+    let mut ys = b;
+    while let Some((x, more)) = xs.split_first() {
+        match ys.split_first() {
+            None => return false,
+            Some((y, others)) => {
+                if x != y {
+                    return false;
+                }
+                xs = more;
+                ys = others;
+            }
+        }
+    }
+    ys.is_empty()
+}
+
+/// Whether the link codes are the same, in the same order.
+pub fn are_same_slcs(a: &[u8], b: &[u8]) -> bool
+    ensures { IsTrue result ↔ (a.now ≡ b.now) }
+{
+    a == b
+}
+
+fn are_same_classes(a: &[Vias], b: &[Vias]) -> bool
+    ensures { IsTrue result ↔ (a.now ≡ b.now) }
+{
+    let mut xs = a;
+    let mut ys = b;
+    while let Some((x, more)) = xs.split_first() {
+        match ys.split_first() {
+            None => return false,
+            Some((y, others)) => {
+                if !are_same_codes(x.as_slice(), y.as_slice()) {
+                    return false;
+                }
+                xs = more;
+                ys = others;
+            }
+        }
+    }
+    ys.is_empty()
+}
+
+fn is_same_row(a: &Row, b: &Row) -> bool
+    ensures { IsTrue result ↔ (a.now ≡ b.now) }
+{
+    a.point == b.point
+        && a.rank == b.rank
+        && a.mate == b.mate
+        && are_same_classes(a.classes.as_slice(), b.classes.as_slice())
+}
+
+fn are_same_rows(a: &[Row], b: &[Row]) -> bool
+    ensures { IsTrue result ↔ (a.now ≡ b.now) }
+{
+    let mut xs = a;
+    let mut ys = b;
+    while let Some((x, more)) = xs.split_first() {
+        match ys.split_first() {
+            None => return false,
+            Some((y, others)) => {
+                if !is_same_row(x, y) {
+                    return false;
+                }
+                xs = more;
+                ys = others;
+            }
+        }
+    }
+    ys.is_empty()
+}
+
+/// Whether two plans are equal.
+pub fn is_same_plan(a: &Plan, b: &Plan) -> bool
+    ensures { IsTrue result ↔ (a.now ≡ b.now) }
+{
+    a.dest == b.dest && are_same_rows(a.rows.as_slice(), b.rows.as_slice())
+}
+
+fn is_same_marks(a: &Marks, b: &Marks) -> bool
+    ensures { IsTrue result ↔ (a.now ≡ b.now) }
+{
+    a.failed == b.failed
+        && a.blocked_a == b.blocked_a
+        && a.blocked_b == b.blocked_b
+        && a.inhibited_a == b.inhibited_a
+        && a.inhibited_b == b.inhibited_b
+}
+
+fn is_same_link(a: &Link, b: &Link) -> bool
+    ensures { IsTrue result ↔ (a.now ≡ b.now) }
+{
+    a.slc == b.slc && is_same_marks(&a.marks, &b.marks)
+}
+
+fn are_same_links(a: &[Link], b: &[Link]) -> bool
+    ensures { IsTrue result ↔ (a.now ≡ b.now) }
+{
+    let mut xs = a;
+    let mut ys = b;
+    while let Some((x, more)) = xs.split_first() {
+        match ys.split_first() {
+            None => return false,
+            Some((y, others)) => {
+                if !is_same_link(x, y) {
+                    return false;
+                }
+                xs = more;
+                ys = others;
+            }
+        }
+    }
+    ys.is_empty()
+}
+
+fn is_same_set(a: &LinkSet, b: &LinkSet) -> bool
+    ensures { IsTrue result ↔ (a.now ≡ b.now) }
+{
+    a.id == b.id
+        && a.a == b.a
+        && a.b == b.b
+        && are_same_links(a.links.as_slice(), b.links.as_slice())
+}
+
+/// Whether the sets are equal.
+pub fn are_same_sets(a: &[LinkSet], b: &[LinkSet]) -> bool
+    ensures { IsTrue result ↔ (a.now ≡ b.now) }
+{
+    let mut xs = a;
+    let mut ys = b;
+    while let Some((x, more)) = xs.split_first() {
+        match ys.split_first() {
+            None => return false,
+            Some((y, others)) => {
+                if !is_same_set(x, y) {
+                    return false;
+                }
+                xs = more;
+                ys = others;
+            }
+        }
+    }
+    ys.is_empty()
+}
+
+fn is_same_point(a: &Point, b: &Point) -> bool
+    ensures { IsTrue result ↔ (a.now ≡ b.now) }
+{
+    a.code == b.code && a.kind == b.kind && a.mate == b.mate
+}
+
+/// Whether the points are equal.
+pub fn are_same_points(a: &[Point], b: &[Point]) -> bool
+    ensures { IsTrue result ↔ (a.now ≡ b.now) }
+{
+    let mut xs = a;
+    let mut ys = b;
+    while let Some((x, more)) = xs.split_first() {
+        match ys.split_first() {
+            None => return false,
+            Some((y, others)) => {
+                if !is_same_point(x, y) {
+                    return false;
+                }
+                xs = more;
+                ys = others;
+            }
+        }
+    }
+    ys.is_empty()
+}
+
+/// Whether the changes are equal.
+pub fn is_same_change(a: LinkChange, b: LinkChange) -> bool
+    ensures { IsTrue result ↔ (a ≡ b) }
+{
+    a == b
+}

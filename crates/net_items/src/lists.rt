@@ -1,0 +1,215 @@
+//! Lists inside plain data, each a small type that a contract sees as a list.
+
+ghost use Rattle.std.specs.Prelude.{◌≡◌, ◌<◌, List, ℕ, length, slice_set, OnOk, OnErr, IfOk, IfErr, is_some, true};
+ghost use Rattle.net_items.specs.Keyed.{IsRising, IsFoundAt, IsGapAt, at_key, put, without};
+
+use point_codes::PointCode;
+use crate::links::Link;
+use std::alloc::AllocError;
+use std::marker::Model;
+
+/// Where a link is, or would go.
+pub fn place_of_link(links: &[Link], slc: u8) -> Result<usize, usize>
+    requires { IsRising (λ l. l.slc) links.now }
+    ensures found { IfOk result (IsFoundAt (λ l. l.slc) slc links.now) }
+    ensures absent { IfErr result (IsGapAt (λ l. l.slc) slc links.now) }
+{
+    links.binary_search_by_key(&slc, |l| l.slc)
+}
+
+/// The links of a set.
+#[derive(Debug, Drop)]
+pub struct Links {
+    list: Vec<Link>,
+}
+
+impl Model for Links {
+    ghost use Rattle.std.specs.Prelude.{List};
+    ghost use Rattle.net_items.specs.declared.links.Link.{Link};
+
+    ghost Value = { List Link };
+
+    ghost view = { λ l. l.list.items };
+}
+
+impl Links {
+    pub fn from_vec(list: Vec<Link>) -> Links
+        ensures { result ≡ list.items }
+    {
+        Links { list }
+    }
+
+    pub fn into_vec(self) -> Vec<Link>
+        ensures { result.items ≡ self }
+    {
+        let Links { list } = self;
+        list
+    }
+
+    pub fn as_slice(&self) -> &[Link]
+        ensures { result.now ≡ self.now }
+    {
+        self.list.as_slice()
+    }
+
+    pub fn set(&mut self, at: usize, link: Link)
+        requires { at < length self.old }
+        ensures { self.new ≡ slice_set self.old at link }
+    {
+        self.list[at] = link;
+    }
+
+    /// Puts in a link, in the place of one of its code.
+    pub fn put(&mut self, link: Link) -> Result<(), AllocError>
+        requires { IsRising (λ l. l.slc) self.old }
+        ensures ok { OnOk result (self.new ≡ put (λ l. l.slc) link self.old) }
+        ensures err { OnErr result (self.new ≡ self.old) }
+    {
+        match place_of_link(self.list.as_slice(), link.slc) {
+            Ok(at) => {
+                self.list[at] = link;
+            }
+            Err(at) => {
+                self.list.insert(at, link)?;
+            }
+        }
+        Ok(())
+    }
+
+    /// Removes the link of that code.
+    pub fn remove(&mut self, slc: u8)
+        requires rising { IsRising (λ l. l.slc) self.old }
+        requires there { is_some (at_key (λ l. l.slc) slc self.old) ≡ true }
+        ensures { self.new ≡ without (λ l. l.slc) slc self.old }
+    {
+        match place_of_link(self.list.as_slice(), slc) {
+            Ok(at) => {
+                self.list.remove(at);
+            }
+            Err(_) => unreachable!(),
+        }
+    }
+}
+
+/// The vias of a class in order of priority.
+#[derive(Debug, Drop)]
+pub struct Vias {
+    list: Vec<PointCode>,
+}
+
+impl Model for Vias {
+    ghost Value = { List ℕ };
+
+    ghost view = { λ l. l.list.items };
+}
+
+impl Vias {
+    pub fn from_vec(list: Vec<PointCode>) -> Vias
+        ensures { result ≡ list.items }
+    {
+        Vias { list }
+    }
+
+    pub fn as_slice(&self) -> &[PointCode]
+        ensures { result.now ≡ self.now }
+    {
+        self.list.as_slice()
+    }
+}
+
+/// The classes of a row, the first first.
+#[derive(Debug, Drop)]
+pub struct Classes {
+    list: Vec<Vias>,
+}
+
+impl Model for Classes {
+    ghost Value = { List (List ℕ) };
+
+    ghost view = { λ l. l.list.items };
+}
+
+impl Classes {
+    pub fn from_vec(list: Vec<Vias>) -> Classes
+        ensures { result ≡ list.items }
+    {
+        Classes { list }
+    }
+
+    pub fn as_slice(&self) -> &[Vias]
+        ensures { result.now ≡ self.now }
+    {
+        self.list.as_slice()
+    }
+}
+
+/// What a plan says of one point.
+#[derive(Debug, Drop)]
+pub struct Row {
+    pub point: PointCode,
+    pub rank: u8,
+    pub classes: Classes,
+    pub mate: bool,
+}
+
+/// The rows of a plan.
+#[derive(Debug, Drop)]
+pub struct Rows {
+    list: Vec<Row>,
+}
+
+impl Model for Rows {
+    ghost use Rattle.std.specs.Prelude.{List};
+    ghost use Rattle.net_items.specs.declared.lists.Row.{Row};
+
+    ghost Value = { List Row };
+
+    ghost view = { λ l. l.list.items };
+}
+
+impl Rows {
+    pub fn from_vec(list: Vec<Row>) -> Rows
+        ensures { result ≡ list.items }
+    {
+        Rows { list }
+    }
+
+    pub fn into_vec(self) -> Vec<Row>
+        ensures { result.items ≡ self }
+    {
+        let Rows { list } = self;
+        list
+    }
+
+    pub fn as_slice(&self) -> &[Row]
+        ensures { result.now ≡ self.now }
+    {
+        self.list.as_slice()
+    }
+}
+
+/// Link codes, in the order given.
+#[derive(Debug, Drop)]
+pub struct Slcs {
+    list: Vec<u8>,
+}
+
+impl Model for Slcs {
+    ghost Value = { List ℕ };
+
+    ghost view = { λ l. l.list.items };
+}
+
+impl Slcs {
+    pub fn from_vec(list: Vec<u8>) -> Slcs
+        ensures { result ≡ list.items }
+    {
+        Slcs { list }
+    }
+
+    pub fn as_slice(&self) -> &[u8]
+        ensures { result.now ≡ self.now }
+    {
+        self.list.as_slice()
+    }
+}

@@ -1,0 +1,95 @@
+//! What stands in the lists of a network.
+
+ghost use Rattle.std.specs.Prelude.{◌≡◌, IfOk, IfErr};
+ghost use Rattle.std.specs.Option.{option_copied};
+ghost use Rattle.net_items.specs.Keyed.{IsRising, IsFoundAt, IsGapAt};
+ghost use Rattle.net_items.specs.Lookups.{point_at, has_point, is_stp as stp, mate_of as mate, set_between, joined, row_at};
+
+use point_codes::PointCode;
+use crate::items::{Kind, LinkSet, Point};
+use crate::lists::Row;
+
+/// Where a point is, or would go.
+pub fn place_of_point(points: &[Point], code: PointCode) -> Result<usize, usize>
+    requires { IsRising (λ p. p.code) points.now }
+    ensures found { IfOk result (IsFoundAt (λ p. p.code) code points.now) }
+    ensures absent { IfErr result (IsGapAt (λ p. p.code) code points.now) }
+{
+    points.binary_search_by_key(&code, |p| p.code)
+}
+
+/// Where a set is, or would go.
+pub fn place_of_set(sets: &[LinkSet], id: u16) -> Result<usize, usize>
+    requires { IsRising (λ s. s.id) sets.now }
+    ensures found { IfOk result (IsFoundAt (λ s. s.id) id sets.now) }
+    ensures absent { IfErr result (IsGapAt (λ s. s.id) id sets.now) }
+{
+    sets.binary_search_by_key(&id, |s| s.id)
+}
+
+/// The point of that code.
+pub fn find_point(points: &[Point], code: PointCode) -> Option<Point>
+    requires { IsRising (λ p. p.code) points.now }
+    ensures { result ≡ point_at points.now code }
+{
+    match place_of_point(points, code) {
+        Ok(at) => Some(points[at]),
+        Err(_) => None,
+    }
+}
+
+/// Whether there is a point of that code.
+pub fn is_point(points: &[Point], code: PointCode) -> bool
+    requires { IsRising (λ p. p.code) points.now }
+    ensures { result ≡ has_point points.now code }
+{
+    find_point(points, code).is_some()
+}
+
+/// Whether the point is a transfer point.
+pub fn is_stp(points: &[Point], code: PointCode) -> bool
+    requires { IsRising (λ p. p.code) points.now }
+    ensures { result ≡ stp points.now code }
+{
+    match find_point(points, code) {
+        Some(point) => match point.kind {
+            Kind::Sep => false,
+            Kind::Stp => true,
+        },
+        None => false,
+    }
+}
+
+/// The mate of a point.
+pub fn mate_of(points: &[Point], code: PointCode) -> Option<PointCode>
+    requires { IsRising (λ p. p.code) points.now }
+    ensures { result ≡ mate points.now code }
+{
+    match find_point(points, code) {
+        Some(point) => point.mate,
+        None => None,
+    }
+}
+
+/// The set between two points.
+pub fn find_set_between(sets: &[LinkSet], y: PointCode, z: PointCode) -> Option<&LinkSet>
+    ensures { option_copied result ≡ set_between sets.now y z }
+{
+    sets.iter()
+        .find(|s| (s.a == y && s.b == z) || (s.a == z && s.b == y))
+}
+
+/// Whether a set joins two points.
+pub fn is_joined(sets: &[LinkSet], y: PointCode, z: PointCode) -> bool
+    ensures { result ≡ joined sets.now y z }
+{
+    find_set_between(sets, y, z).is_some()
+}
+
+/// The row of a point.
+pub fn find_row(rows: &[Row], y: PointCode) -> Option<&Row>
+    ensures { option_copied result ≡ row_at rows.now y }
+{
+    rows.iter().find(|r| r.point == y)
+}
+

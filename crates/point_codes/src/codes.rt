@@ -1,0 +1,127 @@
+//! A point code, its number and its text.
+
+ghost use Rattle.std.specs.Prelude.{◌≡◌, ◌<◌, ◌≤◌, ◌↔◌, ◌/◌, ◌%◌, ◌++◌, ℕ, List, Some, None, IsSome, IfSome, MatchResult, OnOk, OnErr, string_bytes};
+ghost use Rattle.point_codes.specs.Codes.{code_of, code_text, IsCode};
+
+use crate::numbers::{read_number, split_at_byte};
+use std::alloc::{AllocError, Global};
+use std::fmt;
+use std::marker::Model;
+use thiserror::Error;
+
+/// A signalling point code of 14 bits.
+#[derive(Clone, Copy, Debug, PartialEq, Eq, PartialOrd, Ord)]
+pub struct PointCode {
+    number: u16,
+}
+
+/// The text is no point code.
+#[derive(Clone, Copy, Debug, PartialEq, Eq, Error)]
+#[error("not a point code")]
+pub struct BadCode;
+
+impl Model for PointCode {
+    ghost Value = { ℕ };
+
+    ghost view = { λ p. p.number };
+
+    ghost invariant = { λ p. p.number < 16384 };
+
+    ghost inverse = { λ n. record { number = n } };
+}
+
+impl PointCode {
+    /// The code of a number, which has to be below 16,384 (Q.704 clause 2.2).
+    pub fn new(number: u16) -> Option<PointCode>
+        ensures valid { IsSome result ↔ (number < 16384) }
+        ensures value { IfSome result (λ p. p ≡ number) }
+    {
+        if number < 16384 {
+            Some(PointCode { number })
+        } else {
+            None
+        }
+    }
+
+    /// The code that a text is, `zone-area-point` in decimal (Q.708). The error is `BadCode` for any other text: a part
+    /// out of range, with a sign or a leading zero, a space, a part too many or too few.
+    pub fn parse(text: &[u8]) -> Result<PointCode, BadCode>
+        ensures { MatchResult result (λ p. code_of text.now ≡ Some p) (λ _. code_of text.now ≡ None) }
+    {
+        match read_parts(text) {
+            Some(code) => Ok(code),
+            None => Err(BadCode),
+        }
+    }
+
+    /// The code's number, from 0 to 16,383.
+    pub fn number(self) -> u16
+        ensures value { result ≡ self }
+        ensures in_range { result < 16384 }
+    {
+        self.number
+    }
+
+    /// The zone, from 0 to 7 (Q.708).
+    pub fn zone(self) -> u8
+        ensures value { result ≡ self / 2048 }
+        ensures in_range { result < 8 }
+    {
+        (self.number / 2048) as u8
+    }
+
+    /// The area, from 0 to 255 (Q.708).
+    pub fn area(self) -> u8
+        ensures { result ≡ self / 8 % 256 }
+    {
+        (self.number / 8 % 256) as u8
+    }
+
+    /// The point within the area, from 0 to 7 (Q.708).
+    pub fn point(self) -> u8
+        ensures value { result ≡ self % 8 }
+        ensures in_range { result < 8 }
+    {
+        (self.number % 8) as u8
+    }
+
+    /// Appends the code's text. Where memory is wanting, the text stays as it was.
+    pub fn put_text(&self, alloc: Global, text: &mut String) -> Result<(), AllocError>
+        ensures ok { OnOk result (string_bytes text.new ≡ string_bytes text.old ++ code_text self.now) }
+        ensures err { OnErr result (string_bytes text.new ≡ string_bytes text.old) }
+    {
+        let code = format!(in alloc; "{self}")?;
+        text.push_str(code.as_str())
+    }
+}
+
+impl fmt::Display for PointCode {
+    ghost use Rattle.std.specs.Prelude.{Some};
+    ghost use Rattle.point_codes.specs.Codes.{code_text};
+
+    ghost output = { λ p. Some (code_text p) };
+
+    fn fmt<W: fmt::Write>(&self, f: &mut fmt::Formatter<W>) -> fmt::Result {
+        let zone = self.zone();
+        let area = self.area();
+        let point = self.point();
+        write!(f, "{zone}-{area}-{point}")
+    }
+}
+
+/// The code that a text is.
+fn read_parts(text: &[u8]) -> Option<PointCode>
+    ensures { result ≡ code_of text.now }
+{
+    let (zone, rest) = split_at_byte(text, b'-')?;
+    let (area, point) = split_at_byte(rest, b'-')?;
+    let z = read_number(zone, 7)?;
+    let a = read_number(area, 255)?;
+    let p = read_number(point, 7)?;
+    PointCode::new((z * 2048 + a * 8 + p) as u16)
+}
+
+/// The law: a text is read as a code exactly where it is that code's text.
+pub fn code_tokens()
+    ensures { (n : ℕ) (text : List ℕ) → (code_of text ≡ Some n) ↔ (IsCode n × (text ≡ code_text n)) }
+{}
