@@ -10,7 +10,7 @@ use Rattle.net_items.specs.declared.items.Plan.{Plan}
 use Rattle.net_items.specs.declared.lists.Row.{Row}
 use Rattle.net_items.specs.Keyed.{IsRising, at_key, put, edit}
 use Rattle.net_items.specs.Lookups.{has_point, is_stp, mate_of, joins, set_between, joined, row_at, vias_of}
-use Rattle.net_data.specs.Valid.{all_vias, any_via, is_via, is_distinct, is_nil, is_lower, is_mate, is_free, has_mate_row, is_small_row, IsRightRow, IsRightPlan, IsRightSet, IsOnePerPair}
+use Rattle.net_data.specs.Valid.{all_vias, any_via, is_via, is_distinct, is_nil, is_lower, is_mate, is_free, has_equal_row, has_mate_row, is_small_row, IsRightRow, IsRightPlan, IsRightSet, IsOnePerPair}
 use Rattle.net_items.proofs.KeyedLemmas.{All-then}
 
 -- what all pass, and what follows for another test
@@ -36,17 +36,21 @@ module _ (points points' : List Point) (sets sets' : List LinkSet) (dest : ℕ) 
     (stps : (p : ℕ) → is_stp points p ≡ true → is_stp points' p ≡ true)
     (joins_stay : (z : ℕ) → joined sets r.point z ≡ true → joined sets' r.point z ≡ true)
     (mate_stays : mate_of points' r.point ≡ mate_of points r.point)
-    (rows_stay : (z : ℕ) → row_at rows' z ≡ row_at rows z) where
+    (rows_stay : (t : Row → Bool) → list_any t rows ≡ true → list_any t rows' ≡ true) where
   is_lower-then : (z : ℕ) → is_lower points dest rows r z ≡ true → is_lower points' dest rows' r z ≡ true
-  is_lower-then z h = rw (rows_stay z) (grind (arith, stps z))
+  is_lower-then z h =
+      ⊎_elim (λ e. or_left (eqb z dest) _ e)
+      (λ e. let both = and_parts (is_stp points z) _ e in
+      or_right (eqb z dest) _ (and_from (is_stp points' z) _ (stps z both.0) (rows_stay (λ other. eqb other.point z && ltb other.rank r.rank) both.1)))
+      (or_cases (eqb z dest) _ h)
 
   has_mate_row-then : has_mate_row points sets dest rows r ≡ true → has_mate_row points' sets' dest rows' r ≡ true
   has_mate_row-then h =
       let both = and_parts (is_stp points r.point) _ h in
-      let of_mate : ℕ → Bool = λ m. joined sets r.point m && (not (eqb m dest) && option_map_or (λ (other : Row). eqb other.rank r.rank) (row_at rows m) false) in
-      let of_mate' : ℕ → Bool = λ m. joined sets' r.point m && (not (eqb m dest) && option_map_or (λ (other : Row). eqb other.rank r.rank) (row_at rows' m) false) in
+      let of_mate : ℕ → Bool = λ m. joined sets r.point m && (not (eqb m dest) && has_equal_row rows m r.rank) in
+      let of_mate' : ℕ → Bool = λ m. joined sets' r.point m && (not (eqb m dest) && has_equal_row rows' m r.rank) in
       and_from (is_stp points' r.point) _ (stps r.point both.0)
-      (rw mate_stays (option_map_or-then of_mate of_mate' (λ m t. rw (rows_stay m) (let parts = and_parts (joined sets r.point m) _ t in and_from _ _ (joins_stay m parts.0) parts.1)) (mate_of points r.point) both.1))
+      (rw mate_stays (option_map_or-then of_mate of_mate' (λ m t. let parts = and_parts (joined sets r.point m) _ t in let rest = and_parts (not (eqb m dest)) _ parts.1 in and_from _ _ (joins_stay m parts.0) (and_from _ _ rest.0 (rows_stay (λ other. eqb other.point m && eqb other.rank r.rank) rest.1))) (mate_of points r.point) both.1))
 
   -- a row stays right where points, transfer points and joints stay, its mate and the plan's rows
   pub IsRightRow-then : ((p : ℕ) → has_point points p ≡ true → has_point points' p ≡ true) → IsRightRow points sets dest rows r → IsRightRow points' sets' dest rows' r
@@ -73,7 +77,7 @@ IsRightPlan-then points points' sets sets' p there stps joins_stay mates right =
   is_there = there p.dest right.is_there;
   rows_rise = right.rows_rise;
   rows_right = All-then (λ (r : Row). r.point) (IsRightRow points sets p.dest p.rows) (IsRightRow points' sets' p.dest p.rows)
-      (λ r h. IsRightRow-then points points' sets sets' p.dest p.rows p.rows r stps (joins_stay r.point) (mates r.point) (λ z. refl) there h)
+      (λ r h. IsRightRow-then points points' sets sets' p.dest p.rows p.rows r stps (joins_stay r.point) (mates r.point) (λ t h. h) there h)
       p.rows right.rows_right;
 }
 
@@ -86,6 +90,7 @@ IsRightSet-then points points' s there right = record {
   b_there = there s.b right.b_there;
   ends_differ = right.ends_differ;
   some_link = right.some_link;
+  few_links = right.few_links;
   links_rise = right.links_rise;
   links_small = right.links_small;
 }
@@ -185,8 +190,8 @@ pub flag-kept : (points points' : List Point) (sets sets' : List LinkSet) (dest 
     → ((m : ℕ) → r.mate ≡ true → mate_of points r.point ≡ Some m → joined sets r.point m ≡ true → joined sets' r.point m ≡ true)
     → (r.mate && not (has_mate_row points sets dest rows r)) ≡ false → (r.mate && not (has_mate_row points' sets' dest rows r)) ≡ false
 flag-kept points points' sets sets' dest rows r stps mate joint h =
-    let of_mate : ℕ → Bool = λ m. joined sets r.point m && (not (eqb m dest) && option_map_or (λ (other : Row). eqb other.rank r.rank) (row_at rows m) false) in
-    let of_mate' : ℕ → Bool = λ m. joined sets' r.point m && (not (eqb m dest) && option_map_or (λ (other : Row). eqb other.rank r.rank) (row_at rows m) false) in
+    let of_mate : ℕ → Bool = λ m. joined sets r.point m && (not (eqb m dest) && has_equal_row rows m r.rank) in
+    let of_mate' : ℕ → Bool = λ m. joined sets' r.point m && (not (eqb m dest) && has_equal_row rows m r.rank) in
     ⊎_elim
     (λ on. no_flag r.mate (has_mate_row points sets dest rows r) (has_mate_row points' sets' dest rows r)
     (λ has. let both = and_parts (is_stp points r.point) _ has in

@@ -1,3 +1,4 @@
+pub mod Orders
 pub mod Frames
 pub mod Preserve
 pub mod Pairs

@@ -1,5 +1,5 @@
 -- Edits keep a network valid.
-use Rattle.std.proofs.Common.{◌≡◌, ℕ, ◌+◌, ◌<◌, ◌≤◌, ◌≢◌, Bool, true, false, not, ◌&&◌, ◌||◌, eqb, ltb, leb, Option, Some, None, is_some, ◌⊎◌, inl, inr, ⊎_elim, List, [], ◌∷◌, ◌++◌, length, cond, refl, ap, sym, ◌∙◌, subst, arith}
+use Rattle.std.proofs.Common.{append_assoc, append-nil, ◌≡◌, ℕ, ◌+◌, ◌<◌, ◌≤◌, ◌≢◌, Bool, true, false, not, ◌&&◌, ◌||◌, eqb, ltb, leb, Option, Some, None, is_some, ◌⊎◌, inl, inr, ⊎_elim, List, [], ◌∷◌, ◌++◌, length, cond, refl, ap, sym, ◌∙◌, subst, arith}
 use Rattle.std.specs.List.{AllByRecursion, list_all, list_any, find}
 use Rattle.std.specs.Option.{option_map_or, option_map, option_or, option_and_then}
 use Rattle.std.proofs.lemmas.Bool.{and_parts, and_from, or_cases, or_parts, or_left, or_right, cases_Bool, not-true, not-false, not_from_false, not_from_true, cond_both, eqb-true, eqb-false, ltb-true, ltb-false, leb-true, leb-false, cases_eq, eq-eqb, ne_eqb}
@@ -23,6 +23,7 @@ use Rattle.net_items.specs.Lookups.{point_at, has_point, is_stp, kind_is_stp, ma
 use Rattle.net_data.specs.Valid.{all_vias, any_via, is_distinct, is_nil, is_lower, is_mate, is_free, has_mate_row, is_small_row, IsRightRow, IsRightPlan, IsRightSet, IsOnePerPair, AreMates, IsValid}
 use Rattle.net_data.specs.Edits.{when, first, cause_of, bad_row, row_uses, uses_pair, refusal_of, changed, new_link, new_links, in_order, with_mate, with_change}
 use Rattle.net_items.proofs.KeyedLemmas.{at_key-put, at_key-edit, All-put, All-then, All-edit, IsRising-put, IsRising-edit, length-put, length-put_pos, length-edit, is_some-put, put_new, some_find-put, none_find-put, some_find-edit}
+use Rattle.net_data.proofs.Orders.{links_few, are_apart, refl_apart, apart_push, any_in_order}
 use Rattle.net_data.proofs.Frames.{list_all-then, IsRightRow-then, IsRightPlan-then, IsRightSet-then}
 
 -- a test that refuses nothing failed
@@ -96,6 +97,7 @@ IsRightSet-with_change points slc change s right =
       b_there = right.b_there;
       ends_differ = right.ends_differ;
       some_link = let e = length-edit (λ (l : Link). l.slc) slc mark s.links in let some = right.some_link in omega arith;
+      few_links = let e = length-edit (λ (l : Link). l.slc) slc mark s.links in let few = right.few_links in omega arith;
       links_rise = IsRising-edit (λ (l : Link). l.slc) slc mark (λ l. refl) s.links right.links_rise;
       links_small = All-edit (λ (l : Link). l.slc) (λ l. l.slc < 16) slc mark (λ l h. h) s.links right.links_small;
     }
@@ -185,6 +187,7 @@ module _ (net : Network) (v : IsValid net) where
               b_there = ends.1;
               ends_differ = eqb-false a b t4.0;
               some_link = new_links-some slcs links.0;
+              few_links = links_few (new_links slcs) (IsRising-new_links slcs) (new_links-small slcs codes.0);
               links_rise = IsRising-new_links slcs;
               links_small = new_links-small slcs codes.0;
             }) v.sets_right;
@@ -194,10 +197,15 @@ module _ (net : Network) (v : IsValid net) where
             (λ p h. IsRightPlan-then net.points net.points net.sets sets' p (λ c h. h) (λ c h. h) (λ y z h. some_find-put (λ (s : LinkSet). s.id) (joins y z) new net.sets absent h) (λ c. refl) h) net.plans v.plans_right;
       }
 
--- the rows in order
-row_at-in_order : (rows : List Row) (z : ℕ) → row_at (in_order rows) z ≡ row_at rows z
-row_at-in_order [] z = refl
-row_at-in_order (r ∷ rs) z = at_key-put (λ (r : Row). r.point) r (in_order rs) z ∙ ap (λ o. cond (eqb r.point z) (Some r) o) (row_at-in_order rs z)
+-- rows with no cause have each a point of its own
+rows_apart_from : (points : List Point) (sets : List LinkSet) (dest : ℕ) (rows earlier rs : List Row) → bad_row points sets dest rows earlier rs ≡ None → are_apart earlier ≡ true → are_apart (earlier ++ rs) ≡ true
+rows_apart_from points sets dest rows earlier [] none apart = subst (λ xs. are_apart xs ≡ true) (sym (append-nil earlier)) apart
+rows_apart_from points sets dest rows earlier (r ∷ rs) none apart =
+    let both = or_none (option_map (λ cause. BadRow r.point cause) (cause_of points sets dest rows earlier r)) _ none in
+    let t1 = when_none (eqb r.point dest) _ _ (map_none _ (cause_of points sets dest rows earlier r) both.0) in
+    let t2 = when_none (list_any (λ (other : Row). eqb other.point r.point) earlier) _ _ t1.1 in
+    subst (λ xs. are_apart xs ≡ true) (append_assoc earlier (r ∷ []) rs)
+    (rows_apart_from points sets dest rows (earlier ++ r ∷ []) rs both.1 (apart_push earlier r apart t2.0))
 
 pub IsRising-in_order : (rows : List Row) → IsRising (λ (r : Row). r.point) (in_order rows)
 IsRising-in_order [] = tt
@@ -246,6 +254,7 @@ module _ (net : Network) (v : IsValid net) where
       let there = and_parts (has_point net.points p.dest) _ (not-false _ t1.0) in
       let right : AllByRecursion (IsRightRow net.points net.sets p.dest p.rows) p.rows = rows_right_from net.points net.sets p.dest p.rows [] p.rows t2.0 there.1 (not-false _ t3.0) in
       let new : Plan = record p { rows = in_order p.rows } in
+      let apart : are_apart p.rows ≡ true = rows_apart_from net.points net.sets p.dest p.rows [] p.rows t2.0 refl_apart in
       record {
         ni_small = v.ni_small;
         few_points = v.few_points;
@@ -260,7 +269,7 @@ module _ (net : Network) (v : IsValid net) where
               is_there = there.0;
               rows_rise = IsRising-in_order p.rows;
               rows_right = All-then (λ (r : Row). r.point) (IsRightRow net.points net.sets p.dest p.rows) (IsRightRow net.points net.sets p.dest (in_order p.rows))
-                  (λ r h. IsRightRow-then net.points net.points net.sets net.sets p.dest p.rows (in_order p.rows) r (λ c h. h) (λ z h. h) refl (row_at-in_order p.rows) (λ c h. h) h)
+                  (λ r h. IsRightRow-then net.points net.points net.sets net.sets p.dest p.rows (in_order p.rows) r (λ c h. h) (λ z h. h) refl (λ t h. any_in_order t p.rows apart h) (λ c h. h) h)
                   (in_order p.rows) (All-in_order _ p.rows right);
             }) v.plans_right;
       }

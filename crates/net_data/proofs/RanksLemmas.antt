@@ -1,73 +1,86 @@
 -- What a table of ranks says of rows.
-use Rattle.std.proofs.Common.{◌≡◌, ◌≢◌, ℕ, zero, suc, ◌+◌, ◌<◌, ◌≤◌, Bool, true, false, not, ◌&&◌, eqb, ltb, leb, Option, Some, None, List, [], ◌∷◌, ◌++◌, length, get_or, set, cond, refl, ap, sym, ◌∙◌, subst, arith, ⊎_elim}
-use Rattle.std.specs.Option.{option_map_or, option_or}
-use Rattle.std.proofs.lemmas.Bool.{cases_eq, eq-eqb, ne_eqb}
+use Rattle.std.proofs.Common.{◌≡◌, ◌≢◌, ℕ, zero, suc, ◌+◌, ◌<◌, ◌≤◌, Bool, true, false, not, ◌&&◌, ◌||◌, eqb, ltb, leb, List, [], ◌∷◌, ◌++◌, length, get_or, set, refl, ap, sym, ◌∙◌, subst, arith, ⊎_elim}
+use Rattle.std.specs.List.{list_any}
+use Rattle.std.proofs.lemmas.Bool.{cases_eq, cases_Bool, eq-eqb, ne_eqb, or_parts, or_left, or_right, or_cases, and_parts, and_from}
 use Rattle.std.proofs.lemmas.Bool.Decides.{nat_tests}
 use Rattle.std.proofs.lemmas.List.{get_or-set_same, get_or-set_other}
+use Rattle.std.proofs.lemmas.List.Folds.{list_any-append}
 use Rattle.net_items.specs.declared.lists.Row.{Row}
-use Rattle.net_items.specs.Lookups.{row_at}
+use Rattle.net_data.specs.Valid.{has_lower_row, has_equal_row}
 use Rattle.net_data.specs.Ranks.{IsRanks}
 
-rank_or : Option Row → ℕ
-rank_or o = option_map_or (λ (r : Row). r.rank + 1) o 0
-
 -- what a further row adds
-row_at-push : (rows : List Row) (r : Row) (z : ℕ) → row_at (rows ++ r ∷ []) z ≡ option_or (row_at rows z) (cond (eqb r.point z) (Some r) None)
-row_at-push [] r z = refl
-row_at-push (x ∷ xs) r z = grind (arith, nat_tests, row_at-push xs r z)
+lower-push : (rows : List Row) (r : Row) (z rank : ℕ) → has_lower_row (rows ++ r ∷ []) z rank ≡ (has_lower_row rows z rank || (eqb r.point z && ltb r.rank rank))
+lower-push rows r z rank =
+    list_any-append (λ (other : Row). eqb other.point z && ltb other.rank rank) rows (r ∷ [])
+    ∙ grind (arith, nat_tests)
 
-none_noted : (o : Option Row) → option_map_or (λ (r : Row). r.rank + 1) o 0 ≡ 0 → o ≡ None
-none_noted None h = refl
-none_noted (Some r) h = absurd (omega arith)
-
-kept : (o p : Option Row) → (option_map_or (λ (r : Row). r.rank + 1) o 0 ≡ 0 → ⊥) → option_or o p ≡ o
-kept None p h = absurd (h refl)
-kept (Some r) p h = refl
-
-or_none_right : (o : Option Row) → option_or o None ≡ o
-or_none_right None = refl
-or_none_right (Some r) = refl
-
--- a point's first row is noted
-pub IsRanks-note : (ranks : List ℕ) (rows : List Row) (r : Row) → length ranks ≡ 16384 → r.point < 16384 → get_or ranks r.point 0 ≡ 0 → IsRanks ranks rows → IsRanks (set ranks r.point (r.rank + 1)) (rows ++ r ∷ [])
-IsRanks-note ranks rows r long small blank noted = λ z within.
-    let push = row_at-push rows r z in
+-- the least of what was noted and one more rank
+noted_less : (old new rank k : ℕ) (b : Bool) → (not (eqb old 0) && leb old k) ≡ b → (old ≡ 0 → new ≡ rank + 1) → (old ≢ 0 → rank + 1 < old → new ≡ rank + 1) → (old ≢ 0 → old ≤ rank + 1 → new ≡ old)
+    → (not (eqb new 0) && leb new k) ≡ (b || ltb rank k)
+noted_less old new rank k b is none less kept =
     ⊎_elim
-    (λ (same : z ≡ r.point).
-    let none : row_at rows z ≡ None = none_noted (row_at rows z) (sym (noted z within) ∙ subst (λ n. get_or ranks n 0 ≡ 0) (sym same) blank) in
-    let here : row_at (rows ++ r ∷ []) z ≡ Some r = push ∙ rw (none, eq-eqb r.point z (sym same)) refl in
-    subst (λ n. get_or (set ranks r.point (r.rank + 1)) n 0 ≡ r.rank + 1) (sym same) (get_or-set_same ranks r.point (r.rank + 1) 0 (omega arith)) ∙ sym (ap (λ o. option_map_or (λ (r : Row). r.rank + 1) o 0) here))
-    (λ (other : z ≢ r.point).
-    let here : row_at (rows ++ r ∷ []) z ≡ row_at rows z = push ∙ rw (ne_eqb r.point z (λ e. other (sym e))) (or_none_right (row_at rows z)) in
-    get_or-set_other ranks r.point z (r.rank + 1) 0 other ∙ (noted z within ∙ sym (ap (λ o. option_map_or (λ (r : Row). r.rank + 1) o 0) here)))
-    (cases_eq z r.point)
+    (λ (e : old ≡ 0). let now = none e in grind (arith, nat_tests))
+    (λ (e : old ≢ 0).
+      ⊎_elim
+      (λ (t : ltb (rank + 1) old ≡ true). let below : rank + 1 < old = grind (arith, nat_tests) in let now = less e below in grind (arith, nat_tests))
+      (λ (t : ltb (rank + 1) old ≡ false). let above : old ≤ rank + 1 = grind (arith, nat_tests) in let now = kept e above in grind (arith, nat_tests))
+      (cases_Bool (ltb (rank + 1) old)))
+    (cases_eq old 0)
 
--- a further row of a point changes nothing
-pub IsRanks-keep : (ranks : List ℕ) (rows : List Row) (r : Row) → (get_or ranks r.point 0 ≡ 0 → ⊥) → IsRanks ranks rows → IsRanks ranks (rows ++ r ∷ [])
-IsRanks-keep ranks rows r there noted = λ z within.
-    let push = row_at-push rows r z in
+-- a row's rank is noted at its place
+pub IsRanks-note : (ranks : List ℕ) (rows : List Row) (r : Row) (at new : ℕ) → at ≡ r.point → length ranks ≡ 16384 → at < 16384
+    → (get_or ranks at 0 ≡ 0 → new ≡ r.rank + 1) → (get_or ranks at 0 ≢ 0 → r.rank + 1 < get_or ranks at 0 → new ≡ r.rank + 1) → (get_or ranks at 0 ≢ 0 → get_or ranks at 0 ≤ r.rank + 1 → new ≡ get_or ranks at 0)
+    → IsRanks ranks rows → IsRanks (set ranks at new) (rows ++ r ∷ [])
+IsRanks-note ranks rows r at new is long small none less kept noted = λ z rank within.
+    let push = lower-push rows r z rank in
     ⊎_elim
-    (λ (same : z ≡ r.point).
-    let here : row_at (rows ++ r ∷ []) z ≡ row_at rows z = push ∙ kept (row_at rows z) (cond (eqb r.point z) (Some r) None) (λ e. there (subst (λ n. get_or ranks n 0 ≡ 0) same (noted z within ∙ e))) in
-    noted z within ∙ sym (ap (λ o. option_map_or (λ (r : Row). r.rank + 1) o 0) here))
-    (λ (other : z ≢ r.point).
-    let here : row_at (rows ++ r ∷ []) z ≡ row_at rows z = push ∙ rw (ne_eqb r.point z (λ e. other (sym e))) (or_none_right (row_at rows z)) in
-    noted z within ∙ sym (ap (λ o. option_map_or (λ (r : Row). r.rank + 1) o 0) here))
-    (cases_eq z r.point)
+    (λ (same : z ≡ at).
+    let here : get_or (set ranks at new) z 0 ≡ new = subst (λ n. get_or (set ranks at new) n 0 ≡ new) (sym same) (get_or-set_same ranks at new 0 (omega arith)) in
+    let old : (not (eqb (get_or ranks at 0) 0) && leb (get_or ranks at 0) rank) ≡ has_lower_row rows z rank = subst (λ n. (not (eqb (get_or ranks n 0) 0) && leb (get_or ranks n 0) rank) ≡ has_lower_row rows z rank) same (noted z rank within) in
+    let both : (not (eqb new 0) && leb new rank) ≡ (has_lower_row rows z rank || ltb r.rank rank) = noted_less (get_or ranks at 0) new r.rank rank (has_lower_row rows z rank) old none less kept in
+    let point : eqb r.point z ≡ true = eq-eqb r.point z (sym is ∙ sym same) in
+    rw here (both ∙ sym (push ∙ rw point refl)))
+    (λ (other : z ≢ at).
+    let there : get_or (set ranks at new) z 0 ≡ get_or ranks z 0 = get_or-set_other ranks at z new 0 other in
+    let point : eqb r.point z ≡ false = ne_eqb r.point z (λ e. other (sym e ∙ sym is)) in
+    let more : (has_lower_row rows z rank || (eqb r.point z && ltb r.rank rank)) ≡ has_lower_row rows z rank = rw point (grind arith) in
+    rw there (noted z rank within ∙ sym (push ∙ more)))
+    (cases_eq z at)
 
--- what the number noted says
-pub lower_noted : (n rank : ℕ) (o : Option Row) → n ≡ option_map_or (λ (r : Row). r.rank + 1) o 0 → (not (eqb n 0) && leb n rank) ≡ option_map_or (λ (r : Row). ltb r.rank rank) o false
-lower_noted n rank None e = grind (arith, nat_tests)
-lower_noted n rank (Some r) e = grind (arith, nat_tests)
+-- a row of a rank is one below the next rank, and not below it
+equal-between : (rows : List Row) (z rank : ℕ) → has_lower_row rows z rank ≡ false → has_lower_row rows z (rank + 1) ≡ has_equal_row rows z rank
+equal-between [] z rank none = refl
+equal-between (r ∷ rs) z rank none =
+    let both = or_parts (eqb r.point z && ltb r.rank rank) _ none in
+    let rest = equal-between rs z rank both.1 in
+    let here : (eqb r.point z && ltb r.rank (rank + 1)) ≡ (eqb r.point z && eqb r.rank rank) = grind (arith, nat_tests) in
+    rw (here, rest) refl
 
-pub same_noted : (n rank : ℕ) (o : Option Row) → n ≡ option_map_or (λ (r : Row). r.rank + 1) o 0 → eqb n (rank + 1) ≡ option_map_or (λ (r : Row). eqb r.rank rank) o false
-same_noted n rank None e = grind (arith, nat_tests)
-same_noted n rank (Some r) e = grind (arith, nat_tests)
+-- no row of a rank where none is below the next
+equal-none : (rows : List Row) (z rank : ℕ) → has_lower_row rows z (rank + 1) ≡ false → has_equal_row rows z rank ≡ false
+equal-none [] z rank none = refl
+equal-none (r ∷ rs) z rank none =
+    let both = or_parts (eqb r.point z && ltb r.rank (rank + 1)) _ none in
+    let rest = equal-none rs z rank both.1 in
+    let here : (eqb r.point z && eqb r.rank rank) ≡ false = grind (arith, nat_tests) in
+    rw (here, rest) refl
 
-pub IsRanks-note-at : (ranks : List ℕ) (rows : List Row) (r : Row) (at : ℕ) → at ≡ r.point → length ranks ≡ 16384 → at < 16384 → get_or ranks at 0 ≡ 0 → IsRanks ranks rows → IsRanks (set ranks at (r.rank + 1)) (rows ++ r ∷ [])
-IsRanks-note-at ranks rows r at is long small blank noted =
-    subst (λ n. IsRanks (set ranks n (r.rank + 1)) (rows ++ r ∷ [])) (sym is)
-    (IsRanks-note ranks rows r long (subst (λ n. n < 16384) is small) (subst (λ n. get_or ranks n 0 ≡ 0) is blank) noted)
+module _ (ranks : List ℕ) (rows : List Row) (z rank at : ℕ) (is : at ≡ z) (within : at < 16384) (noted : IsRanks ranks rows) where
+  told : (k : ℕ) → (not (eqb (get_or ranks at 0) 0) && leb (get_or ranks at 0) k) ≡ has_lower_row rows z k
+  told k = subst (λ n. (not (eqb (get_or ranks at 0) 0) && leb (get_or ranks at 0) k) ≡ has_lower_row rows n k) is (noted at k within)
 
-pub IsRanks-keep-at : (ranks : List ℕ) (rows : List Row) (r : Row) (at : ℕ) → at ≡ r.point → (get_or ranks at 0 ≡ 0 → ⊥) → IsRanks ranks rows → IsRanks ranks (rows ++ r ∷ [])
-IsRanks-keep-at ranks rows r at is there noted = IsRanks-keep ranks rows r (λ e. there (subst (λ n. get_or ranks n 0 ≡ 0) (sym is) e)) noted
+  -- the least rank is that one
+  pub same_noted : get_or ranks at 0 ≡ rank + 1 → has_equal_row rows z rank ≡ true
+  same_noted e =
+      let below : has_lower_row rows z rank ≡ false = sym (told rank) ∙ rw e (grind (arith, nat_tests)) in
+      let next : has_lower_row rows z (rank + 1) ≡ true = sym (told (rank + 1)) ∙ rw e (grind (arith, nat_tests)) in
+      sym (equal-between rows z rank below) ∙ next
+
+  -- there is no rank
+  pub blank_noted : get_or ranks at 0 ≡ 0 → has_equal_row rows z rank ≡ false
+  blank_noted e = equal-none rows z rank (sym (told (rank + 1)) ∙ rw e refl)
+
+  -- the least rank is greater
+  pub greater_noted : rank + 1 < get_or ranks at 0 → has_equal_row rows z rank ≡ false
+  greater_noted less = equal-none rows z rank (sym (told (rank + 1)) ∙ grind (arith, nat_tests))

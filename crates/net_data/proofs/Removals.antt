@@ -22,6 +22,7 @@ use Rattle.net_data.specs.Network.{Network}
 use Rattle.net_items.specs.Lookups.{point_at, has_point, is_stp, kind_is_stp, mate_of, joins, set_at, set_between, plan_at, joined, row_at, vias_of}
 use Rattle.net_data.specs.Valid.{all_vias, any_via, is_via, is_distinct, is_nil, is_lower, is_mate, is_free, has_mate_row, is_small_row, IsRightRow, IsRightPlan, IsRightSet, IsOnePerPair, AreMates, IsValid}
 use Rattle.net_data.specs.Edits.{when, first, row_uses, either_uses, uses_pair, is_row_of, uses_point, is_end, is_flagged, has_flag, row_leads, either_leads, uses_set, has_link, has_last_link, set_passes, refusal_of, changed, new_link, with_mate, set_mate, with_link, without_link, edit_set}
+use Rattle.net_data.proofs.Orders.{links_few}
 use Rattle.net_data.proofs.Frames.{IsRightRow-kept, IsRightPlan-kept, IsRightPlan-then, IsRightSet-then, All-unless, neither, flag-kept, flag-off}
 use Rattle.net_data.proofs.Preserve.{when_none, or_none, not_some}
 use Rattle.net_items.proofs.KeyedLemmas.{All-then, All-without, All-edit_at, IsRising-put, IsRising-without, length-without, at_key-without, some_find-without, none_find-without, IsRising-edit, some_find-edit, All-put, length-put_pos, length-without_pos}
@@ -127,6 +128,7 @@ module _ (net : Network) (v : IsValid net) where
         b_there = right.b_there;
         ends_differ = right.ends_differ;
         some_link = length-put_pos (λ (l : Link). l.slc) (new_link slc) s.links;
+        few_links = links_few (put (λ (l : Link). l.slc) (new_link slc) s.links) (IsRising-put (λ (l : Link). l.slc) (new_link slc) s.links right.links_rise) (All-put (λ (l : Link). l.slc) (λ l. l.slc < 16) (new_link slc) s.links (omega arith) right.links_small);
         links_rise = IsRising-put (λ (l : Link). l.slc) (new_link slc) s.links right.links_rise;
         links_small = All-put (λ (l : Link). l.slc) (λ l. l.slc < 16) (new_link slc) s.links (omega arith) right.links_small;
       })
@@ -147,6 +149,7 @@ module _ (net : Network) (v : IsValid net) where
         b_there = right.b_there;
         ends_differ = right.ends_differ;
         some_link = length-without_pos (λ (l : Link). l.slc) slc s.links two;
+        few_links = links_few (without (λ (l : Link). l.slc) slc s.links) (IsRising-without (λ (l : Link). l.slc) slc s.links right.links_rise) (All-without (λ (l : Link). l.slc) (λ l. l.slc < 16) slc s.links right.links_small);
         links_rise = IsRising-without (λ (l : Link). l.slc) slc s.links right.links_rise;
         links_small = All-without (λ (l : Link). l.slc) (λ l. l.slc < 16) slc s.links right.links_small;
       })
@@ -195,6 +198,7 @@ module _ (net : Network) (v : IsValid net) where
               b_there = there s.b (flip c s.b ends.1) ∙ right.b_there;
               ends_differ = right.ends_differ;
               some_link = right.some_link;
+              few_links = right.few_links;
               links_rise = right.links_rise;
               links_small = right.links_small;
             }) net.sets unused.0 v.sets_right;

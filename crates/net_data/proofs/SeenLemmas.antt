@@ -85,3 +85,25 @@ concat_split (x ∷ xs) (suc i) v d within is =
     ∙ (ap (λ ys. x ++ ys) (append_assoc (concat_vias (take i xs)) v (concat_vias (drop (suc i) xs)))
     ∙ (sym (append_assoc x (concat_vias (take i xs)) (v ++ concat_vias (drop (suc i) xs)))
     ∙ sym (append_assoc (x ++ concat_vias (take i xs)) v (concat_vias (drop (suc i) xs)))))
+
+-- a test of the vias of classes
+concat_any : (p : ℕ → Bool) (classes : List (List ℕ)) → list_any p (concat_vias classes) ≡ list_any (λ vias. list_any p vias) classes
+concat_any p [] = refl
+concat_any p (vias ∷ classes) = list_any-append p vias (concat_vias classes) ∙ ap (λ b. list_any p vias || b) (concat_any p classes)
+
+both_any : (p : ℕ → Bool) (others : List ℕ) (later : List (List ℕ)) → list_any p (others ++ concat_vias later) ≡ (list_any p others || list_any (λ vias. list_any p vias) later)
+both_any p others later = list_any-append p others (concat_vias later) ∙ ap (λ b. list_any p others || b) (concat_any p later)
+
+-- a first via that stands nowhere later
+pub new_first : (z : ℕ) (others : List ℕ) (later : List (List ℕ)) → list_any (λ y. eqb y z) others ≡ false → list_any (λ vias. list_any (λ y. eqb y z) vias) later ≡ false
+    → is_distinct ((z ∷ others) ++ concat_vias later) ≡ is_distinct (others ++ concat_vias later)
+new_first z others later none none_later =
+    let no : list_any (λ y. eqb y z) (others ++ concat_vias later) ≡ false = both_any (λ y. eqb y z) others later ∙ rw (none, none_later) refl in
+    rw no refl
+
+-- a first via that stands later too
+pub twice_first : (z : ℕ) (others : List ℕ) (later : List (List ℕ)) → (list_any (λ y. eqb y z) others || list_any (λ vias. list_any (λ y. eqb y z) vias) later) ≡ true
+    → is_distinct ((z ∷ others) ++ concat_vias later) ≡ false
+twice_first z others later some =
+    let yes : list_any (λ y. eqb y z) (others ++ concat_vias later) ≡ true = both_any (λ y. eqb y z) others later ∙ some in
+    rw yes refl

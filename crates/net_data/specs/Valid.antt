@@ -9,7 +9,7 @@ use Rattle.net_items.specs.declared.lists.Row.{Row}
 use Rattle.net_items.specs.declared.links.Link.{Link}
 use Rattle.net_items.specs.Keyed.{IsRising}
 use Rattle.net_data.specs.Network.{Network}
-use Rattle.net_items.specs.Lookups.{has_point, is_stp, mate_of, joins, set_between, joined, row_at, vias_of}
+use Rattle.net_items.specs.Lookups.{has_point, is_stp, mate_of, joins, set_between, joined, vias_of}
 
 -- no number stands twice
 abbrev pub is_distinct : List ℕ → Bool
@@ -35,13 +35,21 @@ is_via z r = any_via (λ via. via == z) r
 abbrev pub is_mate : List Point → ℕ → ℕ → Bool
 is_mate points y z = option_map_or (λ m. m == z) (mate_of points y) false
 
--- a via leads to the destination, or to a transfer point whose row has a lower rank
+-- the point has a row of lower rank
+abbrev pub has_lower_row : List Row → ℕ → ℕ → Bool
+has_lower_row rows z rank = list_any (λ (other : Row). other.point == z && nat_lt other.rank rank) rows
+
+-- the point has a row of this rank
+abbrev pub has_equal_row : List Row → ℕ → ℕ → Bool
+has_equal_row rows z rank = list_any (λ (other : Row). other.point == z && other.rank == rank) rows
+
+-- a via leads to the destination, or to a transfer point with a row of lower rank
 abbrev pub is_lower : List Point → ℕ → List Row → Row → ℕ → Bool
-is_lower points dest rows r z = z == dest || (is_stp points z && option_map_or (λ (other : Row). nat_lt other.rank r.rank) (row_at rows z) false)
+is_lower points dest rows r z = z == dest || (is_stp points z && has_lower_row rows z r.rank)
 
 -- the row's point is a transfer point whose mate is joined to it, is not the destination and has a row of the same rank
 abbrev pub has_mate_row : List Point → List LinkSet → ℕ → List Row → Row → Bool
-has_mate_row points sets dest rows r = is_stp points r.point && option_map_or (λ m. joined sets r.point m && (not (m == dest) && option_map_or (λ (other : Row). other.rank == r.rank) (row_at rows m) false)) (mate_of points r.point) false
+has_mate_row points sets dest rows r = is_stp points r.point && option_map_or (λ m. joined sets r.point m && (not (m == dest) && has_equal_row rows m r.rank)) (mate_of points r.point) false
 
 -- a via that is not the point's mate, unless it is the destination
 abbrev pub is_free : List Point → ℕ → ℕ → ℕ → Bool
@@ -78,6 +86,7 @@ pub record IsRightSet (points : List Point) (s : LinkSet) : Type 0 where
   pub b_there : has_point points s.b ≡ true
   pub ends_differ : s.a ≢ s.b
   pub some_link : 0 < length s.links
+  pub few_links : length s.links ≤ 16
   pub links_rise : IsRising (λ (l : Link). l.slc) s.links
   pub links_small : AllByRecursion (λ (l : Link). l.slc < 16) s.links
 

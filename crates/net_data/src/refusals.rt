@@ -18,7 +18,7 @@ use crate::row_tests::{
 };
 use net_items::lookups::{is_point, place_of_set};
 use crate::ranks::note_ranks;
-use crate::seen::are_vias_once;
+use crate::seen::{are_vias_once, see};
 
 /// Whether no number stands twice.
 pub fn is_distinct(numbers: &[u8]) -> bool
@@ -65,18 +65,20 @@ pub fn cause_of(
     rows: &[Row],
     earlier: &[Row],
     row: &Row,
+    twice: bool,
     once: bool,
 ) -> Option<Cause>
     requires rising { IsRising (λ p. p.code) points.now }
     requires long { length ranks.now ≡ 16384 }
     requires ranks { IsRanks ranks.now rows.now }
+    requires twice { twice ≡ list_any (λ other. other.point == row.now.point) earlier.now }
     requires once { once ≡ distinct (vias_of row.now) }
     ensures { result ≡ the_cause points.now sets.now dest rows.now earlier.now row.now }
 {
     if row.point == dest {
         return Some(Cause::IsDest);
     }
-    if has_point_in(earlier, row.point) {
+    if twice {
         return Some(Cause::Twice);
     }
     if !are_vias_joined(sets, row) {
@@ -109,12 +111,6 @@ fn has_no_class(row: &Row) -> bool
     }
 }
 
-fn has_point_in(rows: &[Row], y: PointCode) -> bool
-    ensures { result ≡ list_any (λ r. r.point == y) rows.now }
-{
-    rows.iter().any(|r| r.point == y)
-}
-
 pub fn has_points(points: &[Point], rows: &[Row]) -> bool
     requires { IsRising (λ p. p.code) points.now }
     ensures { result ≡ list_all (λ r. has_point points.now r.point) rows.now }
@@ -128,11 +124,15 @@ pub fn bad_row(points: &[Point], sets: &[LinkSet], dest: PointCode, rows: &[Row]
     ensures { result ≡ the_bad_row points.now sets.now dest rows.now [] rows.now }
 {
     let mut ranks = [0; 16384];
+    let mut seen = [false; 16384];
     note_ranks(&mut ranks, rows);
     for place in 0..rows.len() {
         let row = &rows[place];
+        let earlier = &rows[..place];
+        let twice = see(&mut seen, row.point);
         let once = are_vias_once(row);
-        if let Some(cause) = cause_of(points, sets, dest, &ranks, rows, &rows[..place], row, once) {
+        let cause = cause_of(points, sets, dest, &ranks, rows, earlier, row, twice, once);
+        if let Some(cause) = cause {
             return Some(Refusal::BadRow(row.point, cause));
         }
     }

@@ -1,12 +1,14 @@
-//! Whether a via stands twice in a row, by a table of those seen.
+//! Whether a point stands twice: a via in a row, or the point of a row in a plan.
 
-ghost use Rattle.std.specs.Prelude.{◌≡◌, ◌<◌, ◌&&◌, ◌++◌, List, ℕ, length, true};
-ghost use Rattle.net_items.specs.Lookups.{vias_of};
+ghost use Rattle.std.specs.Prelude.{◌≡◌, ◌<◌, ◌&&◌, ◌++◌, ◌==◌, ◌∷◌, [], List, ℕ, length, true, false};
+ghost use Rattle.std.specs.List.{list_any};
+ghost use Rattle.net_items.specs.Lookups.{concat_vias, vias_of};
 ghost use Rattle.net_data.specs.Valid.{is_distinct as distinct};
 ghost use Rattle.net_data.specs.Seen.{IsSeen};
 
 use point_codes::PointCode;
-use net_items::lists::Row;
+use crate::uses::{is_in, is_in_any};
+use net_items::lists::{Row, Vias};
 
 /// Marks the vias of a class. The answer is whether each was new.
 fn see_all(seen: &mut [bool], vias: &[PointCode]) -> bool
@@ -24,7 +26,8 @@ fn see_all(seen: &mut [bool], vias: &[PointCode]) -> bool
     true
 }
 
-pub fn are_vias_once(row: &Row) -> bool
+/// Whether each via is new, by a table of those seen.
+fn are_vias_new(row: &Row) -> bool
     ensures { result ≡ distinct (vias_of row.now) }
 {
     let mut seen = [false; 16384];
@@ -34,4 +37,68 @@ pub fn are_vias_once(row: &Row) -> bool
         }
     }
     true
+}
+
+/// Whether each via of a class stands neither later in it nor in the later classes.
+fn are_new(vias: &[PointCode], later: &[Vias]) -> bool
+    ensures yes { result ≡ true → distinct (vias.now ++ concat_vias later.now) ≡ distinct (concat_vias later.now) }
+    ensures no { result ≡ false → distinct (vias.now ++ concat_vias later.now) ≡ false }
+{
+    let mut rest = vias;
+    while let Some((via, others)) = rest.split_first() {
+        if is_in(others, *via) {
+            return false;
+        }
+        if is_in_any(later, *via) {
+            return false;
+        }
+        rest = others;
+    }
+    true
+}
+
+/// Whether each via stands once, each compared with those after it.
+fn are_vias_apart(classes: &[Vias]) -> bool
+    ensures { result ≡ distinct (concat_vias classes.now) }
+{
+    let mut rest = classes;
+    while let Some((first, later)) = rest.split_first() {
+        if !are_new(first.as_slice(), later) {
+            return false;
+        }
+        rest = later;
+    }
+    true
+}
+
+/// Whether a row has so few vias that comparing them is faster than a table.
+fn is_short(row: &Row) -> bool {
+    let mut count = 0usize;
+    for vias in row.classes.as_slice() {
+        count = count.saturating_add(vias.as_slice().len());
+    }
+    count <= 8
+}
+
+/// Whether no via stands twice in a row.
+pub fn are_vias_once(row: &Row) -> bool
+    ensures { result ≡ distinct (vias_of row.now) }
+{
+    if is_short(row) {
+        are_vias_apart(row.classes.as_slice())
+    } else {
+        are_vias_new(row)
+    }
+}
+
+/// Marks a point. The answer is whether it was marked before.
+pub fn see(seen: &mut [bool], point: PointCode) -> bool
+    requires { length seen.old ≡ 16384 }
+    ensures before { (done : List ℕ) → IsSeen seen.old done → result ≡ list_any (λ y. y == point) done }
+    ensures after { (done : List ℕ) → IsSeen seen.old done → IsSeen seen.new (done ++ point ∷ []) }
+{
+    let at = point.number() as usize;
+    let before = seen[at];
+    seen[at] = true;
+    before
 }

@@ -8,22 +8,28 @@ ghost use Rattle.net_data.specs.Edits.{row_uses as row_used, either_uses as eith
 
 use point_codes::PointCode;
 use net_items::items::{LinkSet, Plan, Point};
-use net_items::lists::Row;
+use net_items::lists::{Row, Vias};
 use crate::row_tests::is_mate;
 
-fn is_in(vias: &[PointCode], z: PointCode) -> bool
+/// Whether a point is among these.
+pub fn is_in(vias: &[PointCode], z: PointCode) -> bool
     ensures { result ≡ list_any (λ via. via == z) vias.now }
 {
     vias.iter().any(|via| *via == z)
 }
 
+/// Whether a point is a via of one of these classes.
+pub fn is_in_any(classes: &[Vias], z: PointCode) -> bool
+    ensures { result ≡ list_any (λ vias. list_any (λ via. via == z) vias) classes.now }
+{
+    classes.iter().any(|vias| is_in(vias.as_slice(), z))
+}
+
+/// Whether a point is a via of the row.
 pub fn is_via(z: PointCode, row: &Row) -> bool
     ensures { result ≡ via z row.now }
 {
-    row.classes
-        .as_slice()
-        .iter()
-        .any(|vias| is_in(vias.as_slice(), z))
+    is_in_any(row.classes.as_slice(), z)
 }
 
 fn row_uses(y: PointCode, z: PointCode, dest: PointCode, row: &Row) -> bool

@@ -2,7 +2,7 @@ use Rattle.std.proofs.Common.{◌≡◌, take, length, true}
 use Rattle.net_items.specs.Lookups.{concat_vias}
 use Rattle.net_data.specs.Valid.{is_distinct}
 use Rattle.net_data.specs.Seen.{IsSeen}
-use Rattle.net_data.proofs.seen.are_vias_once.Given as goal
+use Rattle.net_data.proofs.seen.are_vias_new.Given as goal
 
 abbrev pub invariant-loop-vias : goal.invariant-loop-vias
 invariant-loop-vias l = record {

@@ -4,7 +4,7 @@ use Rattle.net_items.specs.Lookups.{concat_vias}
 use Rattle.net_data.specs.Valid.{is_distinct}
 use Rattle.net_data.specs.Seen.{IsSeen}
 use Rattle.net_data.proofs.SeenLemmas.{concat_push, concat_split, is_distinct-more, take_all}
-use Rattle.net_data.proofs.seen.are_vias_once.Goals as goal
+use Rattle.net_data.proofs.seen.are_vias_new.Goals as goal
 
 pub loop-vias-init : goal.loop-vias-init
 loop-vias-init c = record { long = refl; seen = λ z within. get_or-replicate 16384 z false false within; apart = refl }
