@@ -1,4 +1,5 @@
 pub mod Orders
+pub mod JointLemmas
 pub mod Frames
 pub mod Preserve
 pub mod Pairs

@@ -1,4 +1,5 @@
 pub mod Network
+pub mod Joints
 pub mod Valid
 pub mod Edits
 pub mod Seen

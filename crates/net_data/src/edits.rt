@@ -170,15 +170,15 @@ pub fn remove_point(points: &mut Vec<Point>, code: PointCode)
     }
 }
 
-pub fn remove_set(sets: &mut Vec<LinkSet>, id: u16)
+/// Takes out the set of that id.
+pub fn remove_set(sets: &mut Vec<LinkSet>, id: u16) -> LinkSet
     requires rising { IsRising (λ s. s.id) sets.old.items }
     requires there { is_some (set_at sets.old.items id) ≡ true }
-    ensures { sets.new.items ≡ without (λ s. s.id) id sets.old.items }
+    ensures set { set_at sets.old.items id ≡ Some result }
+    ensures rest { sets.new.items ≡ without (λ s. s.id) id sets.old.items }
 {
     match place_of_set(sets, id) {
-        Ok(at) => {
-            sets.remove(at);
-        }
+        Ok(at) => sets.remove(at),
         Err(_) => unreachable!(),
     }
 }

@@ -11,6 +11,7 @@ pub mod ranks;
 pub mod refusals;
 pub mod row_tests;
 pub mod seen;
+pub mod sets;
 #[cfg(test)]
 mod tests;
 pub mod uses;

@@ -8,18 +8,15 @@ ghost use Rattle.net_data.specs.Edits.{refusal_of as the_refusal, changed, takes
 
 use point_codes::PointCode;
 use crate::copies::plan_in_order;
-use net_items::copies::copy_sets;
-use crate::edits::{
-    add_link_to_set, change_link_of_set, new_links, put_point, put_set, remove_link_of_set,
-    remove_point, remove_set, set_mate,
-};
-use net_items::equals::{are_same_points, are_same_sets};
+use crate::edits::{new_links, put_point, remove_point, set_mate};
+use net_items::equals::are_same_points;
 use crate::events::{Event, Refusal};
 use net_items::items::{Kind, LinkSet, Plan, Point};
 use net_items::lists::Slcs;
 use net_items::lookups::{find_set_between, is_point, is_stp, mate_of};
 use link_state::LinkChange;
 use crate::plans::Plans;
+use crate::sets::Sets;
 use crate::refusals::{
     are_good_links, are_small_rows, bad_row, find_set, has_points, is_any_end, is_set,
     set_has_last_link, set_has_link,
@@ -33,7 +30,7 @@ pub struct Net {
     ni: u8,
     tfr: bool,
     points: Vec<Point>,
-    sets: Vec<LinkSet>,
+    sets: Sets,
     plans: Plans,
 }
 
@@ -43,9 +40,9 @@ impl Model for Net {
 
     ghost Value = { Network };
 
-    ghost view = { λ n. record { ni = n.ni; tfr = n.tfr; points = n.points.items; sets = n.sets.items; plans = n.plans } };
+    ghost view = { λ n. record { ni = n.ni; tfr = n.tfr; points = n.points.items; sets = n.sets; plans = n.plans } };
 
-    ghost invariant = { λ n. IsValid (record { ni = n.ni; tfr = n.tfr; points = n.points.items; sets = n.sets.items; plans = n.plans }) };
+    ghost invariant = { λ n. IsValid (record { ni = n.ni; tfr = n.tfr; points = n.points.items; sets = n.sets; plans = n.plans }) };
 }
 
 impl Net {
@@ -57,7 +54,7 @@ impl Net {
             ni,
             tfr: true,
             points: Vec::new(alloc),
-            sets: Vec::new(alloc),
+            sets: Sets::new(alloc),
             plans: Plans::new(alloc),
         }
     }
@@ -70,7 +67,7 @@ impl Net {
             ni: self.ni,
             tfr: self.tfr,
             points: Vec::from_slice(alloc, self.points.as_slice())?,
-            sets: copy_sets(alloc, self.sets.as_slice())?,
+            sets: self.sets.copy(alloc)?,
             plans: self.plans.copy(alloc)?,
         })
     }
@@ -82,7 +79,7 @@ impl Net {
         self.ni == other.ni
             && self.tfr == other.tfr
             && are_same_points(self.points.as_slice(), other.points.as_slice())
-            && are_same_sets(self.sets.as_slice(), other.sets.as_slice())
+            && self.sets.equals(&other.sets)
             && self.plans.equals(&other.plans)
     }
 
@@ -214,8 +211,10 @@ impl Net {
         if is_set(self.sets.as_slice(), id) {
             return Some(Refusal::SetThere);
         }
-        if let Some(set) = find_set_between(self.sets.as_slice(), a, b) {
-            return Some(Refusal::Joined(set.id));
+        if self.sets.is_joined(a, b) {
+            if let Some(set) = find_set_between(self.sets.as_slice(), a, b) {
+                return Some(Refusal::Joined(set.id));
+            }
         }
         if a == b {
             return Some(Refusal::SameEnds);
@@ -293,7 +292,7 @@ impl Net {
         if !is_point(points, plan.dest) || !has_points(points, rows) {
             return Some(Refusal::NoPoint);
         }
-        if let Some(refusal) = bad_row(points, self.sets.as_slice(), plan.dest, rows) {
+        if let Some(refusal) = bad_row(points, &self.sets, plan.dest, rows) {
             return Some(refusal);
         }
         if !are_small_rows(rows) {
@@ -338,7 +337,7 @@ impl Net {
         requires { the_refusal self.old (Event.Link id slc change) ≡ None }
         ensures { self.new ≡ changed self.old (Event.Link id slc change) }
     {
-        change_link_of_set(&mut self.sets, id, slc, change);
+        self.sets.change_link(id, slc, change);
     }
 
     fn add_point(&mut self, code: PointCode, kind: Kind) -> Result<(), AllocError>
@@ -395,7 +394,7 @@ impl Net {
         ensures err { OnErr result (self.new ≡ self.old) }
     {
         let links = new_links(alloc, slcs.as_slice())?;
-        put_set(&mut self.sets, LinkSet { id, a, b, links })?;
+        self.sets.put(LinkSet { id, a, b, links })?;
         Ok(())
     }
 
@@ -403,7 +402,7 @@ impl Net {
         requires { the_refusal self.old (Event.RemoveSet id) ≡ None }
         ensures { self.new ≡ changed self.old (Event.RemoveSet id) }
     {
-        remove_set(&mut self.sets, id);
+        self.sets.remove(id);
     }
 
     fn add_link(&mut self, id: u16, slc: u8) -> Result<(), AllocError>
@@ -411,7 +410,7 @@ impl Net {
         ensures ok { OnOk result (self.new ≡ changed self.old (Event.AddLink id slc)) }
         ensures err { OnErr result (self.new ≡ self.old) }
     {
-        add_link_to_set(&mut self.sets, id, slc)?;
+        self.sets.add_link(id, slc)?;
         Ok(())
     }
 
@@ -419,7 +418,7 @@ impl Net {
         requires { the_refusal self.old (Event.RemoveLink id slc) ≡ None }
         ensures { self.new ≡ changed self.old (Event.RemoveLink id slc) }
     {
-        remove_link_of_set(&mut self.sets, id, slc);
+        self.sets.remove_link(id, slc);
     }
 
     fn set_plan(&mut self, alloc: Global, plan: &Plan) -> Result<(), AllocError>

@@ -18,6 +18,7 @@ use crate::row_tests::{
 };
 use net_items::lookups::{is_point, place_of_set};
 use crate::ranks::note_ranks;
+use crate::sets::Sets;
 use crate::seen::{are_vias_once, see};
 
 /// Whether no number stands twice.
@@ -59,7 +60,7 @@ pub fn are_small_rows(rows: &[Row]) -> bool
 /// What is wrong with a row, whose earlier rows are given.
 pub fn cause_of(
     points: &[Point],
-    sets: &[LinkSet],
+    sets: &Sets,
     dest: PointCode,
     ranks: &[u16],
     rows: &[Row],
@@ -119,7 +120,7 @@ pub fn has_points(points: &[Point], rows: &[Row]) -> bool
 }
 
 /// The first wrong row, and what is wrong with it.
-pub fn bad_row(points: &[Point], sets: &[LinkSet], dest: PointCode, rows: &[Row]) -> Option<Refusal>
+pub fn bad_row(points: &[Point], sets: &Sets, dest: PointCode, rows: &[Row]) -> Option<Refusal>
     requires { IsRising (λ p. p.code) points.now }
     ensures { result ≡ the_bad_row points.now sets.now dest rows.now [] rows.now }
 {

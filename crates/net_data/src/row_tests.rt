@@ -9,10 +9,11 @@ ghost use Rattle.net_items.specs.Lookups.{point_at, has_point, is_stp as stp, ma
 ghost use Rattle.net_data.specs.Valid.{all_vias, any_via, is_mate as mate_is, is_lower as lower, is_free as free, is_small_class as small_class, has_mate_row as mate_row, is_small_row as small_row};
 
 use point_codes::PointCode;
-use net_items::items::{LinkSet, Point};
+use crate::sets::Sets;
+use net_items::items::Point;
 use net_items::lists::{Row, Vias};
 use crate::ranks::{has_lower, has_same};
-use net_items::lookups::{is_joined, is_stp, mate_of};
+use net_items::lookups::{is_stp, mate_of};
 
 pub fn is_mate(points: &[Point], y: PointCode, z: PointCode) -> bool
     requires { IsRising (λ p. p.code) points.now }
@@ -24,13 +25,13 @@ pub fn is_mate(points: &[Point], y: PointCode, z: PointCode) -> bool
     }
 }
 
-fn are_joined(sets: &[LinkSet], y: PointCode, vias: &[PointCode]) -> bool
+fn are_joined(sets: &Sets, y: PointCode, vias: &[PointCode]) -> bool
     ensures { result ≡ list_all (joined sets.now y) vias.now }
 {
-    vias.iter().all(|z| is_joined(sets, y, *z))
+    vias.iter().all(|z| sets.is_joined(y, *z))
 }
 
-pub fn are_vias_joined(sets: &[LinkSet], row: &Row) -> bool
+pub fn are_vias_joined(sets: &Sets, row: &Row) -> bool
     ensures { result ≡ all_vias (joined sets.now row.now.point) row.now }
 {
     row.classes
@@ -123,7 +124,7 @@ pub fn are_vias_no_mates(points: &[Point], dest: PointCode, row: &Row) -> bool
 
 pub fn has_mate_row(
     points: &[Point],
-    sets: &[LinkSet],
+    sets: &Sets,
     dest: PointCode,
     ranks: &[u16],
     rows: &[Row],
@@ -140,7 +141,7 @@ pub fn has_mate_row(
     match mate_of(points, row.point) {
         None => false,
         Some(mate) => {
-            if !is_joined(sets, row.point, mate) || mate == dest {
+            if !sets.is_joined(row.point, mate) || mate == dest {
                 return false;
             }
             has_same(ranks, rows, mate, row.rank)
