@@ -24,7 +24,7 @@ use Rattle.net_data.specs.Valid.{all_vias, any_via, is_via, is_distinct, is_nil,
 use Rattle.net_data.specs.Edits.{when, first, row_uses, either_uses, uses_pair, is_row_of, uses_point, is_end, is_flagged, has_flag, row_leads, either_leads, uses_set, has_link, has_last_link, set_passes, refusal_of, changed, new_link, with_mate, set_mate, with_link, without_link, edit_set}
 use Rattle.net_data.proofs.Frames.{IsRightRow-kept, IsRightPlan-kept, IsRightPlan-then, IsRightSet-then, All-unless, neither, flag-kept, flag-off}
 use Rattle.net_data.proofs.Preserve.{when_none, or_none, not_some}
-use Rattle.net_items.proofs.KeyedLemmas.{at_key-edit, All-then, IsRising-edit, length-edit}
+use Rattle.net_items.proofs.KeyedLemmas.{All-edit, at_key-edit, All-then, IsRising-edit, length-edit}
 
 -- the points after a mate is changed
 pub point_at-set_mate : (c : ℕ) (m : Option ℕ) (points : List Point) (z : ℕ) → point_at (set_mate c m points) z ≡ cond (eqb c z) (option_map (with_mate m) (point_at points z)) (point_at points z)
@@ -62,10 +62,14 @@ mate_of-set_mate c m points z there =
 pub IsRising-set_mate : (c : ℕ) (m : Option ℕ) (points : List Point) → IsRising (λ (p : Point). p.code) points → IsRising (λ (p : Point). p.code) (set_mate c m points)
 IsRising-set_mate c m points up = IsRising-edit (λ (p : Point). p.code) c (with_mate m) (λ p. refl) points up
 
+codes-set_mate : (c : ℕ) (m : Option ℕ) (points : List Point) → AllByRecursion (λ (p : Point). p.code < 16384) points → AllByRecursion (λ (p : Point). p.code < 16384) (set_mate c m points)
+codes-set_mate c m points small = All-edit (λ (p : Point). p.code) (λ (p : Point). p.code < 16384) c (with_mate m) (λ p h. h) points small
+
 -- other mates of the same points
 module _ (net : Network) (v : IsValid net) (points' : List Point)
     (there : (c : ℕ) → has_point points' c ≡ has_point net.points c)
     (rise : IsRising (λ (p : Point). p.code) points')
+    (codes : AllByRecursion (λ (p : Point). p.code < 16384) points')
     (same_length : length points' ≡ length net.points)
     (mates' : (p m : ℕ) → mate_of points' p ≡ Some m → AreMates points' p m)
     (t : Plan → Bool) (unused : list_any t net.plans ≡ false)
@@ -75,6 +79,7 @@ module _ (net : Network) (v : IsValid net) (points' : List Point)
     ni_small = v.ni_small;
     few_points = let few = v.few_points in omega arith;
     points_rise = rise;
+    codes_small = codes;
     mates = mates';
     sets_rise = v.sets_rise;
     sets_right = All-then (λ (s : LinkSet). s.id) (IsRightSet net.points) (IsRightSet points') (λ s h. IsRightSet-then net.points points' s (λ c k. there c ∙ k) h) net.sets v.sets_right;
@@ -176,6 +181,7 @@ module _ (net : Network) (v : IsValid net) where
       (there r.point ∙ right.is_there) right in
       valid-mates net v points' there
       (IsRising-set_mate p (Some q) points1 (IsRising-set_mate q (Some p) net.points v.points_rise))
+      (codes-set_mate p (Some q) points1 (codes-set_mate q (Some p) net.points v.codes_small))
       (length-edit (λ (x : Point). x.code) p (with_mate (Some q)) points1 ∙ length-edit (λ (x : Point). x.code) q (with_mate (Some p)) net.points)
       mates' (uses_pair p q) t4.0
       (λ plan unused right. IsRightPlan-kept net.points points' net.sets net.sets plan (either_uses p q plan.dest) (there plan.dest ∙ right.is_there) unused (λ r u h. row plan.dest plan.rows r u h) right)
@@ -220,6 +226,7 @@ module _ (net : Network) (v : IsValid net) where
       (there r.point ∙ right.is_there) right in
       valid-mates net v points' there
       (IsRising-set_mate p None points1 (IsRising-set_mate m None net.points v.points_rise))
+      (codes-set_mate p None points1 (codes-set_mate m None net.points v.codes_small))
       (length-edit (λ (x : Point). x.code) p (with_mate None) points1 ∙ length-edit (λ (x : Point). x.code) m (with_mate None) net.points)
       mates' (λ plan. has_flag p plan || has_flag m plan) (neither (has_flag p) (has_flag m) net.plans p_off m_off)
       (λ plan unused right.

@@ -21,9 +21,10 @@ use Rattle.link_state.specs.Marks.{marks_after}
 use Rattle.net_data.specs.Network.{Network}
 use Rattle.net_items.specs.Lookups.{point_at, has_point, is_stp, kind_is_stp, mate_of, joins, set_at, set_between, joined, row_at, vias_of}
 use Rattle.net_data.specs.Valid.{all_vias, any_via, is_distinct, is_nil, is_lower, is_mate, is_free, has_mate_row, is_small_row, IsRightRow, IsRightPlan, IsRightSet, IsOnePerPair, AreMates, IsValid}
-use Rattle.net_data.specs.Edits.{when, first, cause_of, bad_row, row_uses, uses_pair, refusal_of, changed, new_link, new_links, in_order, with_mate, with_change}
+use Rattle.net_data.specs.Edits.{when, first, cause_of, bad_row, row_uses, uses_pair, refusal_of, changed, new_link, new_links, in_order, put_rows, with_mate, with_change}
 use Rattle.net_items.proofs.KeyedLemmas.{at_key-put, at_key-edit, All-put, All-then, All-edit, IsRising-put, IsRising-edit, length-put, length-put_pos, length-edit, is_some-put, put_new, some_find-put, none_find-put, some_find-edit}
-use Rattle.net_data.proofs.Orders.{links_few, are_apart, refl_apart, apart_push, any_in_order}
+use Rattle.std.proofs.lemmas.List.Folds.{list_any-append}
+use Rattle.net_data.proofs.Orders.{links_few, any_put, IsRising-put_rows, All-put_rows}
 use Rattle.net_data.proofs.Frames.{list_all-then, IsRightRow-then, IsRightPlan-then, IsRightSet-then}
 
 -- a test that refuses nothing failed
@@ -48,8 +49,8 @@ stp_none points p e h = let no : is_stp points p ≡ false = ap (λ o. option_ma
 
 module _ (net : Network) (v : IsValid net) where
   -- a new point
-  pub valid-AddPoint : (c : ℕ) (kind : Kind) → refusal_of net (on.AddPoint c kind) ≡ None → IsValid (changed net (on.AddPoint c kind))
-  valid-AddPoint c kind none =
+  pub valid-AddPoint : (c : ℕ) (kind : Kind) → c < 16384 → refusal_of net (on.AddPoint c kind) ≡ None → IsValid (changed net (on.AddPoint c kind))
+  valid-AddPoint c kind small none =
       let tests = when_none (has_point net.points c) _ _ none in
       let room = when_none (leb 1024 (length net.points)) _ _ tests.1 in
       let few : length net.points < 1024 = leb-false _ _ room.0 in
@@ -64,6 +65,7 @@ module _ (net : Network) (v : IsValid net) where
         ni_small = v.ni_small;
         few_points = let l = length-put (λ (p : Point). p.code) new net.points in omega arith;
         points_rise = IsRising-put (λ p. p.code) new net.points v.points_rise;
+        codes_small = All-put (λ (p : Point). p.code) (λ (p : Point). p.code < 16384) new net.points small v.codes_small;
         mates = λ p m e. let old = v.mates p m (sym (mates p) ∙ e) in record { differ = old.differ; stp = stps p old.stp; back = mates m ∙ old.back };
         sets_rise = v.sets_rise;
         sets_right = All-then (λ (s : LinkSet). s.id) (IsRightSet net.points) (IsRightSet points') (λ s h. IsRightSet-then net.points points' s there h) net.sets v.sets_right;
@@ -79,6 +81,7 @@ module _ (net : Network) (v : IsValid net) where
     ni_small = v.ni_small;
     few_points = v.few_points;
     points_rise = v.points_rise;
+    codes_small = v.codes_small;
     mates = v.mates;
     sets_rise = v.sets_rise;
     sets_right = v.sets_right;
@@ -120,6 +123,7 @@ module _ (net : Network) (v : IsValid net) where
         ni_small = v.ni_small;
         few_points = v.few_points;
         points_rise = v.points_rise;
+        codes_small = v.codes_small;
         mates = v.mates;
         sets_rise = IsRising-edit (λ (s : LinkSet). s.id) id (with_change slc change) (λ s. refl) net.sets v.sets_rise;
         sets_right = All-edit (λ (s : LinkSet). s.id) (IsRightSet net.points) id (with_change slc change) (IsRightSet-with_change net.points slc change) net.sets v.sets_right;
@@ -178,6 +182,7 @@ module _ (net : Network) (v : IsValid net) where
         ni_small = v.ni_small;
         few_points = v.few_points;
         points_rise = v.points_rise;
+        codes_small = v.codes_small;
         mates = v.mates;
         sets_rise = IsRising-put (λ (s : LinkSet). s.id) new net.sets v.sets_rise;
         sets_right = All-put (λ (s : LinkSet). s.id) (IsRightSet net.points) new net.sets
@@ -197,23 +202,23 @@ module _ (net : Network) (v : IsValid net) where
             (λ p h. IsRightPlan-then net.points net.points net.sets sets' p (λ c h. h) (λ c h. h) (λ y z h. some_find-put (λ (s : LinkSet). s.id) (joins y z) new net.sets absent h) (λ c. refl) h) net.plans v.plans_right;
       }
 
--- rows with no cause have each a point of its own
-rows_apart_from : (points : List Point) (sets : List LinkSet) (dest : ℕ) (rows earlier rs : List Row) → bad_row points sets dest rows earlier rs ≡ None → are_apart earlier ≡ true → are_apart (earlier ++ rs) ≡ true
-rows_apart_from points sets dest rows earlier [] none apart = subst (λ xs. are_apart xs ≡ true) (sym (append-nil earlier)) apart
-rows_apart_from points sets dest rows earlier (r ∷ rs) none apart =
+-- what one of the rows passes, one of them passes after they were put among others: none has the point of an earlier one
+any_put_rows : (points : List Point) (sets : List LinkSet) (dest : ℕ) (rows : List Row) (t : Row → Bool) (earlier rs others : List Row) → bad_row points sets dest rows earlier rs ≡ None
+    → ((z : ℕ) → list_any (λ (x : Row). eqb x.point z) others ≡ list_any (λ (x : Row). eqb x.point z) earlier)
+    → (list_any t rs || list_any t others) ≡ true → list_any t (put_rows rs others) ≡ true
+any_put_rows points sets dest rows t earlier [] others none same h = h
+any_put_rows points sets dest rows t earlier (r ∷ rs) others none same h =
     let both = or_none (option_map (λ cause. BadRow r.point cause) (cause_of points sets dest rows earlier r)) _ none in
     let t1 = when_none (eqb r.point dest) _ _ (map_none _ (cause_of points sets dest rows earlier r) both.0) in
     let t2 = when_none (list_any (λ (other : Row). eqb other.point r.point) earlier) _ _ t1.1 in
-    subst (λ xs. are_apart xs ≡ true) (append_assoc earlier (r ∷ []) rs)
-    (rows_apart_from points sets dest rows (earlier ++ r ∷ []) rs both.1 (apart_push earlier r apart t2.0))
-
-pub IsRising-in_order : (rows : List Row) → IsRising (λ (r : Row). r.point) (in_order rows)
-IsRising-in_order [] = tt
-IsRising-in_order (r ∷ rs) = IsRising-put (λ (r : Row). r.point) r (in_order rs) (IsRising-in_order rs)
-
-All-in_order : (P : Row → Type 0) (rows : List Row) → AllByRecursion P rows → AllByRecursion P (in_order rows)
-All-in_order P [] all = tt
-All-in_order P (r ∷ rs) all = All-put (λ (r : Row). r.point) P r (in_order rs) all.0 (All-in_order P rs all.1)
+    let absent : list_any (λ (x : Row). eqb x.point r.point) others ≡ false = same r.point ∙ t2.0 in
+    let now : (u : Row → Bool) → list_any u (put (λ (r : Row). r.point) r others) ≡ (u r || list_any u others) = λ u. any_put u r others absent in
+    any_put_rows points sets dest rows t (earlier ++ r ∷ []) rs (put (λ (r : Row). r.point) r others) both.1
+    (λ z. now (λ (x : Row). eqb x.point z) ∙ rw (same z, list_any-append (λ (x : Row). eqb x.point z) earlier (r ∷ [])) (grind arith))
+    (rw (now t) (any_moved (t r) (list_any t rs) (list_any t others) h))
+  where
+    any_moved : (a b c : Bool) → ((a || b) || c) ≡ true → (b || (a || c)) ≡ true
+    any_moved a b c e = grind arith
 
 -- rows with no cause are right
 rows_right_from : (points : List Point) (sets : List LinkSet) (dest : ℕ) (rows earlier rs : List Row) → bad_row points sets dest rows earlier rs ≡ None → list_all (λ (r : Row). has_point points r.point) rs ≡ true → list_all is_small_row rs ≡ true → AllByRecursion (IsRightRow points sets dest rows) rs
@@ -254,11 +259,11 @@ module _ (net : Network) (v : IsValid net) where
       let there = and_parts (has_point net.points p.dest) _ (not-false _ t1.0) in
       let right : AllByRecursion (IsRightRow net.points net.sets p.dest p.rows) p.rows = rows_right_from net.points net.sets p.dest p.rows [] p.rows t2.0 there.1 (not-false _ t3.0) in
       let new : Plan = record p { rows = in_order p.rows } in
-      let apart : are_apart p.rows ≡ true = rows_apart_from net.points net.sets p.dest p.rows [] p.rows t2.0 refl_apart in
       record {
         ni_small = v.ni_small;
         few_points = v.few_points;
         points_rise = v.points_rise;
+        codes_small = v.codes_small;
         mates = v.mates;
         sets_rise = v.sets_rise;
         sets_right = v.sets_right;
@@ -267,9 +272,9 @@ module _ (net : Network) (v : IsValid net) where
         plans_right = All-put (λ (p : Plan). p.dest) (IsRightPlan net.points net.sets) new net.plans
             (record {
               is_there = there.0;
-              rows_rise = IsRising-in_order p.rows;
+              rows_rise = IsRising-put_rows p.rows [] tt;
               rows_right = All-then (λ (r : Row). r.point) (IsRightRow net.points net.sets p.dest p.rows) (IsRightRow net.points net.sets p.dest (in_order p.rows))
-                  (λ r h. IsRightRow-then net.points net.points net.sets net.sets p.dest p.rows (in_order p.rows) r (λ c h. h) (λ z h. h) refl (λ t h. any_in_order t p.rows apart h) (λ c h. h) h)
-                  (in_order p.rows) (All-in_order _ p.rows right);
+                  (λ r h. IsRightRow-then net.points net.points net.sets net.sets p.dest p.rows (in_order p.rows) r (λ c h. h) (λ z h. h) refl (λ t h. any_put_rows net.points net.sets p.dest p.rows t [] p.rows [] t2.0 (λ z. refl) (or_left (list_any t p.rows) false h)) (λ c h. h) h)
+                  (in_order p.rows) (All-put_rows (IsRightRow net.points net.sets p.dest p.rows) p.rows [] right tt);
             }) v.plans_right;
       }

@@ -88,6 +88,7 @@ module _ (net : Network) (v : IsValid net) where
     ni_small = v.ni_small;
     few_points = v.few_points;
     points_rise = v.points_rise;
+    codes_small = v.codes_small;
     mates = v.mates;
     sets_rise = v.sets_rise;
     sets_right = v.sets_right;
@@ -106,6 +107,7 @@ module _ (net : Network) (v : IsValid net) where
         ni_small = v.ni_small;
         few_points = v.few_points;
         points_rise = v.points_rise;
+        codes_small = v.codes_small;
         mates = v.mates;
         sets_rise = IsRising-edit (λ (s : LinkSet). s.id) id f keeps net.sets v.sets_rise;
         sets_right = All-edit_at (λ (s : LinkSet). s.id) (IsRightSet net.points) id f net.sets right v.sets_right;
@@ -189,6 +191,7 @@ module _ (net : Network) (v : IsValid net) where
         ni_small = v.ni_small;
         few_points = let l = length-without (λ (p : Point). p.code) c net.points in let few = v.few_points in omega arith;
         points_rise = IsRising-without (λ (p : Point). p.code) c net.points v.points_rise;
+        codes_small = All-without (λ (p : Point). p.code) (λ (p : Point). p.code < 16384) c net.points v.codes_small;
         mates = mates';
         sets_rise = v.sets_rise;
         sets_right = All-unless (IsRightSet net.points) (IsRightSet points') (is_end c)
@@ -227,6 +230,7 @@ module _ (net : Network) (v : IsValid net) where
         ni_small = v.ni_small;
         few_points = v.few_points;
         points_rise = v.points_rise;
+        codes_small = v.codes_small;
         mates = v.mates;
         sets_rise = IsRising-without (λ (s : LinkSet). s.id) id net.sets v.sets_rise;
         sets_right = All-without (λ (s : LinkSet). s.id) (IsRightSet net.points) id net.sets v.sets_right;

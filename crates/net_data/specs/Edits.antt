@@ -168,10 +168,14 @@ abbrev pub new_links : List ℕ → List Link
 new_links [] = []
 new_links (slc ∷ slcs) = put (λ (l : Link). l.slc) (new_link slc) (new_links slcs)
 
+-- those rows put among others, one after the other
+abbrev pub put_rows : List Row → List Row → List Row
+put_rows [] others = others
+put_rows (r ∷ rs) others = put_rows rs (put (λ (r : Row). r.point) r others)
+
 -- the rows in rising code
 abbrev pub in_order : List Row → List Row
-in_order [] = []
-in_order (r ∷ rs) = put (λ (r : Row). r.point) r (in_order rs)
+in_order rows = put_rows rows []
 
 abbrev pub with_mate : Option ℕ → Point → Point
 with_mate m p = record p { mate = m }

@@ -61,7 +61,7 @@ is_small_class vias = not (is_nil vias) && nat_le (length vias) 2
 
 -- the limits of a row
 abbrev pub is_small_row : Row → Bool
-is_small_row r = not (r.rank == 0) && (nat_le (length r.classes) 4 && list_all is_small_class r.classes)
+is_small_row r = (not (r.rank == 0) && nat_le r.rank 255) && (nat_le (length r.classes) 4 && list_all is_small_class r.classes)
 
 -- a row of the plan of dest with those rows
 pub record IsRightRow (points : List Point) (sets : List LinkSet) (dest : ℕ) (rows : List Row) (r : Row) : Type 0 where
@@ -105,6 +105,7 @@ pub record IsValid (net : Network) : Type 0 where
   pub ni_small : net.ni < 4
   pub few_points : length net.points ≤ 1024
   pub points_rise : IsRising (λ (p : Point). p.code) net.points
+  pub codes_small : AllByRecursion (λ (p : Point). p.code < 16384) net.points
   pub mates : (p m : ℕ) → mate_of net.points p ≡ Some m → AreMates net.points p m
   pub sets_rise : IsRising (λ (s : LinkSet). s.id) net.sets
   pub sets_right : AllByRecursion (IsRightSet net.points) net.sets

@@ -345,6 +345,8 @@ impl Net {
         ensures ok { OnOk result (self.new ≡ changed self.old (Event.AddPoint code kind)) }
         ensures err { OnErr result (self.new ≡ self.old) }
     {
+        // The proof reads the code's range from this.
+        let _number = code.number();
         put_point(
             &mut self.points,
             Point {

@@ -167,5 +167,6 @@ fn are_small_classes(classes: &[Vias]) -> bool
 pub fn is_small_row(row: &Row) -> bool
     ensures { result ≡ small_row row.now }
 {
-    row.rank != 0 && row.classes.as_slice().len() <= 4 && are_small_classes(row.classes.as_slice())
+    let rank = row.rank;
+    rank != 0 && rank <= 255 && row.classes.as_slice().len() <= 4 && are_small_classes(row.classes.as_slice())
 }
