@@ -1,9 +1,11 @@
 //! The network.
 
 ghost use Rattle.std.specs.Prelude.{◌≡◌, ◌≢◌, ◌↔◌, IsTrue, ◌<◌, [], true, OnOk, OnErr, IfOk, IsOk, None};
-ghost use Rattle.std.specs.Option.{option_copied};
+ghost use Rattle.std.specs.Arc.{arc_value};
+ghost use Rattle.std.specs.Option.{option_copied, option_map};
 ghost use Rattle.net_data.specs.Network.{Network};
 ghost use Rattle.net_items.specs.Lookups.{plan_at, mate_of as the_mate};
+ghost use Rattle.net_data.specs.Valid.{IsValid};
 ghost use Rattle.net_data.specs.Edits.{refusal_of as the_refusal, changed, takes_none, Answers};
 
 use point_codes::PointCode;
@@ -23,6 +25,7 @@ use crate::refusals::{
 };
 use std::alloc::{AllocError, Global};
 use std::marker::Model;
+use std::sync::Arc;
 
 /// A valid network.
 #[derive(Drop)]
@@ -83,6 +86,14 @@ impl Net {
             && self.plans.equals(&other.plans)
     }
 
+    /// The fact that the type keeps: the network is valid. It does nothing when it runs.
+    pub fn validity(&self)
+        ensures { IsValid self.now }
+    {
+        // The proof reads the type's invariant from this.
+        let _ni = self.ni;
+    }
+
     /// The network indicator.
     pub fn ni(&self) -> u8
         ensures { result ≡ self.now.ni }
@@ -121,6 +132,13 @@ impl Net {
         ensures { option_copied result ≡ plan_at self.now.plans dest }
     {
         self.plans.find(dest)
+    }
+
+    /// The plan of a destination, shared with the network. It fails only where no further share can be counted.
+    pub fn share_plan(&self, dest: PointCode) -> Result<Option<Arc<Plan>>, AllocError>
+        ensures { IfOk result (λ plan. option_map arc_value plan ≡ plan_at self.now.plans dest) }
+    {
+        self.plans.share(dest)
     }
 
     /// The plans in rising destination.

@@ -3,7 +3,7 @@
 ghost use Rattle.std.specs.Prelude.{◌≡◌, ◌↔◌, IsTrue, ◌<◌, [], OnOk, OnErr, IfOk, IfErr, map, is_some, true, length, slice_index_or};
 ghost use Rattle.std.specs.Arc.{arc_value};
 ghost use Rattle.std.specs.List.{list_any};
-ghost use Rattle.std.specs.Option.{option_copied};
+ghost use Rattle.std.specs.Option.{option_copied, option_map};
 ghost use Rattle.net_items.specs.Keyed.{IsRising, IsFoundAt, IsGapAt, put, without};
 ghost use Rattle.net_items.specs.Lookups.{plan_at};
 ghost use Rattle.net_data.specs.Edits.{uses_pair as pair_used, uses_point as point_used, uses_set as set_used, has_flag as flagged};
@@ -135,6 +135,18 @@ impl Plans {
         }
     }
 
+    /// The plan of a destination, shared. It fails only where no further share can be counted.
+    pub fn share(&self, dest: PointCode) -> Result<Option<Arc<Plan>>, AllocError>
+        requires { IsRising (λ p. p.dest) self.now }
+        ensures { IfOk result (λ plan. option_map arc_value plan ≡ plan_at self.now dest) }
+    {
+        match place_of_plan(self.list.as_slice(), dest) {
+            Ok(at) => Ok(Some(Arc::try_clone(&self.list[at])?)),
+            Err(_) => Ok(None),
+        }
+    }
+
+    /// Whether there is a plan of a destination.
     pub fn has(&self, dest: PointCode) -> bool
         requires { IsRising (λ p. p.dest) self.now }
         ensures { result ≡ is_some (plan_at self.now dest) }

@@ -127,7 +127,8 @@ fn are_same_links(a: &[Link], b: &[Link]) -> bool
     ys.is_empty()
 }
 
-fn is_same_set(a: &LinkSet, b: &LinkSet) -> bool
+/// Whether two sets are equal.
+pub fn is_same_set(a: &LinkSet, b: &LinkSet) -> bool
     ensures { IsTrue result ↔ (a.now ≡ b.now) }
 {
     a.id == b.id
@@ -157,7 +158,8 @@ pub fn are_same_sets(a: &[LinkSet], b: &[LinkSet]) -> bool
     ys.is_empty()
 }
 
-fn is_same_point(a: &Point, b: &Point) -> bool
+/// Whether two points are equal.
+pub fn is_same_point(a: &Point, b: &Point) -> bool
     ensures { IsTrue result ↔ (a.now ≡ b.now) }
 {
     a.code == b.code && a.kind == b.kind && a.mate == b.mate

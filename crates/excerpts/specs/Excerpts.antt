@@ -1,0 +1,70 @@
+-- What the table of one destination reads of a network (own).
+use Rattle.std.specs.Prelude.{◌≡◌, ℕ, Bool, false, List, Option, Some, None, Result, Err, MatchResult, All, map, filter, if◌then◌else◌}
+use Rattle.std.specs.Option.{option_map, option_map_or}
+use Rattle.net_items.specs.declared.items.Kind.{Kind}
+use Rattle.net_items.specs.declared.items.Kind.TheVariants.{Sep}
+use Rattle.net_items.specs.declared.items.Point.{Point}
+use Rattle.net_items.specs.declared.items.LinkSet.{LinkSet}
+use Rattle.net_items.specs.declared.items.Plan.{Plan}
+use Rattle.net_items.specs.declared.lists.Row.{Row}
+use Rattle.net_items.specs.Keyed.{IsRising}
+use Rattle.net_items.specs.Lookups.{point_at, mate_of, plan_at, row_at}
+use Rattle.net_data.specs.Network.{Network}
+use Rattle.profile.specs.Status.{Source, source_in}
+use Rattle.profile.specs.Reads.{reads}
+use Rattle.profile.specs.Walk.{is_via}
+use Rattle.profile.specs.Valid.{IsValid, HasFewLinks}
+use Rattle.excerpts.specs.declared.faults.ExcerptFault.{ExcerptFault}
+use Rattle.excerpts.specs.declared.faults.ExcerptFault.TheVariants.{NoPlan, OutOfMemory}
+
+-- an excerpt: a plan, the points of its rows, the sets that its table reads, and the transfer-restricted option
+pub record Extract : Type 0 where
+  pub plan : Plan
+  pub points : List Point
+  pub sets : List LinkSet
+  pub tfr : Bool
+
+-- the kind of a point
+abbrev pub kind_of : List Point → ℕ → Kind
+kind_of points c = option_map_or (λ (p : Point). p.kind) (point_at points c) Sep
+
+-- what an excerpt holds of a row's point: its kind, and its mate where the row has the flag
+abbrev pub row_point : List Point → Row → Point
+row_point points row = record { code = row.point; kind = kind_of points row.point; mate = if row.mate then mate_of points row.point else None }
+
+-- a network as the source of a plan
+abbrev pub network_source : Network → Plan → Source
+network_source net plan = source_in net.points net.sets plan net.tfr
+
+-- an excerpt as the source of its plan
+abbrev pub source_of : Extract → Source
+source_of x = source_in x.points x.sets x.plan x.tfr
+
+-- the excerpt of a plan
+abbrev pub excerpt_of : Network → Plan → Extract
+excerpt_of net plan = record {
+  plan = plan;
+  points = map (row_point net.points) plan.rows;
+  sets = filter (reads (network_source net plan)) net.sets;
+  tfr = net.tfr;
+}
+
+-- the excerpt of a destination, where it has a plan
+abbrev pub excerpt_at : Network → ℕ → Option Extract
+excerpt_at net dest = option_map (excerpt_of net) (plan_at net.plans dest)
+
+-- the answer to a request for an excerpt: none without a plan; want of memory comes last
+abbrev pub IsAnswer : Option Extract → Result Extract ExcerptFault → Type 0
+IsAnswer None result = result ≡ Err NoPlan
+IsAnswer (Some x) result = MatchResult result (λ e. e ≡ x) (λ fault. fault ≡ OutOfMemory)
+
+-- a point has a row that leads to another
+abbrev pub leads : List Row → ℕ → ℕ → Bool
+leads rows y z = option_map_or (λ (row : Row). is_via row z) (row_at rows y) false
+
+-- what every excerpt keeps: it is the source of a valid plan, and its lists are in order
+pub record IsRight (x : Extract) : Type 0 where
+  pub valid : IsValid (source_of x)
+  pub few : All HasFewLinks x.sets
+  pub points_rise : IsRising (λ (p : Point). p.code) x.points
+  pub rows_rise : IsRising (λ (r : Row). r.point) x.plan.rows

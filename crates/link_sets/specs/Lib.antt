@@ -1,0 +1,2 @@
+pub mod Availability
+pub mod Neighbours

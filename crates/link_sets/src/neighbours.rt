@@ -1,0 +1,102 @@
+//! The neighbours of a point one by one.
+
+ghost use Rattle.std.specs.Prelude.{◌≡◌};
+ghost use Rattle.std.specs.Option.{IfSome};
+ghost use Rattle.std.specs.Iterator.{YieldsFirst, item_count};
+ghost use Rattle.link_sets.specs.Availability.{are_joined as joined_of};
+ghost use Rattle.link_sets.specs.Neighbours.{neighbours as neighbours_of, left_of, next_from, other_end_of, IsCodeFrom, IsNeighbour, IsEarlier};
+
+use crate::availability::are_joined;
+use net_items::LinkSet;
+use point_codes::PointCode;
+
+/// The point that a set joins to another.
+fn other_end(set: &LinkSet, y: PointCode) -> Option<PointCode>
+    ensures { result ≡ other_end_of y set.now }
+{
+    if set.a == y {
+        Some(set.b)
+    } else if set.b == y {
+        Some(set.a)
+    } else {
+        None
+    }
+}
+
+/// The lesser of a neighbour and the one over this set.
+fn earlier(
+    sets: &[LinkSet],
+    y: PointCode,
+    from: u16,
+    set: &LinkSet,
+    least: Option<PointCode>,
+) -> Option<PointCode>
+    requires { IfSome least (IsNeighbour sets.now y from) }
+    ensures { IsEarlier sets.now y from set.now least result }
+{
+    let Some(z) = other_end(set, y) else {
+        return least;
+    };
+    if z.number() < from {
+        return least;
+    }
+    if let Some(v) = least
+        && v <= z
+    {
+        return least;
+    }
+    if are_joined(sets, y, z) {
+        Some(z)
+    } else {
+        least
+    }
+}
+
+/// The first point of code `from` or above that an available set joins to `y`.
+pub fn next_neighbour(sets: &[LinkSet], y: PointCode, from: u16) -> Option<PointCode>
+    ensures value { result ≡ next_from (joined_of sets.now y) from }
+    ensures within { IfSome result (IsCodeFrom from) }
+{
+    let mut least = None;
+    for i in 0..sets.len() {
+        least = earlier(sets, y, from, &sets[i], least);
+    }
+    least
+}
+
+/// The points that available sets join to a point, in rising code.
+///
+/// It takes no memory: each step looks at the sets again.
+#[derive(Drop)]
+pub struct Neighbours<'a> {
+    sets: &'a [LinkSet],
+    point: PointCode,
+    from: u16,
+}
+
+impl<'a> Neighbours<'a> {
+    /// All neighbours of a point.
+    pub fn new(sets: &'a [LinkSet], point: PointCode) -> Neighbours<'a>
+        ensures { left_of result ≡ neighbours_of sets.now point }
+    {
+        Neighbours {
+            sets,
+            point,
+            from: 0,
+        }
+    }
+}
+
+impl<'a> Iterator for Neighbours<'a> {
+    type Item = PointCode;
+
+    ghost next_gives = { YieldsFirst left_of };
+
+    ghost remaining = { item_count left_of };
+
+    fn next(&mut self) -> Option<PointCode> {
+        let z = next_neighbour(self.sets, self.point, self.from)?;
+        self.from = z.number() + 1;
+        Some(z)
+    }
+}

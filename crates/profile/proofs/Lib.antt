@@ -1,0 +1,12 @@
+pub mod Placing
+pub mod Unfold
+pub mod Choosing
+pub mod Settled
+pub mod Walking
+pub mod Reading
+pub mod Certificate
+pub mod Tracing
+pub mod Receiving
+pub mod Excerpting
+pub mod Available
+pub mod Hopping

@@ -1,0 +1,81 @@
+//! The link that carries a share number, and the via that carries an SLS.
+
+ghost use Rattle.std.specs.Prelude.{◌≡◌, ◌<◌, ◌≤◌, ◌||◌, ◌==◌, IsTrue, length, false, slice_index_or};
+ghost use Rattle.sls_share.specs.Share.{probe as probe_of, link_for as link_of, IsSteady, via_of, share_of, HasMember, ProbesCover, SetsServe};
+
+use net_items::LinkSet;
+
+/// The position that is tried at turn `j` for share number `t` among `n` links (own).
+///
+/// A share number is 0 to 15, a set has 1 to 16 links, and there are as many turns as links.
+pub fn probe(t: u8, n: usize, j: usize) -> usize
+    requires share { t < 16 }
+    requires few { n ≤ 16 }
+    requires turn { j < n }
+    ensures value { result ≡ probe_of t n j }
+    ensures within { result < n }
+{
+    let share = usize::from(t);
+    if j == 0 {
+        share % n
+    } else {
+        (share % n + 1 + (share / n + (j - 1)) % (n - 1)) % n
+    }
+}
+
+/// The signalling link code of the link that carries share number `t` (0 to 15), where one is available (own, after
+/// Q.704 clause 2.3).
+///
+/// When another link becomes unavailable, the answer stays.
+pub fn link_for(set: &LinkSet, t: u8) -> Option<u8>
+    requires share { t < 16 }
+    requires few { length set.now.links ≤ 16 }
+    ensures answer { result ≡ link_of set.now.links t }
+    ensures steady { IsSteady set.now.links t result }
+{
+    let links = set.links.as_slice();
+    let n = links.len();
+    for j in 0..n {
+        let link = links[probe(t, n, j)];
+        if link.marks.available() {
+            return Some(link.slc);
+        }
+    }
+    None
+}
+
+/// The number of the via that carries SLS `s` (0 to 15), 0 or 1, and its share number there (own, after Q.704 clause
+/// 2.3).
+///
+/// `size` is the configured number of vias of the class, 1 or 2, and `used` tells which of them are members; where one
+/// is, the answer is a member.
+pub fn member_for(size: u8, used: [bool; 2], s: u8) -> (u8, u8)
+    requires sls { s < 16 }
+    ensures via { result.0 ≡ via_of size (slice_index_or used 0 false) (slice_index_or used 1 false) s }
+    ensures share { result.1 ≡ share_of size s }
+    ensures places { result.0 < 2 }
+    ensures below { result.1 < 16 }
+    ensures used { HasMember size (slice_index_or used 0 false) (slice_index_or used 1 false) → IsTrue (slice_index_or used result.0 false) }
+    ensures of_class { HasMember size (slice_index_or used 0 false) (slice_index_or used 1 false) → result.0 < size }
+{
+    if size == 1 {
+        return (0, s);
+    }
+    let preferred = s % 2;
+    let share = s / 2 + 8 * preferred;
+    let via = if used[usize::from(preferred)] {
+        preferred
+    } else {
+        1 - preferred
+    };
+    (via, share)
+}
+
+/// The laws of the probe order. It does nothing when it runs.
+///
+/// For a set of 1 to 16 links and a share number below 16 the probe order tries every position, and a set with an
+/// available link has a link for each share number.
+pub fn probe_law()
+    ensures covers { ProbesCover }
+    ensures serves { SetsServe }
+{}
