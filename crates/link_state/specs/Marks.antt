@@ -1,6 +1,5 @@
 -- The marks of a link: what a change does to them, and what they say (Q.704 clause 3.2).
 use Rattle.std.specs.Prelude.{ℕ, ◌+◌, ◌||◌, not, Bool, true, false, if◌then◌else◌}
-use Rattle.link_state.specs.declared.marks.End.{End}
 use Rattle.link_state.specs.declared.marks.End.TheVariants.{First, Second}
 use Rattle.link_state.specs.declared.marks.Marks.{Marks}
 use Rattle.link_state.specs.declared.marks.LinkChange.{LinkChange}

@@ -78,11 +78,7 @@ impl Marks {
     pub fn available(self) -> bool
         ensures { result ≡ is_clear self }
     {
-        !(self.failed
-            || self.blocked_a
-            || self.blocked_b
-            || self.inhibited_a
-            || self.inhibited_b)
+        !(self.failed || self.blocked_a || self.blocked_b || self.inhibited_a || self.inhibited_b)
     }
 
     /// The case of unavailability, 1 to 7, or 0 where the link is available.
@@ -91,8 +87,16 @@ impl Marks {
         ensures in_range { result ≤ 7 }
     {
         let failed = if self.failed { 1 } else { 0 };
-        let blocked = if self.blocked_a || self.blocked_b { 2 } else { 0 };
-        let inhibited = if self.inhibited_a || self.inhibited_b { 4 } else { 0 };
+        let blocked = if self.blocked_a || self.blocked_b {
+            2
+        } else {
+            0
+        };
+        let inhibited = if self.inhibited_a || self.inhibited_b {
+            4
+        } else {
+            0
+        };
         failed + blocked + inhibited
     }
 }

@@ -1,16 +1,14 @@
 -- What stays right when points, sets or rows change.
-use Rattle.std.proofs.Common.{⊎_elim, ◌≡◌, ℕ, ◌<◌, ◌≤◌, ◌≢◌, Bool, true, false, not, ◌&&◌, ◌||◌, eqb, ltb, Option, Some, None, is_some, List, [], ◌∷◌, cond, refl, ap, sym, ◌∙◌, subst, arith}
+use Rattle.std.proofs.Common.{⊎_elim, ◌≡◌, ℕ, Bool, true, false, not, ◌&&◌, ◌||◌, eqb, ltb, Option, Some, None, List, [], ◌∷◌, refl, subst, arith}
 use Rattle.std.specs.List.{AllByRecursion, list_all, list_any}
 use Rattle.std.specs.Option.{option_map_or}
-use Rattle.std.proofs.lemmas.Bool.{and_parts, and_from, or_parts, eq-eqb, eqb-true, or_cases, or_left, or_right, cases_Bool, not-true, not_from_false}
-use Rattle.std.proofs.lemmas.Bool.Decides.{nat_tests}
+use Rattle.std.proofs.lemmas.Bool.{and_parts, and_from, or_parts, eq-eqb, eqb-true, or_cases, or_left, or_right, cases_Bool}
 use Rattle.net_items.specs.declared.items.Point.{Point}
 use Rattle.net_items.specs.declared.items.LinkSet.{LinkSet}
 use Rattle.net_items.specs.declared.items.Plan.{Plan}
 use Rattle.net_items.specs.declared.lists.Row.{Row}
-use Rattle.net_items.specs.Keyed.{IsRising, at_key, put, edit}
-use Rattle.net_items.specs.Lookups.{has_point, is_stp, mate_of, joins, set_between, joined, row_at, vias_of}
-use Rattle.net_data.specs.Valid.{all_vias, any_via, is_via, is_distinct, is_nil, is_lower, is_mate, is_free, has_equal_row, has_mate_row, is_small_row, IsRightRow, IsRightPlan, IsRightSet, IsOnePerPair}
+use Rattle.net_items.specs.Lookups.{has_point, is_stp, mate_of, joined}
+use Rattle.net_data.specs.Valid.{all_vias, is_via, is_lower, is_free, has_equal_row, has_mate_row, IsRightRow, IsRightPlan, IsRightSet}
 use Rattle.net_items.proofs.KeyedLemmas.{All-then}
 
 -- what all pass, and what follows for another test

@@ -1,29 +1,21 @@
 -- Making and ending a pair keeps a network valid.
-use Rattle.std.proofs.Common.{◌≡◌, ℕ, ◌+◌, ◌<◌, ◌≤◌, ◌≢◌, Bool, true, false, not, ◌&&◌, ◌||◌, eqb, ltb, leb, Option, Some, None, is_some, ◌⊎◌, inl, inr, ⊎_elim, List, [], ◌∷◌, ◌++◌, length, cond, refl, ap, sym, ◌∙◌, subst, arith}
-use Rattle.std.specs.List.{AllByRecursion, list_all, list_any, find}
-use Rattle.std.specs.Option.{option_map_or, option_map, option_or, option_and_then}
-use Rattle.std.proofs.lemmas.Bool.{and_parts, and_from, or_cases, or_parts, or_left, or_right, cases_Bool, not-true, not-false, not_from_false, not_from_true, cond_both, eqb-true, eqb-false, ltb-true, ltb-false, leb-true, leb-false, cases_eq, eq-eqb, ne_eqb}
+use Rattle.std.proofs.Common.{◌≡◌, ℕ, ◌<◌, ◌≢◌, Bool, true, false, not, ◌&&◌, ◌||◌, eqb, Option, Some, None, is_some, List, length, cond, refl, ap, sym, ◌∙◌, subst, arith}
+use Rattle.std.specs.List.{AllByRecursion, list_any}
+use Rattle.std.specs.Option.{option_map_or, option_map, option_and_then}
+use Rattle.std.proofs.lemmas.Bool.{and_parts, or_parts, or_right, not-false, cond_both, eqb-true, eqb-false, eq-eqb, ne_eqb}
 use Rattle.std.proofs.lemmas.Bool.Decides.{nat_tests}
-use Rattle.net_items.specs.declared.items.Kind.{Kind}
 use Rattle.net_items.specs.declared.items.Point.{Point}
 use Rattle.net_items.specs.declared.items.LinkSet.{LinkSet}
 use Rattle.net_items.specs.declared.items.Plan.{Plan}
 use Rattle.net_items.specs.declared.lists.Row.{Row}
-use Rattle.net_items.specs.declared.links.Link.{Link}
-use Rattle.link_state.specs.declared.marks.LinkChange.{LinkChange}
-use Rattle.net_data.specs.declared.events.Event.{Event}
 use Rattle.net_data.specs.declared.events.Event.TheVariants as on
-use Rattle.net_data.specs.declared.events.Cause.{Cause}
-use Rattle.net_data.specs.declared.events.Refusal.{Refusal}
-use Rattle.net_data.specs.declared.events.Refusal.TheVariants.{BadRow}
-use Rattle.net_items.specs.Keyed.{IsRising, at_key, put, edit, without}
-use Rattle.link_state.specs.Marks.{marks_after}
+use Rattle.net_items.specs.Keyed.{IsRising}
 use Rattle.net_data.specs.Network.{Network}
-use Rattle.net_items.specs.Lookups.{point_at, has_point, is_stp, kind_is_stp, mate_of, joins, set_at, set_between, plan_at, joined, row_at, vias_of}
-use Rattle.net_data.specs.Valid.{all_vias, any_via, is_via, is_distinct, is_nil, is_lower, is_mate, is_free, has_mate_row, is_small_row, IsRightRow, IsRightPlan, IsRightSet, IsOnePerPair, AreMates, IsValid}
-use Rattle.net_data.specs.Edits.{when, first, row_uses, either_uses, uses_pair, is_row_of, uses_point, is_end, is_flagged, has_flag, row_leads, either_leads, uses_set, has_link, has_last_link, set_passes, refusal_of, changed, new_link, with_mate, set_mate, with_link, without_link, edit_set}
-use Rattle.net_data.proofs.Frames.{IsRightRow-kept, IsRightPlan-kept, IsRightPlan-then, IsRightSet-then, All-unless, neither, flag-kept, flag-off}
-use Rattle.net_data.proofs.Preserve.{when_none, or_none, not_some}
+use Rattle.net_items.specs.Lookups.{point_at, has_point, is_stp, kind_is_stp, mate_of}
+use Rattle.net_data.specs.Valid.{is_via, is_mate, has_mate_row, IsRightRow, IsRightPlan, IsRightSet, AreMates, IsValid}
+use Rattle.net_data.specs.Edits.{either_uses, uses_pair, is_flagged, has_flag, refusal_of, changed, with_mate, set_mate}
+use Rattle.net_data.proofs.Frames.{IsRightRow-kept, IsRightPlan-kept, IsRightSet-then, All-unless, neither, flag-kept, flag-off}
+use Rattle.net_data.proofs.Preserve.{when_none, not_some}
 use Rattle.net_items.proofs.KeyedLemmas.{All-edit, at_key-edit, All-then, IsRising-edit, length-edit}
 
 -- the points after a mate is changed

@@ -1,8 +1,8 @@
 -- Edits keep a network valid.
-use Rattle.std.proofs.Common.{append_assoc, append-nil, ◌≡◌, ℕ, ◌+◌, ◌<◌, ◌≤◌, ◌≢◌, Bool, true, false, not, ◌&&◌, ◌||◌, eqb, ltb, leb, Option, Some, None, is_some, ◌⊎◌, inl, inr, ⊎_elim, List, [], ◌∷◌, ◌++◌, length, cond, refl, ap, sym, ◌∙◌, subst, arith}
-use Rattle.std.specs.List.{AllByRecursion, list_all, list_any, find}
+use Rattle.std.proofs.Common.{◌≡◌, ℕ, ◌<◌, Bool, true, false, not, ◌&&◌, ◌||◌, eqb, ltb, leb, Option, Some, None, is_some, ⊎_elim, List, [], ◌∷◌, ◌++◌, length, refl, ap, sym, ◌∙◌, arith}
+use Rattle.std.specs.List.{AllByRecursion, list_all, list_any}
 use Rattle.std.specs.Option.{option_map_or, option_map, option_or, option_and_then}
-use Rattle.std.proofs.lemmas.Bool.{and_parts, and_from, or_cases, or_parts, or_left, or_right, cases_Bool, not-true, not-false, not_from_false, not_from_true, cond_both, eqb-true, eqb-false, ltb-true, ltb-false, leb-true, leb-false, cases_eq, eq-eqb, ne_eqb}
+use Rattle.std.proofs.lemmas.Bool.{and_parts, or_parts, or_left, not-false, cond_both, eqb-false, ltb-true, ltb-false, leb-false}
 use Rattle.std.proofs.lemmas.Bool.Decides.{nat_tests}
 use Rattle.net_items.specs.declared.items.Kind.{Kind}
 use Rattle.net_items.specs.declared.items.Point.{Point}
@@ -11,21 +11,18 @@ use Rattle.net_items.specs.declared.items.Plan.{Plan}
 use Rattle.net_items.specs.declared.lists.Row.{Row}
 use Rattle.net_items.specs.declared.links.Link.{Link}
 use Rattle.link_state.specs.declared.marks.LinkChange.{LinkChange}
-use Rattle.net_data.specs.declared.events.Event.{Event}
 use Rattle.net_data.specs.declared.events.Event.TheVariants as on
-use Rattle.net_data.specs.declared.events.Cause.{Cause}
-use Rattle.net_data.specs.declared.events.Refusal.{Refusal}
 use Rattle.net_data.specs.declared.events.Refusal.TheVariants.{BadRow}
-use Rattle.net_items.specs.Keyed.{IsRising, at_key, put, edit}
+use Rattle.net_items.specs.Keyed.{IsRising, put, edit}
 use Rattle.link_state.specs.Marks.{marks_after}
 use Rattle.net_data.specs.Network.{Network}
-use Rattle.net_items.specs.Lookups.{point_at, has_point, is_stp, kind_is_stp, mate_of, joins, set_at, set_between, joined, row_at, vias_of}
-use Rattle.net_data.specs.Valid.{all_vias, any_via, is_distinct, is_nil, is_lower, is_mate, is_free, has_mate_row, is_small_row, IsRightRow, IsRightPlan, IsRightSet, IsOnePerPair, AreMates, IsValid}
-use Rattle.net_data.specs.Edits.{when, first, cause_of, bad_row, row_uses, uses_pair, refusal_of, changed, new_link, new_links, in_order, put_rows, with_mate, with_change}
-use Rattle.net_items.proofs.KeyedLemmas.{at_key-put, at_key-edit, All-put, All-then, All-edit, IsRising-put, IsRising-edit, length-put, length-put_pos, length-edit, is_some-put, put_new, some_find-put, none_find-put, some_find-edit}
+use Rattle.net_items.specs.Lookups.{point_at, has_point, is_stp, kind_is_stp, mate_of, joins, set_at, set_between, joined, vias_of}
+use Rattle.net_data.specs.Valid.{all_vias, is_distinct, is_nil, is_lower, is_free, has_mate_row, is_small_row, IsRightRow, IsRightPlan, IsRightSet, IsOnePerPair, IsValid}
+use Rattle.net_data.specs.Edits.{when, cause_of, bad_row, refusal_of, changed, new_link, new_links, in_order, put_rows, with_change}
+use Rattle.net_items.proofs.KeyedLemmas.{All-put, All-then, All-edit, IsRising-put, IsRising-edit, length-put, length-put_pos, length-edit, is_some-put, put_new, some_find-put, none_find-put, some_find-edit}
 use Rattle.std.proofs.lemmas.List.Folds.{list_any-append}
 use Rattle.net_data.proofs.Orders.{links_few, any_put, IsRising-put_rows, All-put_rows}
-use Rattle.net_data.proofs.Frames.{list_all-then, IsRightRow-then, IsRightPlan-then, IsRightSet-then}
+use Rattle.net_data.proofs.Frames.{IsRightRow-then, IsRightPlan-then, IsRightSet-then}
 
 -- a test that refuses nothing failed
 pub when_none : {R : Type 0} (b : Bool) (r : R) (o : Option R) → option_or (when b r) o ≡ None → (b ≡ false) × (o ≡ None)

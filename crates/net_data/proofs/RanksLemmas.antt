@@ -1,7 +1,6 @@
 -- What a table of ranks says of rows.
-use Rattle.std.proofs.Common.{◌≡◌, ◌≢◌, ℕ, zero, suc, ◌+◌, ◌<◌, ◌≤◌, Bool, true, false, not, ◌&&◌, ◌||◌, eqb, ltb, leb, List, [], ◌∷◌, ◌++◌, length, get_or, set, refl, ap, sym, ◌∙◌, subst, arith, ⊎_elim}
-use Rattle.std.specs.List.{list_any}
-use Rattle.std.proofs.lemmas.Bool.{cases_eq, cases_Bool, eq-eqb, ne_eqb, or_parts, or_left, or_right, or_cases, and_parts, and_from}
+use Rattle.std.proofs.Common.{◌≡◌, ◌≢◌, ℕ, ◌+◌, ◌<◌, ◌≤◌, Bool, true, false, not, ◌&&◌, ◌||◌, eqb, ltb, leb, List, [], ◌∷◌, ◌++◌, length, get_or, set, refl, sym, ◌∙◌, subst, arith, ⊎_elim}
+use Rattle.std.proofs.lemmas.Bool.{cases_eq, cases_Bool, eq-eqb, ne_eqb, or_parts}
 use Rattle.std.proofs.lemmas.Bool.Decides.{nat_tests}
 use Rattle.std.proofs.lemmas.List.{get_or-set_same, get_or-set_other}
 use Rattle.std.proofs.lemmas.List.Folds.{list_any-append}
@@ -22,10 +21,10 @@ noted_less old new rank k b is none less kept =
     ⊎_elim
     (λ (e : old ≡ 0). let now = none e in grind (arith, nat_tests))
     (λ (e : old ≢ 0).
-      ⊎_elim
-      (λ (t : ltb (rank + 1) old ≡ true). let below : rank + 1 < old = grind (arith, nat_tests) in let now = less e below in grind (arith, nat_tests))
-      (λ (t : ltb (rank + 1) old ≡ false). let above : old ≤ rank + 1 = grind (arith, nat_tests) in let now = kept e above in grind (arith, nat_tests))
-      (cases_Bool (ltb (rank + 1) old)))
+    ⊎_elim
+    (λ (t : ltb (rank + 1) old ≡ true). let below : rank + 1 < old = grind (arith, nat_tests) in let now = less e below in grind (arith, nat_tests))
+    (λ (t : ltb (rank + 1) old ≡ false). let above : old ≤ rank + 1 = grind (arith, nat_tests) in let now = kept e above in grind (arith, nat_tests))
+    (cases_Bool (ltb (rank + 1) old)))
     (cases_eq old 0)
 
 -- a row's rank is noted at its place

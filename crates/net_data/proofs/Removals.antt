@@ -1,30 +1,22 @@
 -- Removals, and other links of a set, keep a network valid.
-use Rattle.std.proofs.Common.{◌≡◌, ℕ, ◌+◌, ◌<◌, ◌≤◌, ◌≢◌, Bool, true, false, not, ◌&&◌, ◌||◌, eqb, ltb, leb, Option, Some, None, is_some, ◌⊎◌, inl, inr, ⊎_elim, List, [], ◌∷◌, ◌++◌, length, cond, refl, ap, sym, ◌∙◌, subst, arith}
-use Rattle.std.specs.List.{AllByRecursion, list_all, list_any, find}
-use Rattle.std.specs.Option.{option_map_or, option_map, option_or, option_and_then}
-use Rattle.std.proofs.lemmas.Bool.{and_parts, and_from, or_cases, or_parts, or_left, or_right, cases_Bool, or_from, false_from_ne_true, both_ways, not-true, not-false, not_from_false, not_from_true, cond_both, eqb-true, eqb-false, ltb-true, ltb-false, leb-true, leb-false, cases_eq, eq-eqb, ne_eqb}
-use Rattle.std.proofs.lemmas.Bool.Decides.{nat_tests}
-use Rattle.net_items.specs.declared.items.Kind.{Kind}
+use Rattle.std.proofs.Common.{◌≡◌, ℕ, ◌<◌, ◌≤◌, Bool, true, false, not, ◌&&◌, ◌||◌, eqb, ltb, leb, Option, Some, None, is_some, ⊎_elim, List, [], ◌∷◌, length, cond, refl, ap, sym, ◌∙◌, subst, arith}
+use Rattle.std.specs.List.{list_any}
+use Rattle.std.specs.Option.{option_map_or, option_and_then}
+use Rattle.std.proofs.lemmas.Bool.{and_parts, and_from, or_cases, or_parts, or_left, or_right, cases_Bool, or_from, false_from_ne_true, both_ways, not-false, cond_both, eqb-true, eqb-false, ltb-false, leb-false, eq-eqb, ne_eqb}
 use Rattle.net_items.specs.declared.items.Point.{Point}
 use Rattle.net_items.specs.declared.items.LinkSet.{LinkSet}
 use Rattle.net_items.specs.declared.items.Plan.{Plan}
 use Rattle.net_items.specs.declared.lists.Row.{Row}
 use Rattle.net_items.specs.declared.links.Link.{Link}
-use Rattle.link_state.specs.declared.marks.LinkChange.{LinkChange}
-use Rattle.net_data.specs.declared.events.Event.{Event}
 use Rattle.net_data.specs.declared.events.Event.TheVariants as on
-use Rattle.net_data.specs.declared.events.Cause.{Cause}
-use Rattle.net_data.specs.declared.events.Refusal.{Refusal}
-use Rattle.net_data.specs.declared.events.Refusal.TheVariants.{BadRow}
-use Rattle.net_items.specs.Keyed.{IsRising, at_key, put, edit, without}
-use Rattle.link_state.specs.Marks.{marks_after}
+use Rattle.net_items.specs.Keyed.{put, without}
 use Rattle.net_data.specs.Network.{Network}
-use Rattle.net_items.specs.Lookups.{point_at, has_point, is_stp, kind_is_stp, mate_of, joins, set_at, set_between, plan_at, joined, row_at, vias_of}
-use Rattle.net_data.specs.Valid.{all_vias, any_via, is_via, is_distinct, is_nil, is_lower, is_mate, is_free, has_mate_row, is_small_row, IsRightRow, IsRightPlan, IsRightSet, IsOnePerPair, AreMates, IsValid}
-use Rattle.net_data.specs.Edits.{when, first, row_uses, either_uses, uses_pair, is_row_of, uses_point, is_end, is_flagged, has_flag, row_leads, either_leads, uses_set, has_link, has_last_link, set_passes, refusal_of, changed, new_link, with_mate, set_mate, with_link, without_link, edit_set}
+use Rattle.net_items.specs.Lookups.{point_at, has_point, is_stp, kind_is_stp, mate_of, joins, set_at, joined}
+use Rattle.net_data.specs.Valid.{is_via, is_mate, IsRightRow, IsRightPlan, IsRightSet, IsOnePerPair, AreMates, IsValid}
+use Rattle.net_data.specs.Edits.{is_row_of, uses_point, is_end, either_leads, uses_set, has_link, has_last_link, set_passes, refusal_of, changed, new_link, with_link, without_link, edit_set}
 use Rattle.net_data.proofs.Orders.{links_few}
-use Rattle.net_data.proofs.Frames.{IsRightRow-kept, IsRightPlan-kept, IsRightPlan-then, IsRightSet-then, All-unless, neither, flag-kept, flag-off}
-use Rattle.net_data.proofs.Preserve.{when_none, or_none, not_some}
+use Rattle.net_data.proofs.Frames.{IsRightRow-kept, IsRightPlan-kept, IsRightPlan-then, All-unless, flag-kept}
+use Rattle.net_data.proofs.Preserve.{when_none, not_some}
 use Rattle.net_items.proofs.KeyedLemmas.{All-then, All-without, All-edit_at, IsRising-put, IsRising-without, length-without, at_key-without, some_find-without, none_find-without, IsRising-edit, some_find-edit, All-put, length-put_pos, length-without_pos}
 
 flip : (a b : ℕ) → eqb b a ≡ false → eqb a b ≡ false

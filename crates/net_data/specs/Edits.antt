@@ -1,16 +1,13 @@
 -- What an edit refuses, and what it changes.
-use Rattle.std.specs.Prelude.{◌≡◌, ℕ, ◌<◌, ◌≤◌, Bool, true, false, not, ◌&&◌, ◌||◌, ◌==◌, nat_lt, nat_le, if◌then◌else◌, Option, Some, None, is_some, Result, Ok, Err, MatchResult, List, [], ◌∷◌, ◌++◌, length, filter, map}
+use Rattle.std.specs.Prelude.{◌≡◌, ℕ, Bool, true, false, not, ◌&&◌, ◌||◌, ◌==◌, nat_lt, nat_le, if◌then◌else◌, Option, Some, None, is_some, Result, Err, MatchResult, List, [], ◌∷◌, ◌++◌, length}
 use Rattle.std.specs.List.{list_all, list_any}
 use Rattle.std.specs.Option.{option_map, option_map_or, option_or}
-use Rattle.net_items.specs.declared.items.Kind.{Kind}
 use Rattle.net_items.specs.declared.items.Point.{Point}
 use Rattle.net_items.specs.declared.items.LinkSet.{LinkSet}
 use Rattle.net_items.specs.declared.items.Plan.{Plan}
 use Rattle.net_items.specs.declared.lists.Row.{Row}
 use Rattle.net_items.specs.declared.links.Link.{Link}
 use Rattle.link_state.specs.declared.marks.LinkChange.{LinkChange}
-use Rattle.link_state.specs.declared.marks.Marks.{Marks}
-use Rattle.net_data.specs.declared.events.Event as event
 use Rattle.net_data.specs.declared.events.Event.{Event}
 use Rattle.net_data.specs.declared.events.Event.TheVariants as on
 use Rattle.net_data.specs.declared.events.Cause.{Cause}
@@ -20,8 +17,8 @@ use Rattle.net_data.specs.declared.events.Refusal.TheVariants.{OutOfMemory, NoPo
 use Rattle.net_items.specs.Keyed.{at_key, put, edit, without}
 use Rattle.link_state.specs.Marks.{marks_after}
 use Rattle.net_data.specs.Network.{Network}
-use Rattle.net_items.specs.Lookups.{point_at, has_point, is_stp, mate_of, set_at, joins, set_between, joined, plan_at, row_at, vias_of}
-use Rattle.net_data.specs.Valid.{all_vias, any_via, is_via, is_distinct, is_nil, is_lower, is_mate, is_free, has_mate_row, is_small_row}
+use Rattle.net_items.specs.Lookups.{has_point, is_stp, mate_of, set_at, set_between, joined, plan_at, vias_of}
+use Rattle.net_data.specs.Valid.{all_vias, is_via, is_distinct, is_nil, is_lower, is_mate, is_free, has_mate_row, is_small_row}
 
 -- the refusal where the test holds
 abbrev pub when : {R : Type 0} → Bool → R → Option R

@@ -1,5 +1,5 @@
 -- A valid network.
-use Rattle.std.specs.Prelude.{◌≡◌, ◌≢◌, ℕ, ◌<◌, ◌≤◌, Bool, true, false, not, ◌&&◌, ◌||◌, ◌==◌, nat_lt, nat_le, Option, Some, None, is_some, List, [], ◌∷◌, length}
+use Rattle.std.specs.Prelude.{◌≡◌, ◌≢◌, ℕ, ◌<◌, ◌≤◌, Bool, true, false, not, ◌&&◌, ◌||◌, ◌==◌, nat_lt, nat_le, Some, List, [], ◌∷◌, length}
 use Rattle.std.specs.List.{AllByRecursion, list_all, list_any}
 use Rattle.std.specs.Option.{option_map_or}
 use Rattle.net_items.specs.declared.items.Point.{Point}
@@ -9,7 +9,7 @@ use Rattle.net_items.specs.declared.lists.Row.{Row}
 use Rattle.net_items.specs.declared.links.Link.{Link}
 use Rattle.net_items.specs.Keyed.{IsRising}
 use Rattle.net_data.specs.Network.{Network}
-use Rattle.net_items.specs.Lookups.{has_point, is_stp, mate_of, joins, set_between, joined, vias_of}
+use Rattle.net_items.specs.Lookups.{has_point, is_stp, mate_of, joined, vias_of}
 
 -- no number stands twice
 abbrev pub is_distinct : List ℕ → Bool

@@ -9,12 +9,12 @@ ghost use Rattle.net_items.specs.Lookups.{set_at, has_point};
 ghost use Rattle.net_data.specs.Edits.{with_change, with_link, without_link, has_link, set_passes, edit_set, set_mate as mate_set, new_links as the_new_links};
 ghost use Rattle.link_state.specs.Marks.{marks_after};
 
-use point_codes::PointCode;
+use link_state::{LinkChange, Marks};
 use net_items::items::{LinkSet, Point};
+use net_items::links::Link;
 use net_items::lists::{Links, place_of_link};
 use net_items::lookups::{place_of_point, place_of_set};
-use link_state::{LinkChange, Marks};
-use net_items::links::Link;
+use point_codes::PointCode;
 use std::alloc::{AllocError, Global};
 
 pub fn put_point(points: &mut Vec<Point>, point: Point) -> Result<(), AllocError>

@@ -26,4 +26,3 @@ pub fn are_same_plans(a: &[Arc<Plan>], b: &[Arc<Plan>]) -> bool
     }
     ys.is_empty()
 }
-

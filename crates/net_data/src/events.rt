@@ -2,12 +2,12 @@
 
 ghost use Rattle.std.specs.Prelude.{◌≡◌, ◌↔◌, IsTrue, IfOk};
 
-use point_codes::PointCode;
+use link_state::LinkChange;
 use net_items::copies::{copy_plan, copy_slcs};
 use net_items::equals::{are_same_slcs, is_same_change, is_same_plan};
 use net_items::items::{Kind, Plan};
 use net_items::lists::Slcs;
-use link_state::LinkChange;
+use point_codes::PointCode;
 use std::alloc::{AllocError, Global};
 
 #[derive(Debug, Drop)]

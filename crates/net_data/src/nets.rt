@@ -8,21 +8,21 @@ ghost use Rattle.net_items.specs.Lookups.{plan_at, mate_of as the_mate};
 ghost use Rattle.net_data.specs.Valid.{IsValid};
 ghost use Rattle.net_data.specs.Edits.{refusal_of as the_refusal, changed, takes_none, Answers};
 
-use point_codes::PointCode;
 use crate::copies::plan_in_order;
 use crate::edits::{new_links, put_point, remove_point, set_mate};
-use net_items::equals::are_same_points;
 use crate::events::{Event, Refusal};
-use net_items::items::{Kind, LinkSet, Plan, Point};
-use net_items::lists::Slcs;
-use net_items::lookups::{find_set_between, is_point, is_stp, mate_of};
-use link_state::LinkChange;
 use crate::plans::Plans;
-use crate::sets::Sets;
 use crate::refusals::{
     are_good_links, are_small_rows, bad_row, find_set, has_points, is_any_end, is_set,
     set_has_last_link, set_has_link,
 };
+use crate::sets::Sets;
+use link_state::LinkChange;
+use net_items::equals::are_same_points;
+use net_items::items::{Kind, LinkSet, Plan, Point};
+use net_items::lists::Slcs;
+use net_items::lookups::{find_set_between, is_point, is_stp, mate_of};
+use point_codes::PointCode;
 use std::alloc::{AllocError, Global};
 use std::marker::Model;
 use std::sync::Arc;

@@ -8,10 +8,10 @@ ghost use Rattle.net_items.specs.Keyed.{IsRising, IsFoundAt, IsGapAt, put, witho
 ghost use Rattle.net_items.specs.Lookups.{plan_at};
 ghost use Rattle.net_data.specs.Edits.{uses_pair as pair_used, uses_point as point_used, uses_set as set_used, has_flag as flagged};
 
-use point_codes::PointCode;
 use crate::equals::are_same_plans;
-use net_items::items::{LinkSet, Plan, Point};
 use crate::uses::{has_flag, uses_pair, uses_point, uses_set};
+use net_items::items::{LinkSet, Plan, Point};
+use point_codes::PointCode;
 use std::alloc::{AllocError, Global};
 use std::marker::Model;
 use std::sync::Arc;

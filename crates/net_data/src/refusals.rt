@@ -9,17 +9,17 @@ ghost use Rattle.net_items.specs.Lookups.{vias_of, has_point, set_at};
 ghost use Rattle.net_data.specs.Valid.{is_distinct as distinct, is_small_row as small_row, is_nil as nil};
 ghost use Rattle.net_data.specs.Edits.{cause_of as the_cause, bad_row as the_bad_row, is_end as end_is, has_link as link_there, has_last_link, set_passes};
 
-use point_codes::PointCode;
 use crate::events::{Cause, Refusal};
-use net_items::items::{LinkSet, Point};
-use net_items::lists::{Row, place_of_link};
+use crate::ranks::note_ranks;
 use crate::row_tests::{
     are_vias_joined, are_vias_lower, are_vias_no_mates, has_mate_row, is_small_row,
 };
-use net_items::lookups::{is_point, place_of_set};
-use crate::ranks::note_ranks;
-use crate::sets::Sets;
 use crate::seen::{are_vias_once, see};
+use crate::sets::Sets;
+use net_items::items::{LinkSet, Point};
+use net_items::lists::{Row, place_of_link};
+use net_items::lookups::{is_point, place_of_set};
+use point_codes::PointCode;
 
 /// Whether no number stands twice.
 pub fn is_distinct(numbers: &[u8]) -> bool

@@ -8,12 +8,12 @@ ghost use Rattle.net_items.specs.Keyed.{IsRising, IsFoundAt, IsGapAt};
 ghost use Rattle.net_items.specs.Lookups.{point_at, has_point, is_stp as stp, mate_of as mate, set_between, joined, row_at};
 ghost use Rattle.net_data.specs.Valid.{all_vias, any_via, is_mate as mate_is, is_lower as lower, is_free as free, is_small_class as small_class, has_mate_row as mate_row, is_small_row as small_row};
 
-use point_codes::PointCode;
+use crate::ranks::{has_lower, has_same};
 use crate::sets::Sets;
 use net_items::items::Point;
 use net_items::lists::{Row, Vias};
-use crate::ranks::{has_lower, has_same};
 use net_items::lookups::{is_stp, mate_of};
+use point_codes::PointCode;
 
 pub fn is_mate(points: &[Point], y: PointCode, z: PointCode) -> bool
     requires { IsRising (λ p. p.code) points.now }
@@ -168,5 +168,8 @@ pub fn is_small_row(row: &Row) -> bool
     ensures { result ≡ small_row row.now }
 {
     let rank = row.rank;
-    rank != 0 && rank <= 255 && row.classes.as_slice().len() <= 4 && are_small_classes(row.classes.as_slice())
+    rank != 0
+        && rank <= 255
+        && row.classes.as_slice().len() <= 4
+        && are_small_classes(row.classes.as_slice())
 }

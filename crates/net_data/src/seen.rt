@@ -6,9 +6,9 @@ ghost use Rattle.net_items.specs.Lookups.{concat_vias, vias_of};
 ghost use Rattle.net_data.specs.Valid.{is_distinct as distinct};
 ghost use Rattle.net_data.specs.Seen.{IsSeen};
 
-use point_codes::PointCode;
 use crate::uses::{is_in, is_in_any};
 use net_items::lists::{Row, Vias};
+use point_codes::PointCode;
 
 /// Marks the vias of a class. The answer is whether each was new.
 fn see_all(seen: &mut [bool], vias: &[PointCode]) -> bool

@@ -6,10 +6,10 @@ ghost use Rattle.net_items.specs.Keyed.{IsRising};
 ghost use Rattle.net_data.specs.Valid.{is_via as via};
 ghost use Rattle.net_data.specs.Edits.{row_uses as row_used, either_uses as either_used, uses_pair as pair_used, is_row_of as row_of, uses_point as point_used, is_flagged as flagged, has_flag as some_flagged, row_leads as row_led, either_leads as either_led, uses_set as set_used};
 
-use point_codes::PointCode;
+use crate::row_tests::is_mate;
 use net_items::items::{LinkSet, Plan, Point};
 use net_items::lists::{Row, Vias};
-use crate::row_tests::is_mate;
+use point_codes::PointCode;
 
 /// Whether a point is among these.
 pub fn is_in(vias: &[PointCode], z: PointCode) -> bool

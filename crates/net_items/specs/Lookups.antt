@@ -1,5 +1,5 @@
 -- What stands in the lists of a network, found by its code, its id or its ends.
-use Rattle.std.specs.Prelude.{◌≡◌, ℕ, Bool, true, false, ◌&&◌, ◌||◌, ◌==◌, Option, Some, None, is_some, List, [], ◌∷◌, ◌++◌, find}
+use Rattle.std.specs.Prelude.{ℕ, Bool, true, false, ◌&&◌, ◌||◌, ◌==◌, Option, is_some, List, [], ◌∷◌, ◌++◌, find}
 use Rattle.std.specs.Option.{option_map_or, option_and_then}
 use Rattle.net_items.specs.declared.items.Kind.{Kind}
 use Rattle.net_items.specs.declared.items.Kind.TheVariants.{Sep, Stp}

@@ -2,11 +2,11 @@
 
 ghost use Rattle.std.specs.Prelude.{◌≡◌, ◌↔◌, IsTrue};
 
-use point_codes::PointCode;
 use crate::items::{LinkSet, Plan, Point};
-use crate::lists::{Row, Vias};
 use crate::links::Link;
+use crate::lists::{Row, Vias};
 use link_state::{LinkChange, Marks};
+use point_codes::PointCode;
 
 fn are_same_codes(a: &[PointCode], b: &[PointCode]) -> bool
     ensures { IsTrue result ↔ (a.now ≡ b.now) }

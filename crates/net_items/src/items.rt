@@ -1,7 +1,7 @@
 //! Points, link sets and plans.
 
-use point_codes::PointCode;
 use crate::lists::{Links, Rows};
+use point_codes::PointCode;
 
 /// The kind of a signalling point (Q.705).
 #[derive(Clone, Copy, Debug, PartialEq, Eq)]

@@ -3,8 +3,8 @@
 ghost use Rattle.std.specs.Prelude.{◌≡◌, ◌<◌, List, ℕ, length, slice_set, OnOk, OnErr, IfOk, IfErr, is_some, true};
 ghost use Rattle.net_items.specs.Keyed.{IsRising, IsFoundAt, IsGapAt, at_key, put, without};
 
-use point_codes::PointCode;
 use crate::links::Link;
+use point_codes::PointCode;
 use std::alloc::AllocError;
 use std::marker::Model;
 

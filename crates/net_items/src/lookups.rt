@@ -5,9 +5,9 @@ ghost use Rattle.std.specs.Option.{option_copied};
 ghost use Rattle.net_items.specs.Keyed.{IsRising, IsFoundAt, IsGapAt};
 ghost use Rattle.net_items.specs.Lookups.{point_at, has_point, is_stp as stp, mate_of as mate, set_between, joined, row_at};
 
-use point_codes::PointCode;
 use crate::items::{Kind, LinkSet, Point};
 use crate::lists::Row;
+use point_codes::PointCode;
 
 /// Where a point is, or would go.
 pub fn place_of_point(points: &[Point], code: PointCode) -> Result<usize, usize>
@@ -92,4 +92,3 @@ pub fn find_row(rows: &[Row], y: PointCode) -> Option<&Row>
 {
     rows.iter().find(|r| r.point == y)
 }
-

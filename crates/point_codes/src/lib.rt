@@ -9,6 +9,8 @@
 pub mod codes;
 pub mod kinds;
 pub mod numbers;
+#[cfg(test)]
+mod tests;
 
 pub use codes::{BadCode, PointCode, code_tokens};
 pub use kinds::MsgKind;

@@ -39,7 +39,7 @@ fn find_byte(text: &[u8], byte: u8) -> Option<usize>
     text.iter().position(|b| *b == byte)
 }
 
-/// The parts before and after the first of this byte, which is in neither. `None` where the byte doesn't stand.
+/// The parts before and after the first of this byte. `None` where the text doesn't have it.
 pub fn split_at_byte<'a>(text: &'a [u8], byte: u8) -> Option<(&'a [u8], &'a [u8])>
     ensures { option_map (λ p. (p.0.now, p.1.now)) result ≡ split_of byte text.entry.now }
 {

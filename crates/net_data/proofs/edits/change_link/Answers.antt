@@ -1,5 +1,4 @@
-use Rattle.std.proofs.Common.{◌≡◌, ap, ◌∙◌, false}
-use Rattle.net_items.specs.declared.items.LinkSet.{LinkSet}
+use Rattle.std.proofs.Common.{ap, ◌∙◌, false}
 use Rattle.net_items.specs.declared.links.Link.{Link}
 use Rattle.link_state.specs.Marks.{marks_after}
 use Rattle.net_data.proofs.edits.change_link.Goals as goal

@@ -1,6 +1,4 @@
-use Rattle.std.proofs.Common.{◌≡◌, drop, sym, subst}
-use Rattle.net_items.specs.declared.links.Link.{Link}
-use Rattle.net_items.specs.Keyed.{IsRising}
+use Rattle.std.proofs.Common.{drop}
 use Rattle.net_data.proofs.Preserve.{IsRising-new_links}
 use Rattle.net_data.proofs.edits.new_links.Goals as goal
 

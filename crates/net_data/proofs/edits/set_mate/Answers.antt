@@ -1,4 +1,4 @@
-use Rattle.std.proofs.Common.{◌≡◌, ap, ◌∙◌, set}
+use Rattle.std.proofs.Common.{ap, ◌∙◌, set}
 use Rattle.net_items.specs.declared.items.Point.{Point}
 use Rattle.net_data.specs.Edits.{with_mate}
 use Rattle.net_data.proofs.edits.set_mate.Goals as goal

@@ -1,4 +1,4 @@
-use Rattle.std.proofs.Common.{◌≡◌, sym, ◌∙◌, arith}
+use Rattle.std.proofs.Common.{sym, arith}
 use Rattle.net_data.proofs.RanksLemmas.{same_noted, blank_noted, greater_noted}
 use Rattle.net_data.proofs.ranks.has_same.Goals as goal
 

@@ -1,4 +1,4 @@
-use Rattle.std.proofs.Common.{◌≡◌, sym, ◌∙◌, arith, ap, ◌++◌, true}
+use Rattle.std.proofs.Common.{sym, ◌∙◌, arith, ap, ◌++◌}
 use Rattle.std.proofs.lemmas.Bool.{or_right}
 use Rattle.net_items.specs.Lookups.{concat_vias}
 use Rattle.net_data.specs.Valid.{is_distinct}

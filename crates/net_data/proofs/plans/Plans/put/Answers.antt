@@ -1,4 +1,4 @@
-use Rattle.std.proofs.Common.{◌≡◌, ap, refl, ◌∙◌, set, map}
+use Rattle.std.proofs.Common.{ap, refl, ◌∙◌, set, map}
 use Rattle.std.proofs.lemmas.List.{map-set}
 use Rattle.std.specs.List.{insert}
 use Rattle.std.specs.Arc.{arc_value}

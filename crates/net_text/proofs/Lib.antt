@@ -1,0 +1,4 @@
+pub mod TableLemmas
+pub mod EntryLemmas
+pub mod FaultLemmas
+pub mod SaysLemmas

@@ -1,0 +1,74 @@
+-- The entries of a network text, as events.
+use Rattle.std.specs.Prelude.{ℕ, ◌==◌, length, if◌then◌else◌, Bool, false, not, List, [], ◌∷◌, Option, None, option_map, option_and_then, map, filter}
+use Rattle.std.specs.List.{flat_map}
+use Rattle.net_items.specs.declared.items.LinkSet.{LinkSet}
+use Rattle.link_state.specs.declared.marks.End.TheVariants.{First, Second}
+use Rattle.net_items.specs.declared.links.Link.{Link}
+use Rattle.link_state.specs.declared.marks.LinkChange.{LinkChange}
+use Rattle.link_state.specs.declared.marks.LinkChange.TheVariants.{Restore, Block, Inhibit}
+use Rattle.link_state.specs.declared.marks.Marks.{Marks}
+use Rattle.net_data.specs.declared.events.Event.{Event}
+use Rattle.net_data.specs.declared.events.Event.TheVariants as on
+use Rattle.tokens.specs.Words.{words_of}
+use Rattle.tokens.specs.Numbers.{id_of}
+use Rattle.point_codes.specs.Codes.{code_of}
+use Rattle.tokens.specs.Kinds.{kind_of}
+use Rattle.tokens.specs.Marked.{marked_of}
+use Rattle.tokens.specs.Rows.{row_of}
+use Rattle.tokens.specs.Pieces.{all_of}
+use Rattle.net_text.specs.declared.faults.Key.{Key}
+use Rattle.net_text.specs.declared.faults.Key.TheVariants.{Points, Pairs, Sets, Plans}
+
+-- `CODE KIND`
+abbrev pub point_of : List (List ℕ) → Option Event
+point_of (code ∷ kind ∷ []) = option_and_then (λ c. option_map (λ k. on.AddPoint c k) (kind_of kind)) (code_of code)
+point_of _ = None
+
+-- `CODE CODE`
+abbrev pub pair_of : List (List ℕ) → Option Event
+pair_of (one ∷ other ∷ []) = option_and_then (λ p. option_map (λ q. on.Pair p q) (code_of other)) (code_of one)
+pair_of _ = None
+
+abbrev pub set_from : List Link → Option ℕ → Option ℕ → Option ℕ → Option LinkSet
+set_from links id a b = option_and_then (λ i. option_and_then (λ p. option_map (λ q. record { id = i; a = p; b = q; links = links }) b) a) id
+
+-- `ID CODE CODE MARKED MARKED ..`, at least one MARKED
+abbrev pub set_of : Bool → List (List ℕ) → Option LinkSet
+set_of one (id ∷ a ∷ b ∷ links) =
+    if length links == 0 then None else option_and_then (λ ls. set_from ls (id_of id) (code_of a) (code_of b)) (all_of (marked_of one) links)
+set_of one _ = None
+
+-- `CODE ROW ROW ..`
+abbrev pub plan_of : List (List ℕ) → Option Event
+plan_of (dest ∷ rows) = option_and_then (λ c. option_map (λ rs. on.SetPlan (record { dest = c; rows = rs })) (all_of row_of rows)) (code_of dest)
+plan_of _ = None
+
+-- whether a new link, which is failed alone, needs the change to have these marks
+abbrev pub is_needed : LinkChange → Marks → Bool
+is_needed Restore m = not m.failed
+is_needed (Block First) m = m.blocked_a
+is_needed (Block Second) m = m.blocked_b
+is_needed (Inhibit First) m = m.inhibited_a
+is_needed (Inhibit Second) m = m.inhibited_b
+is_needed _ m = false
+
+-- the change for each link that needs it
+abbrev pub changes_of : ℕ → List Link → LinkChange → List Event
+changes_of id links change = map (λ (l : Link). on.Link id l.slc change) (filter (λ (l : Link). is_needed change l.marks) links)
+
+-- a set is added, then its links get their marks
+abbrev pub set_events : LinkSet → List Event
+set_events s =
+    on.AddSet s.id s.a s.b (map (λ (l : Link). l.slc) s.links)
+    ∷ flat_map (changes_of s.id s.links) (Restore ∷ Block First ∷ Block Second ∷ Inhibit First ∷ Inhibit Second ∷ [])
+
+abbrev pub alone : Event → List Event
+alone e = e ∷ []
+
+-- the events that an entry says
+abbrev pub entry_of : Key → Bool → List ℕ → Option (List Event)
+entry_of Points one text = option_map alone (point_of (words_of text))
+entry_of Pairs one text = option_map alone (pair_of (words_of text))
+entry_of Sets one text = option_map set_events (set_of one (words_of text))
+entry_of Plans one text = option_map alone (plan_of (words_of text))
+entry_of _ one text = None

@@ -1,0 +1,5 @@
+pub mod Faults
+pub mod Keys
+pub mod Entries
+pub mod Reading
+pub mod Shown

@@ -1,0 +1,71 @@
+-- What a network text says.
+use Rattle.std.specs.Prelude.{◌≡◌, ℕ, ◌+◌, Bool, true, List, [], ◌∷◌, Option, Some, None, Result, Ok, Err}
+use Rattle.std.specs.Str.{IsUtf8}
+use Rattle.toml.specs.Data.{Members}
+use Rattle.toml.specs.Parse.{parse_document}
+use Rattle.net_data.specs.declared.events.Event.{Event}
+use Rattle.net_data.specs.declared.events.Event.TheVariants.{SetTfr}
+use Rattle.net_data.specs.declared.events.Refusal.{Refusal}
+use Rattle.net_data.specs.Network.{Network}
+use Rattle.net_data.specs.Edits.{refusal_of, changed}
+use Rattle.net_text.specs.Faults.{Answer, chain}
+use Rattle.net_text.specs.Keys.{Held, held_by}
+use Rattle.net_text.specs.Entries.{entry_of}
+use Rattle.net_text.specs.declared.faults.Key.{Key}
+use Rattle.net_text.specs.declared.faults.Key.TheVariants.{Points, Pairs, Sets, Plans}
+use Rattle.net_text.specs.declared.faults.LoadFault.TheVariants.{NotToml, BadLine, Refused}
+
+-- the refusal, else what comes after
+abbrev pub after : Option Refusal → Result Network Refusal → Result Network Refusal
+after (Some refusal) rest = Err refusal
+after None rest = rest
+
+-- each event in turn, or the first refusal
+abbrev pub apply_all : Network → List Event → Result Network Refusal
+apply_all net [] = Ok net
+apply_all net (e ∷ es) = after (refusal_of net e) (apply_all (changed net e) es)
+
+-- a refusal, with the key and the place of its entry
+abbrev pub named : Key → ℕ → Result Network Refusal → Answer Network
+named key place (Ok net) = Ok net
+named key place (Err refusal) = Err (Refused key place refusal)
+
+-- one entry: it can't be read, or its first refusal, or the changed network
+abbrev pub apply_entry : Key → ℕ → Network → Option (List Event) → Answer Network
+apply_entry key place net None = Err (BadLine key place)
+apply_entry key place net (Some events) = named key place (apply_all net events)
+
+-- the entries of a key from a place on
+abbrev pub apply_entries : Key → Bool → ℕ → Network → List (List ℕ) → Answer Network
+apply_entries key one place net [] = Ok net
+apply_entries key one place net (text ∷ texts) = chain (apply_entry key place net (entry_of key one text)) (λ more. apply_entries key one (place + 1) more texts)
+
+-- the empty network with its options
+abbrev pub start : Held → Network
+start h = changed (record { ni = h.ni; tfr = true; points = []; sets = []; plans = [] }) (SetTfr h.tfr)
+
+-- the network of the entries, or their first fault; places count from 1
+abbrev pub build : Held → Answer Network
+build h =
+    chain (apply_entries Points h.one 1 (start h) h.points) (λ net.
+    chain (apply_entries Pairs h.one 1 net h.pairs) (λ net.
+    chain (apply_entries Sets h.one 1 net h.sets) (λ net.
+    apply_entries Plans h.one 1 net h.plans)))
+
+-- what a document says, or its first fault: all keys come before all entries
+abbrev pub network_of : Members → Answer Network
+network_of doc = chain (held_by doc) build
+
+-- the document that a text is; where it is no UTF-8 it is none
+abbrev pub IsDocument : List ℕ → Option Members → Type 0
+IsDocument text None = IsUtf8 text → parse_document text ≡ None
+IsDocument text (Some doc) = IsUtf8 text × (parse_document text ≡ Some doc)
+
+-- what a document says, where the text is one
+abbrev pub answer_of : Option Members → Answer Network
+answer_of None = Err NotToml
+answer_of (Some doc) = network_of doc
+
+-- what a text says: a network or the first fault
+abbrev pub Says : List ℕ → Answer Network → Type 0
+Says text answer = (doc : Option Members) × IsDocument text doc × (answer_of doc ≡ answer)

@@ -1,0 +1,134 @@
+//! Reading a network text.
+
+ghost use Rattle.std.specs.Prelude.{◌≡◌, ◌≢◌, ◌≤◌, ℕ, List, map, Ok, Err, IfOk, IfErr, OnOk};
+ghost use Rattle.toml.specs.View.{view, table_view};
+ghost use Rattle.net_data.specs.Network.{Network};
+ghost use Rattle.net_text.specs.Faults.{Answer};
+ghost use Rattle.net_text.specs.Keys.{text_of};
+ghost use Rattle.net_text.specs.Entries.{entry_of};
+ghost use Rattle.net_text.specs.Reading.{Says, network_of, apply_all, apply_entry as entry_applied, apply_entries as entries_applied, start as started, build as built};
+ghost use Rattle.net_text.specs.Shown.{held};
+
+use crate::entries::read_entry;
+use crate::faults::{Key, LoadFault};
+use crate::keys::{Fields, read_fields, text_in};
+use net_data::events::{Event, Refusal};
+use net_data::nets::Net;
+use std::alloc::Global;
+use toml::{Table, Value};
+
+/// Applies each event in turn, up to the first refusal.
+fn apply_events(alloc: Global, net: &mut Net, events: &[Event]) -> Result<(), Refusal>
+    ensures ok { OnOk result (apply_all net.old events.now ≡ Ok net.new) }
+    ensures err { IfErr result (λ e. e ≢ Refusal.OutOfMemory → apply_all net.old events.now ≡ Err e) }
+{
+    for event in events {
+        net.apply(alloc, event)?;
+    }
+    Ok(())
+}
+
+/// Applies one entry: `BadLine` where it can't be read, `Refused` where an event of it is refused.
+fn apply_entry(
+    alloc: Global,
+    net: &mut Net,
+    key: Key,
+    one: bool,
+    place: usize,
+    text: &[u8],
+) -> Result<(), LoadFault>
+    ensures ok { OnOk result (entry_applied key place net.old (entry_of key one text.now) ≡ Ok net.new) }
+    ensures err { IfErr result (λ e. e ≢ LoadFault.OutOfMemory → entry_applied key place net.old (entry_of key one text.now) ≡ Err e) }
+{
+    let events = match read_entry(alloc, key, one, text) {
+        Ok(Some(events)) => events,
+        Ok(None) => return Err(LoadFault::BadLine(key, place)),
+        Err(_) => return Err(LoadFault::OutOfMemory),
+    };
+    match apply_events(alloc, net, events.as_slice()) {
+        Ok(()) => Ok(()),
+        Err(Refusal::OutOfMemory) => Err(LoadFault::OutOfMemory),
+        Err(refusal) => Err(LoadFault::Refused(key, place, refusal)),
+    }
+}
+
+/// Applies the entries of an array, up to the first fault.
+fn apply_entries(
+    alloc: Global,
+    net: &mut Net,
+    key: Key,
+    one: bool,
+    values: &[Value],
+) -> Result<(), LoadFault>
+    ensures ok { OnOk result (entries_applied key one 1 net.old (map (λ v. text_of (view v)) values.now) ≡ Ok net.new) }
+    ensures err { IfErr result (λ e. e ≢ LoadFault.OutOfMemory → entries_applied key one 1 net.old (map (λ v. text_of (view v)) values.now) ≡ Err e) }
+{
+    for (i, value) in values.iter().enumerate() {
+        if let Err(fault) = apply_entry(alloc, net, key, one, i + 1, text_in(value).as_bytes()) {
+            return Err(fault);
+        }
+    }
+    Ok(())
+}
+
+/// The empty network with its network indicator and its option `tfr`.
+fn start(alloc: Global, fields: &Fields) -> Result<Net, LoadFault>
+    requires { fields.now.ni ≤ 3 }
+    ensures ok { IfOk result (λ net. net ≡ started (held fields.now)) }
+    ensures err { IfErr result (λ e. e ≡ LoadFault.OutOfMemory) }
+{
+    let mut net = Net::empty(alloc, fields.ni);
+    match net.apply(alloc, &Event::SetTfr(fields.tfr)) {
+        Ok(()) => Ok(net),
+        Err(_) => Err(LoadFault::OutOfMemory),
+    }
+}
+
+/// The network of the entries, or their first fault, with their places counted from 1.
+fn build(alloc: Global, fields: &Fields) -> Result<Net, LoadFault>
+    requires { fields.now.ni ≤ 3 }
+    ensures ok { IfOk result (λ net. built (held fields.now) ≡ Ok net) }
+    ensures err { IfErr result (λ e. e ≢ LoadFault.OutOfMemory → built (held fields.now) ≡ Err e) }
+{
+    let mut net = start(alloc, fields)?;
+    apply_entries(alloc, &mut net, Key::Points, fields.one, fields.points)?;
+    apply_entries(alloc, &mut net, Key::Pairs, fields.one, fields.pairs)?;
+    apply_entries(alloc, &mut net, Key::Sets, fields.one, fields.sets)?;
+    apply_entries(alloc, &mut net, Key::Plans, fields.one, fields.plans)?;
+    Ok(net)
+}
+
+/// What a document says: all keys are read before the first entry.
+fn read_table(alloc: Global, table: &Table) -> Result<Net, LoadFault>
+    ensures ok { IfOk result (λ net. network_of (table_view table.now) ≡ Ok net) }
+    ensures err { IfErr result (λ e. e ≢ LoadFault.OutOfMemory → network_of (table_view table.now) ≡ Err e) }
+{
+    let fields = read_fields(table)?;
+    build(alloc, &fields)
+}
+
+/// The network that a text says. The error is the text's first fault: `NotToml`, `BadKey`, `BadLine` or `Refused`, in the
+/// order of the crate's rules, or `OutOfMemory`; never `Read`.
+pub fn load(alloc: Global, text: &[u8]) -> Result<Net, LoadFault>
+    ensures ok { IfOk result (λ net. Says text.now (Ok net)) }
+    ensures err { IfErr result (λ e. e ≢ LoadFault.OutOfMemory → Says text.now (Err e)) }
+    ensures never_read { result ≢ Err LoadFault.Read }
+{
+    match toml::table_from_slice(alloc, text) {
+        Ok(table) => match read_table(alloc, &table) {
+            Ok(net) => Ok(net),
+            Err(fault) => Err(fault),
+        },
+        Err(e) => {
+            if e.is_memory() {
+                return Err(LoadFault::OutOfMemory);
+            }
+            Err(LoadFault::NotToml)
+        }
+    }
+}
+
+/// The law: a text says at most one answer, so what `load` answers is the answer.
+pub fn says_one_answer()
+    ensures { (text : List ℕ) (a b : Answer Network) → Says text a → Says text b → a ≡ b }
+{}

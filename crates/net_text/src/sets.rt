@@ -1,0 +1,112 @@
+//! Entries of sets: a set with its links, and the events that build it.
+
+ghost use Rattle.std.specs.Prelude.{◌≡◌, ◌++◌, map, IfOk, OnOk};
+ghost use Rattle.point_codes.specs.Codes.{code_of};
+ghost use Rattle.tokens.specs.Numbers.{id_of};
+ghost use Rattle.tokens.specs.Marked.{marked_of};
+ghost use Rattle.tokens.specs.Pieces.{all_of};
+ghost use Rattle.net_text.specs.Entries.{set_of, set_from, is_needed, changes_of, set_events};
+
+use link_state::{End, LinkChange, Marks};
+use net_data::events::Event;
+use net_items::{Link, LinkSet, Links, Slcs};
+use std::alloc::{AllocError, Global};
+use tokens::{read_code, read_id, read_marked};
+
+/// The links of a set, with their marks. `None` where a word is no MARKED.
+fn read_links(alloc: Global, one: bool, words: &[&[u8]]) -> Result<Option<Links>, AllocError>
+    ensures { IfOk result (λ links. links ≡ all_of (marked_of one) (map (λ w. w.now) words.now)) }
+{
+    let mut links = Vec::with_capacity(alloc, words.len())?;
+    for word in words {
+        match read_marked(one, *word) {
+            Some(link) => links.push(link)?,
+            None => return Ok(None),
+        }
+    }
+    Ok(Some(Links::from_vec(links)))
+}
+
+/// A set of these words, with these links.
+fn set_with(id: &[u8], a: &[u8], b: &[u8], links: Links) -> Option<LinkSet>
+    ensures { result ≡ set_from links (id_of id.now) (code_of a.now) (code_of b.now) }
+{
+    let id = read_id(id)?;
+    let a = read_code(a)?;
+    let b = read_code(b)?;
+    Some(LinkSet { id, a, b, links })
+}
+
+/// An entry `ID CODE CODE MARKED MARKED ..`.
+pub fn read_set(alloc: Global, one: bool, words: &[&[u8]]) -> Result<Option<LinkSet>, AllocError>
+    ensures { IfOk result (λ set. set ≡ set_of one (map (λ w. w.now) words.now)) }
+{
+    match words {
+        [id, a, b, links @ ..] => {
+            if links.is_empty() {
+                return Ok(None);
+            }
+            match read_links(alloc, one, links)? {
+                Some(links) => Ok(set_with(*id, *a, *b, links)),
+                None => Ok(None),
+            }
+        }
+        [] => Ok(None),
+        [_] => Ok(None),
+        [_, _] => Ok(None),
+    }
+}
+
+/// Whether a new link needs the change to have these marks.
+fn is_needed_by(change: LinkChange, marks: Marks) -> bool
+    ensures { result ≡ is_needed change marks }
+{
+    match change {
+        LinkChange::Restore => !marks.failed,
+        LinkChange::Block(End::First) => marks.blocked_a,
+        LinkChange::Block(End::Second) => marks.blocked_b,
+        LinkChange::Inhibit(End::First) => marks.inhibited_a,
+        LinkChange::Inhibit(End::Second) => marks.inhibited_b,
+        LinkChange::Fail | LinkChange::Unblock(_) | LinkChange::Uninhibit(_) => false,
+    }
+}
+
+/// Adds the change for each link that needs it.
+fn add_changes(
+    events: &mut Vec<Event>,
+    id: u16,
+    links: &[Link],
+    change: LinkChange,
+) -> Result<(), AllocError>
+    ensures { OnOk result (events.new.items ≡ events.old.items ++ changes_of id links.now change) }
+{
+    for link in links {
+        if is_needed_by(change, link.marks) {
+            events.push(Event::Link(id, link.slc, change))?;
+        }
+    }
+    Ok(())
+}
+
+/// The signalling link codes of links.
+fn slcs_of(alloc: Global, links: &[Link]) -> Result<Vec<u8>, AllocError>
+    ensures { IfOk result (λ slcs. slcs.items ≡ map (λ l. l.slc) links.now) }
+{
+    links.iter().map(|link| link.slc).collect(alloc)
+}
+
+/// The events that build a set: it is added, then its links, which are failed alone, get their marks.
+pub fn events_of_set(alloc: Global, set: &LinkSet) -> Result<Vec<Event>, AllocError>
+    ensures { IfOk result (λ events. events.items ≡ set_events set.now) }
+{
+    let links = set.links.as_slice();
+    let slcs = Slcs::from_vec(slcs_of(alloc, links)?);
+    let mut events = Vec::new(alloc);
+    events.push(Event::AddSet(set.id, set.a, set.b, slcs))?;
+    add_changes(&mut events, set.id, links, LinkChange::Restore)?;
+    add_changes(&mut events, set.id, links, LinkChange::Block(End::First))?;
+    add_changes(&mut events, set.id, links, LinkChange::Block(End::Second))?;
+    add_changes(&mut events, set.id, links, LinkChange::Inhibit(End::First))?;
+    add_changes(&mut events, set.id, links, LinkChange::Inhibit(End::Second))?;
+    Ok(events)
+}

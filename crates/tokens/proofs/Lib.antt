@@ -1,0 +1,4 @@
+pub mod PiecesLemmas
+pub mod MarkedLemmas
+pub mod RowLemmas
+pub mod WordsLemmas

@@ -1,0 +1,101 @@
+//! MARKED: a link with its marks, in the two formats of a network text.
+
+ghost use Rattle.std.specs.Prelude.{◌≡◌, ℕ, ◌<◌, ◌≤◌, ◌↔◌, Bool, not, List, length, drop, if◌then◌else◌, Some, IfSome, position};
+ghost use Rattle.std.specs.Char.{is_ascii_digit};
+ghost use Rattle.net_items.specs.declared.links.Link.{Link};
+ghost use Rattle.tokens.specs.Marked.{starts_with, marks_in_one, marks_in_two, digits_len, marked_of, marked_text, IsMarked};
+
+use crate::numbers::read_slc;
+use link_state::Marks;
+use net_items::Link;
+
+/// Whether a word stands at the front, and what comes after it.
+fn take_word<'a>(text: &'a [u8], word: &[u8]) -> (bool, &'a [u8])
+    ensures stands { result.0 ≡ starts_with word.now text.entry.now }
+    ensures rest { result.1.now ≡ (if starts_with word.now text.entry.now then drop (length word.now) text.entry.now else text.entry.now) }
+{
+    let n = word.len();
+    if n <= text.len() && &text[..n] == word {
+        (true, &text[n..])
+    } else {
+        (false, text)
+    }
+}
+
+/// Marks as format 1 writes them.
+fn read_marks_one(text: &[u8]) -> Option<Marks>
+    ensures { result ≡ marks_in_one text.now }
+{
+    let (failed, text) = take_word(text, b"f".as_slice());
+    let (blocked_a, text) = take_word(text, b"b".as_slice());
+    let (inhibited_a, text) = take_word(text, b"i".as_slice());
+    match text {
+        [] => Some(Marks {
+            failed,
+            blocked_a,
+            blocked_b: false,
+            inhibited_a,
+            inhibited_b: false,
+        }),
+        [_, ..] => None,
+    }
+}
+
+/// Marks as format 2 writes them.
+fn read_marks_two(text: &[u8]) -> Option<Marks>
+    ensures { result ≡ marks_in_two text.now }
+{
+    let (failed, text) = take_word(text, b"f".as_slice());
+    let (blocked_a, text) = take_word(text, b"ba".as_slice());
+    let (blocked_b, text) = take_word(text, b"bb".as_slice());
+    let (inhibited_a, text) = take_word(text, b"ia".as_slice());
+    let (inhibited_b, text) = take_word(text, b"ib".as_slice());
+    match text {
+        [] => Some(Marks {
+            failed,
+            blocked_a,
+            blocked_b,
+            inhibited_a,
+            inhibited_b,
+        }),
+        [_, ..] => None,
+    }
+}
+
+/// Where the first byte that is no digit stands.
+fn find_no_digit(text: &[u8]) -> Option<usize>
+    ensures place { result ≡ position (λ b. not (is_ascii_digit b)) text.now }
+    ensures within { IfSome result (λ i. i < length text.now) }
+{
+    text.iter().position(|b| !b.is_ascii_digit())
+}
+
+/// How many digits stand at the front.
+fn count_digits(text: &[u8]) -> usize
+    ensures len { result ≡ digits_len text.now }
+    ensures within { result ≤ length text.now }
+{
+    match find_no_digit(text) {
+        Some(n) => n,
+        None => text.len(),
+    }
+}
+
+/// The link that a token is, in format 1 or else in format 2.
+pub fn read_marked(one: bool, text: &[u8]) -> Option<Link>
+    ensures { result ≡ marked_of one text.now }
+{
+    let n = count_digits(text);
+    let slc = read_slc(&text[..n])?;
+    let marks = if one {
+        read_marks_one(&text[n..])?
+    } else {
+        read_marks_two(&text[n..])?
+    };
+    Some(Link { slc, marks })
+}
+
+/// The tokens of links with marks are exactly what is written of the links that the format can say.
+pub fn marked_tokens()
+    ensures { (one : Bool) (link : Link) (text : List ℕ) → (marked_of one text ≡ Some link) ↔ (IsMarked one link × (text ≡ marked_text one link)) }
+{}

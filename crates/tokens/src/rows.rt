@@ -1,0 +1,104 @@
+//! ROW: a row of a plan.
+
+ghost use Rattle.std.specs.Prelude.{◌≡◌, ℕ, ◌↔◌, List, option_map, Some, IfOk};
+ghost use Rattle.net_items.specs.declared.lists.Row.{Row};
+ghost use Rattle.tokens.specs.Rows.{vias_of, classes_of, flag_of, parts_of, row_of, row_text, IsRow};
+
+use crate::numbers::{read_code, read_rank};
+use net_items::{Classes, Row, Vias};
+use point_codes::{PointCode, split_at_byte};
+use std::alloc::{AllocError, Global};
+
+/// The vias of a class: codes joined by `+`.
+fn read_vias(alloc: Global, text: &[u8]) -> Result<Option<Vias>, AllocError>
+    ensures { IfOk result (λ vias. vias ≡ vias_of text.now) }
+{
+    let mut vias = Vec::new(alloc);
+    let mut rest = text;
+    while let Some((first, after)) = split_at_byte(rest, b'+') {
+        match read_code(first) {
+            Some(code) => vias.push(code)?,
+            None => return Ok(None),
+        }
+        rest = after;
+    }
+    match read_code(rest) {
+        Some(code) => vias.push(code)?,
+        None => return Ok(None),
+    }
+    Ok(Some(Vias::from_vec(vias)))
+}
+
+/// The classes of a row: none, or joined by `/`.
+fn read_classes(alloc: Global, text: &[u8]) -> Result<Option<Classes>, AllocError>
+    ensures { IfOk result (λ classes. classes ≡ classes_of text.now) }
+{
+    let mut classes = Vec::new(alloc);
+    if text.is_empty() {
+        return Ok(Some(Classes::from_vec(classes)));
+    }
+    let mut rest = text;
+    while let Some((first, after)) = split_at_byte(rest, b'/') {
+        match read_vias(alloc, first)? {
+            Some(vias) => classes.push(vias)?,
+            None => return Ok(None),
+        }
+        rest = after;
+    }
+    match read_vias(alloc, rest)? {
+        Some(vias) => classes.push(vias)?,
+        None => return Ok(None),
+    }
+    Ok(Some(Classes::from_vec(classes)))
+}
+
+/// The text of the classes, and whether `:m` comes after it.
+fn take_flag(text: &[u8]) -> Option<(&[u8], bool)>
+    ensures { option_map (λ p. (p.0.now, p.1)) result ≡ flag_of text.entry.now }
+{
+    match split_at_byte(text, b':') {
+        Some((classes, flag)) => {
+            if flag == b"m".as_slice() {
+                Some((classes, true))
+            } else {
+                None
+            }
+        }
+        None => Some((text, false)),
+    }
+}
+
+/// The parts of a row.
+fn split_row(text: &[u8]) -> Option<(PointCode, u8, &[u8], bool)>
+    ensures { option_map (λ p. (p.0, p.1, p.2.now, p.3)) result ≡ parts_of text.entry.now }
+{
+    let (code, rest) = split_at_byte(text, b':')?;
+    let (rank, tail) = split_at_byte(rest, b':')?;
+    let (classes, mate) = take_flag(tail)?;
+    let point = read_code(code)?;
+    let rank = read_rank(rank)?;
+    Some((point, rank, classes, mate))
+}
+
+/// The row that a token is.
+pub fn read_row(alloc: Global, text: &[u8]) -> Result<Option<Row>, AllocError>
+    ensures { IfOk result (λ row. row ≡ row_of text.now) }
+{
+    match split_row(text) {
+        Some((point, rank, classes, mate)) => match read_classes(alloc, classes)? {
+            Some(classes) => Ok(Some(Row {
+                point,
+                rank,
+                classes,
+                mate,
+            })),
+            None => Ok(None),
+        },
+        None => Ok(None),
+    }
+}
+
+/// The rows' tokens are exactly what is written of rows with vias in each class.
+pub fn row_tokens()
+    ensures { (row : Row) (text : List ℕ) → (row_of text ≡ Some row) ↔ (IsRow row × (text ≡ row_text row)) }
+{}

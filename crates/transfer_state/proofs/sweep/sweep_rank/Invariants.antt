@@ -1,0 +1,6 @@
+use Rattle.excerpts.specs.Excerpts.{source_of}
+use Rattle.transfer_state.proofs.Sweeping.{IsSwept}
+use Rattle.transfer_state.proofs.sweep.sweep_rank.Given as goal
+
+abbrev pub invariant-loop-i : goal.invariant-loop-i
+invariant-loop-i l = IsSwept (source_of l.e) l.statuses l.rank l.i

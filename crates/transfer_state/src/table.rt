@@ -1,0 +1,50 @@
+//! The table of an excerpt, and its rows.
+
+ghost use Rattle.std.specs.Prelude.{◌≡◌, ◌==◌, find, IfOk};
+ghost use Rattle.std.specs.Option.{option_copied};
+ghost use Rattle.profile.specs.Whole.{scratch};
+ghost use Rattle.excerpts.specs.Excerpts.{source_of};
+
+use crate::states::{links_of, messages_of};
+use crate::sweep::{choice_of, rows_of, statuses};
+use excerpts::Excerpt;
+use point_codes::PointCode;
+use profile::tables::{RowState, RowStates, Table};
+use std::alloc::{AllocError, Global};
+
+/// The table of an excerpt, from scratch (own, after Q.704 clauses 2.3 and 13.2 to 13.4). It fails where memory is
+/// refused.
+pub fn table_of(alloc: Global, e: &Excerpt) -> Result<Table, AllocError>
+    ensures { IfOk result (λ table. table ≡ scratch (source_of e.now)) }
+{
+    e.validity();
+    let statuses = statuses(alloc, e)?;
+    let rows = rows_of(e);
+    let mut list = Vec::with_capacity(alloc, rows.len())?;
+    for row in rows {
+        let choice = choice_of(e, &statuses, row);
+        let links = links_of(e, row, &choice);
+        let messages = messages_of(alloc, e, row, &choice)?;
+        list.push(RowState {
+            point: row.point,
+            choice,
+            links,
+            messages,
+        })?;
+    }
+    Ok(Table {
+        dest: e.dest(),
+        rows: RowStates::from_vec(list),
+    })
+}
+
+/// The state of a point's row in a table, if it has one.
+pub fn find_row(table: &Table, point: PointCode) -> Option<&RowState>
+    ensures { option_copied result ≡ find (λ state. state.point == point) table.now.rows }
+{
+    table
+        .rows
+        .as_slice()
+        .iter()
+        .find(|state| state.point == point)
+}
