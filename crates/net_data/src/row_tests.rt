@@ -1,20 +1,21 @@
-//! What stands in a network, found in its lists.
+//! What is asked of a row of a plan.
 
-ghost use Rattle.std.specs.Prelude.{◌≡◌, length, ◌==◌, ◌||◌, not, IfOk, IfErr, is_some};
+ghost use Rattle.std.specs.Prelude.{◌≡◌, length, ◌==◌, ◌||◌, not, false};
 ghost use Rattle.std.specs.List.{list_all};
-ghost use Rattle.std.specs.Option.{option_copied};
+ghost use Rattle.std.specs.Option.{option_map_or};
 ghost use Rattle.net_data.specs.Ranks.{IsRanks};
 ghost use Rattle.net_items.specs.Keyed.{IsRising, IsFoundAt, IsGapAt};
 ghost use Rattle.net_items.specs.Lookups.{point_at, has_point, is_stp as stp, mate_of as mate, set_between, joined, row_at};
 ghost use Rattle.net_data.specs.Valid.{all_vias, any_via, is_mate as mate_is, is_lower as lower, is_free as free, is_small_class as small_class, has_mate_row as mate_row, is_small_row as small_row};
 
 use crate::ranks::{has_lower, has_same};
-use crate::sets::Sets;
+use crate::sets::{Around, Sets};
 use net_items::items::Point;
 use net_items::lists::{Row, Vias};
 use net_items::lookups::{is_stp, mate_of};
 use point_codes::PointCode;
 
+/// Whether a point is the mate of another.
 pub fn is_mate(points: &[Point], y: PointCode, z: PointCode) -> bool
     requires { IsRising (λ p. p.code) points.now }
     ensures { result ≡ mate_is points.now y z }
@@ -25,21 +26,29 @@ pub fn is_mate(points: &[Point], y: PointCode, z: PointCode) -> bool
     }
 }
 
-fn are_joined(sets: &Sets, y: PointCode, vias: &[PointCode]) -> bool
-    ensures { result ≡ list_all (joined sets.now y) vias.now }
+fn are_joined(around: &Around<'_>, vias: &[PointCode]) -> bool
+    ensures { result ≡ list_all (joined around.now.sets around.now.point) vias.now }
 {
-    vias.iter().all(|z| sets.is_joined(y, *z))
+    vias.iter().all(|z| around.is_joined(*z))
 }
 
+fn are_classes_joined(around: &Around<'_>, classes: &[Vias]) -> bool
+    ensures { result ≡ list_all (λ vias. list_all (joined around.now.sets around.now.point) vias) classes.now }
+{
+    classes
+        .iter()
+        .all(|vias| are_joined(around, vias.as_slice()))
+}
+
+/// Whether a set joins the row's point with each of its vias.
 pub fn are_vias_joined(sets: &Sets, row: &Row) -> bool
     ensures { result ≡ all_vias (joined sets.now row.now.point) row.now }
 {
-    row.classes
-        .as_slice()
-        .iter()
-        .all(|vias| are_joined(sets, row.point, vias.as_slice()))
+    let around = sets.around(row.point);
+    are_classes_joined(&around, row.classes.as_slice())
 }
 
+/// Whether a via leads to the destination, or to a transfer point with a row of lower rank.
 pub fn is_lower(
     points: &[Point],
     dest: PointCode,
@@ -101,27 +110,41 @@ pub fn are_vias_lower(
     ))
 }
 
-pub fn is_free(points: &[Point], dest: PointCode, y: PointCode, z: PointCode) -> bool
-    requires { IsRising (λ p. p.code) points.now }
-    ensures { result ≡ free points.now dest y z }
+/// Whether a point is the destination, or isn't that mate.
+fn is_free_of(mate: Option<PointCode>, dest: PointCode, z: PointCode) -> bool
+    ensures { result ≡ (z == dest || not (option_map_or (λ m. m == z) mate false)) }
 {
-    z == dest || !is_mate(points, y, z)
+    match mate {
+        Some(mate) => z == dest || mate != z,
+        None => true,
+    }
 }
 
-fn are_no_mates(points: &[Point], dest: PointCode, y: PointCode, vias: &[PointCode]) -> bool
-    requires { IsRising (λ p. p.code) points.now }
-    ensures { result ≡ list_all (free points.now dest y) vias.now }
+fn are_no_mates(mate: Option<PointCode>, dest: PointCode, vias: &[PointCode]) -> bool
+    ensures { result ≡ list_all (λ z. z == dest || not (option_map_or (λ m. m == z) mate false)) vias.now }
 {
-    vias.iter().all(|z| is_free(points, dest, y, *z))
+    vias.iter().all(|z| is_free_of(mate, dest, *z))
 }
 
+fn are_classes_no_mates(mate: Option<PointCode>, dest: PointCode, classes: &[Vias]) -> bool
+    ensures { result ≡ list_all (λ vias. list_all (λ z. z == dest || not (option_map_or (λ m. m == z) mate false)) vias) classes.now }
+{
+    classes
+        .iter()
+        .all(|vias| are_no_mates(mate, dest, vias.as_slice()))
+}
+
+/// Whether no via is the row point's mate, unless that is the destination.
 pub fn are_vias_no_mates(points: &[Point], dest: PointCode, row: &Row) -> bool
     requires { IsRising (λ p. p.code) points.now }
     ensures { result ≡ all_vias (free points.now dest row.now.point) row.now }
 {
-    row.classes.as_slice().iter().all(|vias| are_no_mates(points, dest, row.point, vias.as_slice()))
+    let mate = mate_of(points, row.point);
+    are_classes_no_mates(mate, dest, row.classes.as_slice())
 }
 
+/// Whether the row's point is a transfer point whose mate is joined to it, is not the destination and has a row of the
+/// same rank.
 pub fn has_mate_row(
     points: &[Point],
     sets: &Sets,
