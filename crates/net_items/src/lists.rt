@@ -1,11 +1,12 @@
 //! Lists inside plain data, each a small type that a contract sees as a list.
 
-ghost use Rattle.std.specs.Prelude.{◌≡◌, ◌<◌, List, ℕ, length, slice_set, OnOk, OnErr, IfOk, IfErr, is_some, true};
+ghost use Rattle.std.specs.Prelude.{◌≡◌, ◌<◌, ◌++◌, ◌∷◌, [], List, ℕ, length, slice_set, OnOk, OnErr, IfOk, IfErr, is_some, true};
 ghost use Rattle.net_items.specs.Keyed.{IsRising, IsFoundAt, IsGapAt, at_key, put, without};
 
 use crate::links::Link;
 use point_codes::PointCode;
-use std::alloc::AllocError;
+use smallvec::SmallVec;
+use std::alloc::{AllocError, Global};
 use std::marker::Model;
 
 /// Where a link is, or would go.
@@ -91,10 +92,10 @@ impl Links {
     }
 }
 
-/// The vias of a class in order of priority.
+/// The vias of a class in order of priority. Two of them need no memory.
 #[derive(Debug, Drop)]
 pub struct Vias {
-    list: Vec<PointCode>,
+    list: SmallVec<PointCode, 2>,
 }
 
 impl Model for Vias {
@@ -104,12 +105,34 @@ impl Model for Vias {
 }
 
 impl Vias {
-    pub fn from_vec(list: Vec<PointCode>) -> Vias
-        ensures { result ≡ list.items }
+    /// No vias.
+    pub fn new(alloc: Global) -> Vias
+        ensures { result ≡ [] }
     {
-        Vias { list }
+        Vias {
+            list: SmallVec::new(alloc),
+        }
     }
 
+    /// A copy of these vias.
+    pub fn from_slice(alloc: Global, vias: &[PointCode]) -> Result<Vias, AllocError>
+        ensures { IfOk result (λ l. l ≡ vias.now) }
+    {
+        Ok(Vias {
+            list: SmallVec::from_slice(alloc, vias)?,
+        })
+    }
+
+    /// Adds a via at the end.
+    pub fn push(&mut self, via: PointCode) -> Result<(), AllocError>
+        ensures ok { OnOk result (self.new ≡ self.old ++ via ∷ []) }
+        ensures err { OnErr result (self.new ≡ self.old) }
+    {
+        self.list.push(via)?;
+        Ok(())
+    }
+
+    /// The vias as a slice.
     pub fn as_slice(&self) -> &[PointCode]
         ensures { result.now ≡ self.now }
     {

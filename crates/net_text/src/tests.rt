@@ -22,7 +22,7 @@ fn code(text: &str) -> Result<PointCode, Fail> {
 /// The plan that leads 2-1-1 straight to the destination.
 fn new_plan(alloc: Global, dest: PointCode, point: PointCode) -> Result<Event, AllocError> {
     let mut classes = Vec::new(alloc);
-    classes.push(Vias::from_vec(Vec::from_slice(alloc, &[dest])?))?;
+    classes.push(Vias::from_slice(alloc, &[dest])?)?;
     let mut rows = Vec::new(alloc);
     rows.push(Row {
         point,

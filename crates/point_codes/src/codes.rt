@@ -10,7 +10,7 @@ use std::marker::Model;
 use thiserror::Error;
 
 /// A signalling point code of 14 bits.
-#[derive(Clone, Copy, Debug, PartialEq, Eq, PartialOrd, Ord)]
+#[derive(Clone, Copy, Debug, Default, PartialEq, Eq, PartialOrd, Ord)]
 pub struct PointCode {
     number: u16,
 }

@@ -16,8 +16,8 @@ fn new_row(alloc: Global) -> Result<Row, Fail>
     ensures few { IfOk result (λ row. length row.classes ≤ 4) }
     ensures small { IfOk result (λ row. All (λ vias. length vias ≤ 2) row.classes) }
 {
-    let first = Vias::from_vec([code(2)?, code(3)?].to_vec(alloc)?);
-    let second = Vias::from_vec([code(4)?].to_vec(alloc)?);
+    let first = Vias::from_slice(alloc, &[code(2)?, code(3)?])?;
+    let second = Vias::from_slice(alloc, &[code(4)?])?;
     let mut classes = Vec::new(alloc);
     classes.push(first)?;
     classes.push(second)?;

@@ -13,7 +13,7 @@ use std::alloc::{AllocError, Global};
 fn read_vias(alloc: Global, text: &[u8]) -> Result<Option<Vias>, AllocError>
     ensures { IfOk result (λ vias. vias ≡ vias_of text.now) }
 {
-    let mut vias = Vec::new(alloc);
+    let mut vias = Vias::new(alloc);
     let mut rest = text;
     while let Some((first, after)) = split_at_byte(rest, b'+') {
         match read_code(first) {
@@ -26,7 +26,7 @@ fn read_vias(alloc: Global, text: &[u8]) -> Result<Option<Vias>, AllocError>
         Some(code) => vias.push(code)?,
         None => return Ok(None),
     }
-    Ok(Some(Vias::from_vec(vias)))
+    Ok(Some(vias))
 }
 
 /// The classes of a row: none, or joined by `/`.

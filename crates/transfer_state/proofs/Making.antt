@@ -1,26 +1,19 @@
 -- Lists that are made one by one: links and rows.
-use Rattle.std.proofs.Common.{◌≡◌, ℕ, zero, suc, ◌+◌, ◌-◌, ◌<◌, ◌≤◌, List, [], ◌∷◌, ◌++◌, Option, Some, None, All, map, cond, eqb, Bool, true, false, not, ◌&&◌, refl, sym, ap, ◌∙◌, arith, length, get_or, set, drop}
+use Rattle.std.proofs.Common.{◌≡◌, ℕ, zero, suc, ◌+◌, ◌<◌, ◌≤◌, List, [], ◌∷◌, ◌++◌, Option, map, eqb, Bool, true, false, not, refl, sym, ap, ◌∙◌, arith, length, get_or, drop}
 use Rattle.std.proofs.lemmas.List.Elements.{filter-append}
 use Rattle.std.specs.Prelude.{filter}
 use Rattle.std.specs.List.{range_with_len}
-use Rattle.std.specs.Option.{IfSome}
 use Rattle.std.proofs.lemmas.List.{drop_more, drop_all, append_assoc, append-nil}
 use Rattle.route_choice.specs.declared.choices.Far.{Far}
 use Rattle.net_items.specs.declared.lists.Row.{Row}
-use Rattle.net_items.specs.declared.items.LinkSet.{LinkSet}
 use Rattle.profile.specs.declared.tables.LinkRef.{LinkRef}
 use Rattle.profile.specs.declared.tables.Message.{Message}
-
-use Rattle.link_sets.specs.Availability.{are_joined}
 use Rattle.profile.specs.Status.{Source}
 use Rattle.transfer_state.specs.Told.{KnowsBelow, AreStatuses}
 use Rattle.route_choice.specs.declared.choices.Choice.{Choice}
 use Rattle.profile.specs.Local.{message}
-use Rattle.link_sets.specs.Neighbours.{code_count, all_codes, neighbours, next_from, rest_from, IsCodeFrom}
-use Rattle.profile.specs.Whole.{messages_of, state_of, is_receiver}
-
-
-
+use Rattle.link_sets.specs.Neighbours.{neighbours}
+use Rattle.profile.specs.Whole.{messages_of, state_of}
 
 -- a list is the map of a range, where each of its places has it
 pub from_each : {X : Type 0} (xs : List X) (d : X) (f : ℕ → X) (a n : ℕ) → length xs ≡ n → ((k : ℕ) → k < n → get_or xs k d ≡ f (a + k)) → xs ≡ map f (range_with_len a n)

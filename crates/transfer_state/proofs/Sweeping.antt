@@ -1,17 +1,16 @@
 -- The statuses of a table, rank by rank.
-use Rattle.std.proofs.Common.{◌≡◌, ◌≢◌, ℕ, zero, suc, ◌+◌, ◌<◌, ◌≤◌, List, [], ◌∷◌, Option, Some, None, All, get_or, set, drop, map, cond, eqb, Bool, true, false, refl, sym, ap, ◌∙◌, arith, inl, inr, ◌⊎◌, subst, length, slice_get, below_more}
-use Rattle.std.proofs.lemmas.List.{drop_more, drop_all, get_or-set_other, get_or-set_same, get_or_read, length-set}
+use Rattle.std.proofs.Common.{◌≡◌, ◌≢◌, ℕ, zero, suc, ◌+◌, ◌<◌, ◌≤◌, List, [], ◌∷◌, Option, Some, None, All, get_or, set, map, cond, eqb, Bool, true, false, refl, sym, ap, ◌∙◌, arith, inl, inr, ◌⊎◌, subst, length, slice_get, below_more}
+use Rattle.std.proofs.lemmas.List.{get_or-set_other, get_or-set_same, get_or_read, length-set}
 use Rattle.std.proofs.lemmas.List.Elements.{All-weaker}
-use Rattle.std.proofs.lemmas.Bool.{cond-true, cond-false, eqb-true, eq-eqb, ne_eqb, cases_eq}
+use Rattle.std.proofs.lemmas.Bool.{eqb-true, eq-eqb, ne_eqb, cases_eq}
 use Rattle.route_choice.specs.declared.choices.Far.{Far}
 use Rattle.route_choice.specs.declared.choices.Far.TheVariants.{Allowed, Prohibited}
 use Rattle.net_items.specs.declared.lists.Row.{Row}
-use Rattle.route_choice.specs.Routes.{Offer, offered_in, offered, direct}
+use Rattle.route_choice.specs.Routes.{Offer, offered_in, offered}
 use Rattle.route_choice.specs.declared.choices.Choice.{Choice}
 use Rattle.std.specs.Prelude.{find, slice_get}
-use Rattle.std.proofs.lemmas.Option.{same_Some, slice_get_within, get_or_from_slice_get}
-use Rattle.link_sets.specs.Availability.{are_joined}
-use Rattle.profile.specs.Status.{Source, row_of, rank_of, offers, mate_offer, choice_by, choice, status}
+use Rattle.std.proofs.lemmas.Option.{same_Some, slice_get_within}
+use Rattle.profile.specs.Status.{Source, row_of, rank_of, choice_by, choice, status}
 use Rattle.transfer_state.specs.Told.{told, told_in, KnowsBelow, AreStatuses}
 use Rattle.profile.specs.Valid.{IsValid, IsValidRow, IsSmall}
 use Rattle.link_sets.proofs.Lists.{find_gives}
@@ -146,12 +145,6 @@ module _ (src : Source) (valid : IsValid src) where
 pub found_small : (rows : List Row) (p : Row → Bool) (row : Row) → All IsSmall rows → find p rows ≡ Some row → IsSmall row
 found_small rows p row small e = (find_gives p IsSmall rows row small e).1
 
--- what a mate offers
-pub mate_offer_from : (src : Source) (f : ℕ → Far) (row : Row) (point : ℕ) (mate : Row) (status : Far) → row.mate ≡ true → src.mate_of row.point ≡ Some point → row_of src point ≡ Some mate
-    → are_joined src.sets row.point mate.point ≡ true → status ≡ direct src.tfr (offers src f mate)
-    → Some (record { via = mate.point; far = status }) ≡ mate_offer src f row
-mate_offer_from src f row point mate status flag paired planned joined is = rw (flag, paired, planned, joined, is) refl
-
 -- the statuses of lower rank stand, and so do those of rank n in the places before i
 pub record IsSwept (src : Source) (statuses : List Far) (n i : ℕ) : Type 0 where
   pub together : length statuses ≡ length src.rows
@@ -203,10 +196,7 @@ module _ (src : Source) (valid : IsValid src) where
   pub nothing_swept : (statuses : List Far) (n : ℕ) → length statuses ≡ length src.rows → KnowsBelow src statuses n → IsSwept src statuses n 0
   nothing_swept statuses n together below = record { together = together; below = below; here = λ k r low there same_rank. absurd (omega arith) }
 
-  pub knows_first : (statuses : List Far) → KnowsBelow src statuses 1
-  knows_first statuses k r there low =
-      let ranked = (row_valid src valid r.point r (row_at_place src valid k r there)).1.ranked in absurd (omega arith)
-
+  -- all ranks are below 256
   pub known_all : (statuses : List Far) (n : ℕ) → 256 ≤ n → KnowsBelow src statuses n → AreStatuses src statuses
   known_all statuses n high knows k r there =
       let topped = (row_valid src valid r.point r (row_at_place src valid k r there)).1.topped in knows k r there (omega arith)

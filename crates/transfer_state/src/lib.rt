@@ -4,14 +4,17 @@
 //!    the ranks in rising order gives every status (own, after Q.704 clauses 13.2 to 13.4).
 //! 2. With the statuses in place each row has its choice, the link of each signalling link selection (Q.704 clause 2.3)
 //!    and, at a transfer point, its messages in force (Q.704 clauses 13.2 to 13.4).
-//! 3. A point that its messages' sender uses is told prohibited; other neighbours are told the status; the destination is
-//!    told nothing, and an end point tells nothing.
-//! 4. The table is that of the definitions of `profile`, from scratch.
+//! 3. A transfer point tells each neighbour but the destination: prohibited where it leads its own traffic over that
+//!    neighbour, and else its status. An end point tells nothing (Q.704 clauses 13.2 to 13.4).
+//! 4. The table is the one that the definitions of `profile` give from scratch.
 #![tactic(auto)]
 
-pub mod states;
-pub mod sweep;
+mod states;
+mod sweep;
 pub mod table;
 
 pub use profile::tables::{LinkRef, Message, Messages, RowState, RowStates, Table};
 pub use table::{find_row, table_of};
+
+#[cfg(test)]
+mod tests;

@@ -44,7 +44,7 @@ fn link_between(sets: &[LinkSet], y: PointCode, z: PointCode, t: u8) -> Option<L
 }
 
 /// The link that carries signalling link selection `s`, 0 to 15 (Q.704 clause 2.3).
-pub fn link_of(e: &Excerpt, row: &Row, choice: &Choice, s: u8) -> Option<LinkRef>
+fn link_of(e: &Excerpt, row: &Row, choice: &Choice, s: u8) -> Option<LinkRef>
     requires sls { s < 16 }
     requires small { IsSmall row.now }
     ensures { result ≡ link_by (source_of e.now) row.now choice.now s }
@@ -57,7 +57,7 @@ pub fn link_of(e: &Excerpt, row: &Row, choice: &Choice, s: u8) -> Option<LinkRef
 }
 
 /// The links of the sixteen signalling link selections.
-pub fn links_of(e: &Excerpt, row: &Row, choice: &Choice) -> [Option<LinkRef>; 16]
+pub(crate) fn links_of(e: &Excerpt, row: &Row, choice: &Choice) -> [Option<LinkRef>; 16]
     requires { IsSmall row.now }
     ensures { result ≡ (state_by (source_of e.now) row.now choice.now).links }
 {
@@ -85,7 +85,7 @@ fn is_member(z: PointCode, choice: &Choice) -> bool
 
 /// The message in force from a point with this choice to a point: prohibited where that point is used, and else the
 /// status (Q.704 clauses 13.2 to 13.4).
-pub fn message(choice: &Choice, z: PointCode) -> MsgKind
+fn message(choice: &Choice, z: PointCode) -> MsgKind
     ensures { result ≡ message_of choice.now z }
 {
     if is_member(z, choice) {
@@ -99,7 +99,7 @@ pub fn message(choice: &Choice, z: PointCode) -> MsgKind
 }
 
 /// The messages in force from a row's point, in rising code of the receiver: an end point sends none.
-pub fn messages_of(
+pub(crate) fn messages_of(
     alloc: Global,
     e: &Excerpt,
     row: &Row,

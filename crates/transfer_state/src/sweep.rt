@@ -16,7 +16,7 @@ use route_choice::{Choice, Far};
 use std::alloc::{AllocError, Global};
 
 /// The rows of an excerpt's plan.
-pub fn rows_of(e: &Excerpt) -> &[Row]
+pub(crate) fn rows_of(e: &Excerpt) -> &[Row]
     ensures { result.now ≡ e.now.plan.rows }
 {
     e.plan().rows.as_slice()
@@ -100,7 +100,7 @@ fn mate_offer(e: &Excerpt, statuses: &[Far], row: &Row) -> Option<(PointCode, Fa
 }
 
 /// What a row uses, by the statuses in the rows' places.
-pub fn choice_of(e: &Excerpt, statuses: &[Far], row: &Row) -> Choice
+pub(crate) fn choice_of(e: &Excerpt, statuses: &[Far], row: &Row) -> Choice
     requires together { length statuses.now ≡ length e.now.plan.rows }
     requires small { IsSmall row.now }
     ensures { result ≡ choice_by (source_of e.now) (told (source_of e.now) statuses.now) row.now }
@@ -127,7 +127,7 @@ fn sweep_rank(e: &Excerpt, statuses: &mut [Far], rank: u16)
 }
 
 /// The statuses of all rows, in their places.
-pub fn statuses(alloc: Global, e: &Excerpt) -> Result<Vec<Far>, AllocError>
+pub(crate) fn statuses(alloc: Global, e: &Excerpt) -> Result<Vec<Far>, AllocError>
     ensures each { IfOk result (λ statuses. AreStatuses (source_of e.now) statuses.items) }
     ensures together { IfOk result (λ statuses. length statuses.items ≡ length e.now.plan.rows) }
 {

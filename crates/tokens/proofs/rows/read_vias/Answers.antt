@@ -5,17 +5,17 @@ use Rattle.tokens.proofs.PiecesLemmas.{onto, read_more, read_none, read_last, re
 use Rattle.tokens.proofs.rows.read_vias.Goals as goal
 
 pub returns-in-None : goal.returns-in-None
-returns-in-None c = read_none 43 code_of c.loop-first.vias.items c.loop-first.rest.now _ _ _ (sym c.in-Some.ensures) (sym c.in-None.ensures) c.loop-first.invariant
+returns-in-None c = read_none 43 code_of c.loop-first.vias c.loop-first.rest.now _ _ _ (sym c.in-Some.ensures) (sym c.in-None.ensures) c.loop-first.invariant
 
 pub loop-first-preserved : goal.loop-first-preserved
 loop-first-preserved c =
-    ap (λ ys. onto ys (vias_of c.in-Some.after.now)) c.in_ok-push-in-Some-read_code.ensures.items
-    ∙ read_more 43 code_of c.loop-first.vias.items _ c.loop-first.rest.now _ _ _ (sym c.in-Some.ensures) (sym c.in-Some-read_code.ensures) c.loop-first.invariant
+    ap (λ ys. onto ys (vias_of c.in-Some.after.now)) c.in_ok-push-in-Some-read_code.ensures.ok
+    ∙ read_more 43 code_of c.loop-first.vias _ c.loop-first.rest.now _ _ _ (sym c.in-Some.ensures) (sym c.in-Some-read_code.ensures) c.loop-first.invariant
 
 pub returns-in-None-read_code : goal.returns-in-None-read_code
-returns-in-None-read_code c = read_last_none 43 code_of c.loop-first.vias.items c.loop-first.rest.now _ (sym c.in_default.ensures) (sym c.in-None-read_code.ensures) c.loop-first.invariant
+returns-in-None-read_code c = read_last_none 43 code_of c.loop-first.vias c.loop-first.rest.now _ (sym c.in_default.ensures) (sym c.in-None-read_code.ensures) c.loop-first.invariant
 
 pub returns : goal.returns
 returns c =
-    ap Some (c.from_vec.ensures ∙ c.in_ok-push-in-Some-read_code-2.ensures.items)
-    ∙ read_last 43 code_of c.loop-first.vias.items _ c.loop-first.rest.now _ (sym c.in_default.ensures) (sym c.in-Some-read_code-2.ensures) c.loop-first.invariant
+    ap Some (c.in_ok-push-in-Some-read_code-2.ensures.ok)
+    ∙ read_last 43 code_of c.loop-first.vias _ c.loop-first.rest.now _ (sym c.in_default.ensures) (sym c.in-Some-read_code-2.ensures) c.loop-first.invariant

@@ -1,5 +1,4 @@
-use Rattle.std.proofs.Common.{sym, ◌∙◌}
-use Rattle.profile.specs.Valid.{IsSmall}
+use Rattle.std.proofs.Common.{sym}
 use Rattle.excerpts.specs.Excerpts.{source_of}
 use Rattle.transfer_state.proofs.Sweeping.{found_small, rows_small}
 use Rattle.transfer_state.proofs.sweep.mate_offer.Goals as goal

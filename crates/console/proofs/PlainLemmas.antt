@@ -1,0 +1,66 @@
+-- Answers have no line feed before their end.
+use Rattle.std.proofs.Common.{◌≡◌, ℕ, ◌+◌, ◌/◌, ◌%◌, ◌^◌, ◌<◌, ◌≤◌, ◌==◌, Bool, true, false, cond, List, [], ◌∷◌, ◌++◌, Option, Some, ap, refl, ◌∙◌, arith, codes}
+use Rattle.std.proofs.lemmas.Bool.{and_parts}
+use Rattle.std.proofs.lemmas.Bool.Decides.{nat_tests}
+use Rattle.std.proofs.lemmas.List.Sums.{sum_by-append}
+use Rattle.std.proofs.lemmas.Fmt.{digits_decimal}
+use Rattle.std.proofs.lemmas.Str.Parse.{IsNumeralModel, numerals_by_value, tells_all_ascii_digits}
+use Rattle.std.specs.Char.{is_ascii_digit}
+use Rattle.std.specs.Fmt.{decimal}
+use Rattle.std.specs.Str.{all_ascii_digits}
+use Rattle.std.specs.Str.Parse.{digits_value}
+use Rattle.point_codes.specs.Codes.{code_text}
+use Rattle.route_choice.specs.declared.choices.Far.{Far}
+use Rattle.route_choice.specs.declared.choices.Far.TheVariants.{Allowed, Restricted, Prohibited}
+use Rattle.console.specs.Run.{line_count}
+use Rattle.console.specs.Status.{far_text, member_text}
+
+pub line_count-append : (a b : List ℕ) → line_count (a ++ b) ≡ line_count a + line_count b
+line_count-append a b = sum_by-append (λ x. cond (x == 10) 1 0) a b
+
+-- two parts without a line feed
+pub plain_both : (a b : List ℕ) → line_count a ≡ 0 → line_count b ≡ 0 → line_count (a ++ b) ≡ 0
+plain_both a b p q = let both = line_count-append a b in omega arith
+
+own : IsNumeralModel (λ ds. all_ascii_digits ds ≡ true) (digits_value 10)
+own = numerals_by_value _ tells_all_ascii_digits
+
+not_feed : (d : ℕ) → is_ascii_digit d ≡ true → line_count (d ∷ []) ≡ 0
+not_feed d h = grind (arith, nat_tests)
+
+plain_digits : (ds : List ℕ) → all_ascii_digits ds ≡ true → line_count ds ≡ 0
+plain_digits [] h = refl
+plain_digits (d ∷ ds) h =
+    let parts = and_parts (is_ascii_digit d) (all_ascii_digits ds) h in
+    plain_both (d ∷ []) ds (not_feed d parts.0) (plain_digits ds parts.1)
+
+-- a number
+pub plain_decimal : (n : ℕ) → n < 2 ^ 64 → line_count (decimal n) ≡ 0
+plain_decimal n small = plain_digits (decimal n) (digits_decimal own n small)
+
+-- a code
+pub plain_code : (n : ℕ) → n < 16384 → line_count (code_text n) ≡ 0
+plain_code n small =
+    let zone = plain_decimal (n / 2048) (omega arith) in
+    let area = plain_decimal (n / 8 % 256) (omega arith) in
+    let point = plain_decimal (n % 8) (omega arith) in
+    plain_both (decimal (n / 2048) ++ 45 ∷ decimal (n / 8 % 256)) (45 ∷ decimal (n % 8)) (plain_both (decimal (n / 2048)) (45 ∷ decimal (n / 8 % 256)) zone area) point
+
+-- a member
+pub plain_member : (member : Option ℕ) (code : ℕ) → member ≡ Some code → code < 16384 → line_count (member_text member) ≡ 0
+plain_member member code e small =
+    ap (λ m. line_count (member_text m)) e ∙ plain_both (32 ∷ []) (code_text code) refl (plain_code code small)
+
+-- a status
+pub plain_far : (far : Far) → line_count (far_text far) ≡ 0
+plain_far Allowed = refl
+plain_far Restricted = refl
+plain_far Prohibited = refl
+
+pub plain_head : (word : List ℕ) (class : ℕ) → line_count word ≡ 0 → class < 2 ^ 64
+    → line_count (codes "status " ++ (word ++ (codes " class " ++ (decimal class ++ codes " by")))) ≡ 0
+plain_head word class plain small =
+    let number = plain_both (decimal class) (codes " by") (plain_decimal class small) refl in
+    let rest = plain_both (codes " class ") (decimal class ++ codes " by") refl number in
+    plain_both (codes "status ") (word ++ (codes " class " ++ (decimal class ++ codes " by"))) refl
+    (plain_both word (codes " class " ++ (decimal class ++ codes " by")) plain rest)

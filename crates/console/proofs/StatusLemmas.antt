@@ -1,0 +1,22 @@
+-- The answer from an excerpt is the answer from the network.
+use Rattle.std.proofs.Common.{◌≡◌, ℕ, List, Option, Some, None, Ok, Err, sym, ap, refl, ◌∙◌, codes}
+use Rattle.std.specs.Option.{option_map}
+use Rattle.net_items.specs.declared.items.Plan.{Plan}
+use Rattle.net_data.specs.Network.{Network}
+use Rattle.profile.specs.Whole.{scratch}
+use Rattle.excerpts.specs.Excerpts.{Extract, IsAnswer, excerpt_of, source_of, network_source}
+use Rattle.excerpts.specs.declared.faults.ExcerptFault.TheVariants.{NoPlan, OutOfMemory}
+use Rattle.console.specs.Status.{row_in, row_answer, plan_answer}
+
+-- the plan of the excerpt is the one that was found
+pub with_plan : (net : Network) (y : ℕ) (found : Option Plan) (x : Extract) → IsAnswer (option_map (excerpt_of net) found) (Ok x)
+    → scratch (source_of x) ≡ scratch (network_source net x.plan) → row_answer (row_in (scratch (source_of x)) y) ≡ plan_answer net y found
+with_plan net y None x is same = cc
+with_plan net y (Some plan) x is same =
+    ap (λ t. row_answer (row_in t y)) same ∙ ap (λ e. row_answer (row_in (scratch (network_source net e.plan)) y)) is
+
+-- no plan was found
+pub without_plan : (net : Network) (y : ℕ) (found : Option Plan) → IsAnswer (option_map (excerpt_of net) found) (Err NoPlan)
+    → codes "refused 26 NoPlan" ≡ plan_answer net y found
+without_plan net y None is = refl
+without_plan net y (Some plan) is = cc

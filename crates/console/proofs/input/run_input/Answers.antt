@@ -1,0 +1,12 @@
+use Rattle.std.proofs.Common.{take, ap, refl}
+use Rattle.console.proofs.InputLemmas.{ran_unopened, ran_unloaded}
+use Rattle.console.proofs.input.run_input.Goals as goal
+
+pub returns-in-Err : goal.returns-in-Err
+returns-in-Err g c = ran_unopened _ _ _ c.in-Err.fault _ _ _ c.in-Err.ensures c.unloaded.ensures.lines c.unloaded.ensures.fault c.unloaded.ensures.net
+
+pub returns-in-Err-load_text : goal.returns-in-Err-load_text
+returns-in-Err-load_text g c =
+    let end = c.unloaded-in-Err-load_text.ensures in
+    ran_unloaded _ _ _ c.in-Ok.opening _ c.in-Err-load_text.fault _ _ _ c.in-Ok.ensures (ap (take c.in-Ok.opening.text) c.deref.ensures.value) c.in-Err-load_text.ensures
+    end.lines end.fault end.net

@@ -1,0 +1,8 @@
+pub mod Lines
+pub mod Commands
+pub mod Answers
+pub mod Run
+pub mod Input
+pub mod Words
+pub mod Refusals
+pub mod Status

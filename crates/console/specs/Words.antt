@@ -1,0 +1,29 @@
+-- The command line of the desk.
+use Rattle.std.specs.Prelude.{◌≡◌, ◌⊎◌, [], ◌∷◌, List, Option, Some, None, true, codes}
+use Rattle.std.specs.Borrow.{Bor}
+use Rattle.clap.specs.Words.{App, Rule, Row, Text, new_app, new_rule, with_rule, with_subcommand, first_of, Kinds, HasKind}
+use Rattle.clap.specs.declared.error.kind.ErrorKind.TheVariants.{MissingSubcommand}
+use Rattle.console.specs.declared.words.Order.{Order}
+use Rattle.console.specs.declared.words.Order.TheVariants.{Run}
+use Rattle.console.specs.declared.words.WordFault.{WordFault}
+use Rattle.console.specs.declared.words.WordFault.TheVariants.{Clap}
+
+-- NET is required
+abbrev pub net_rule : Rule
+net_rule = record (new_rule (codes "net")) { required = true; value_names = 1 }
+
+-- `run NET`
+abbrev pub run_app : App
+run_app = with_rule (new_app (codes "run")) net_rule
+
+-- `route_desk`
+abbrev pub desk_app : App
+desk_app = with_subcommand (new_app (codes "route_desk")) run_app.top
+
+-- the order is what the subcommand's matches say
+abbrev pub IsOrder : Order → Option (Text × List Row) → Type 0
+IsOrder (Run net) found = (rows : List Row) × (found ≡ Some (codes "run", rows)) × (first_of (codes "net") rows ≡ Some net.now)
+
+-- memory was wanting, the words have one of these faults, or a subcommand is missing
+abbrev pub IsWordFault : Kinds → WordFault → Type 0
+IsWordFault kinds (Clap e) = HasKind kinds e ⊎ HasKind (MissingSubcommand ∷ []) e

@@ -1,0 +1,38 @@
+//! The edge of the desk to the people who run it: scripts, answers, faults and the command line (all own).
+//!
+//! 1. A script is cut into lines at each line feed, a last line without one counts where it has a byte, and one
+//!    carriage return at a line's end is dropped.
+//! 2. A line of more than 131,072 bytes is answered `refused 62 BadLine`, whatever it holds. Of the others, an empty
+//!    line, a line of spaces alone and a comment, whose first byte is `#`, get no answer.
+//! 3. Every other line gets one line for an answer. `status Y X` is answered with what the point Y uses towards the
+//!    destination X in the settled network: `status STATUS class N by CODE CODE`, or `status prohibited` for class 0;
+//!    it is refused 26 NoPlan, then 29 NoRow. A line that is no command is answered `refused 62 BadLine`.
+//! 4. The answers to the lines of one read are written before more is read.
+//! 5. A run ends early where memory is wanting (1), reading fails (63) or writing fails (64). What was written is then
+//!    a front of the answers. A read that the system interrupts is tried again; after 2^32 reads the run ends with 63.
+//! 6. An input starts with the network text, up to the first line that is `%%`, and the script comes after that line;
+//!    without it the input is the network text. A network text has at most 134,217,728 bytes, else it is 63. Nothing is
+//!    written unless the network text was read and loaded.
+//! 7. `route_desk run NET` is the only command line.
+#![tactic(auto)]
+
+mod commands;
+pub mod faults;
+pub mod files;
+pub mod input;
+mod lines;
+pub mod printed;
+pub mod script;
+mod session;
+pub mod status;
+pub mod words;
+
+pub use faults::Fault;
+pub use files::read_net;
+pub use input::run_input;
+pub use printed::write_fault;
+pub use script::{ScriptEnd, run_script};
+pub use words::{Order, WordFault, read_words};
+
+#[cfg(test)]
+mod tests;

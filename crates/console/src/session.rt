@@ -1,0 +1,175 @@
+//! A run of a script: the lines that are read, and their answers.
+
+ghost use Rattle.std.specs.Prelude.{◌≡◌, ℕ, ◌+◌, ◌^◌, ◌<◌, ◌≤◌, [], ◌∷◌, ◌++◌, List, length, take, IfOk, IfErr, OnOk, OnErr, Err, string_bytes, Option};
+ghost use Rattle.std.specs.Io.KnownBytes.{Appends};
+ghost use Rattle.net_data.specs.Network.{Network};
+ghost use Rattle.console.specs.Lines.{whole_lines};
+ghost use Rattle.console.specs.Answers.{reply};
+ghost use Rattle.console.specs.Run.{IsLine, IsTaken, IsAt, IsCutOff, CutsOff, IsFrontOf, line_count};
+ghost use Rattle.console.specs.Answers.{answers};
+
+use crate::commands::run_command;
+use crate::faults::Fault;
+use crate::lines::{LINE_LIMIT, Line, is_quiet, without_return};
+use net_data::nets::Net;
+use std::alloc::{AllocError, Global};
+use std::io::Write;
+
+/// A network, the line that is being read, the answers that wait to be written, and how many lines were written.
+#[derive(Drop)]
+pub struct Session {
+    pub net: Net,
+    pub line: Line,
+    pub answers: Vec<u8>,
+    pub lines: u64,
+}
+
+/// Writes a text, and tells how many of its bytes were written: fewer than all where the writer refuses.
+fn write_all<W: Write>(writer: &mut W, text: &[u8]) -> usize
+    ensures within { result ≤ length text.now }
+    ensures written { Appends (W.contents writer.old) (W.contents writer.new) (take result text.now) }
+{
+    let mut at = 0;
+    while at < text.len() {
+        match writer.write(&text[at..]) {
+            Ok(0) => return at,
+            Ok(n) => at += n,
+            Err(_) => return at,
+        }
+    }
+    at
+}
+
+/// How many lines a text ends.
+fn count_lines(text: &[u8]) -> usize
+    ensures { result ≡ line_count text.now }
+{
+    text.iter().filter(|b| **b == b'\n').count()
+}
+
+impl Session {
+    /// A run that has read nothing.
+    pub fn new(alloc: Global, net: Net) -> Session
+        ensures net { result.net ≡ net }
+        ensures line { IsLine result.line [] }
+        ensures answers { result.answers.items ≡ [] }
+        ensures lines { result.lines ≡ 0 }
+    {
+        Session {
+            net,
+            line: Line::new(alloc),
+            answers: Vec::new(alloc),
+            lines: 0,
+        }
+    }
+
+    /// What the line that is whole now is answered with.
+    fn reply(&self, alloc: Global) -> Result<String, AllocError>
+        ensures text { IfOk result (λ text. (rest : List ℕ) → IsLine self.now.line rest
+            → string_bytes text ≡ (reply self.now.net rest).text) }
+        ensures one { IfOk result (λ text. line_count (string_bytes text) ≤ 1) }
+    {
+        let line = without_return(self.line.bytes.as_slice());
+        if self.line.too_long || line.len() > LINE_LIMIT {
+            return String::from_str(alloc, "refused 62 BadLine\n");
+        }
+        if is_quiet(line) {
+            return Ok(String::new(alloc));
+        }
+        let mut text = run_command(alloc, &self.net, line)?;
+        text.push('\n')?;
+        Ok(text)
+    }
+
+    /// Ends the line: its answer waits with the others.
+    fn end_line(&mut self, alloc: Global) -> Result<(), AllocError>
+        ensures ok { OnOk result ((start : Network) (read written : List ℕ)
+            → IsTaken start read written self.old → IsTaken start (read ++ 10 ∷ []) written self.new) }
+        ensures err { OnErr result (self.new.answers.items ≡ self.old.answers.items) }
+        ensures one { line_count self.new.answers.items ≤ line_count self.old.answers.items + 1 }
+        ensures lines { self.new.lines ≡ self.old.lines }
+    {
+        let text = self.reply(alloc)?;
+        self.answers.extend_from_slice(text.as_bytes())?;
+        self.line.clear();
+        Ok(())
+    }
+
+    /// Takes the next byte.
+    fn take(&mut self, alloc: Global, byte: u8) -> Result<(), AllocError>
+        ensures ok { OnOk result ((start : Network) (read written : List ℕ)
+            → IsTaken start read written self.old → IsTaken start (read ++ byte ∷ []) written self.new) }
+        ensures err { OnErr result (self.new.answers.items ≡ self.old.answers.items) }
+        ensures one { line_count self.new.answers.items ≤ line_count self.old.answers.items + 1 }
+        ensures lines { self.new.lines ≡ self.old.lines }
+    {
+        if byte == b'\n' {
+            return self.end_line(alloc);
+        }
+        self.line.take(byte)
+    }
+
+    /// Takes the bytes of one read.
+    fn feed(&mut self, alloc: Global, chunk: &[u8]) -> Result<(), AllocError>
+        ensures ok { OnOk result ((start : Network) (read written : List ℕ)
+            → IsTaken start read written self.old → IsTaken start (read ++ chunk.now) written self.new) }
+        ensures front { (start : Network) (read written : List ℕ) → IsTaken start read written self.old
+            → IsFrontOf (written ++ self.new.answers.items) (answers start (whole_lines (read ++ chunk.now))) }
+        ensures few { line_count self.new.answers.items ≤ line_count self.old.answers.items + length chunk.now }
+        ensures lines { self.new.lines ≡ self.old.lines }
+    {
+        for byte in chunk {
+            if let Err(refused) = self.take(alloc, *byte) {
+                return Err(refused);
+            }
+        }
+        Ok(())
+    }
+
+    /// Writes the answers that wait.
+    fn flush<W: Write>(&mut self, writer: &mut W) -> Result<(), Fault>
+        requires { self.old.lines + line_count self.old.answers.items < 2 ^ 64 }
+        ensures ok { OnOk result (Appends (W.contents writer.old) (W.contents writer.new) self.old.answers.items
+            × (self.new.answers.items ≡ []) × (self.new.lines ≡ self.old.lines + line_count self.old.answers.items)) }
+        ensures err { OnErr result ((n : ℕ) × Appends (W.contents writer.old) (W.contents writer.new) (take n self.old.answers.items)
+            × (self.new.lines ≡ self.old.lines + line_count (take n self.old.answers.items))) }
+        ensures fault { OnErr result (result ≡ Err Fault.Write) }
+        ensures net { self.new.net ≡ self.old.net }
+        ensures line { self.new.line ≡ self.old.line }
+    {
+        let written = write_all(writer, self.answers.as_slice());
+        self.lines += count_lines(&self.answers[..written]) as u64;
+        if written < self.answers.len() {
+            return Err(Fault::Write);
+        }
+        self.answers.clear();
+        Ok(())
+    }
+
+    /// Takes the bytes of one read, and writes the answers to the lines that they end.
+    pub fn step<W: Write>(
+        &mut self,
+        alloc: Global,
+        writer: &mut W,
+        chunk: &[u8],
+    ) -> Result<(), Fault>
+        requires { self.old.lines + line_count self.old.answers.items + length chunk.now < 2 ^ 64 }
+        ensures ok { OnOk result ((start : Network) (read : List ℕ) (held : Option (List ℕ))
+            → IsAt start read held (W.contents writer.old) self.old → IsAt start (read ++ chunk.now) held (W.contents writer.new) self.new) }
+        ensures err { OnErr result ((start : Network) (read : List ℕ) (held : Option (List ℕ))
+            → IsAt start read held (W.contents writer.old) self.old
+            → IsCutOff start (whole_lines (read ++ chunk.now)) held (W.contents writer.new) self.new.lines) }
+        ensures fault { IfErr result CutsOff }
+        ensures none { OnOk result (self.new.answers.items ≡ []) }
+        ensures lines { self.new.lines ≤ self.old.lines + line_count self.old.answers.items + length chunk.now }
+    {
+        let fed = self.feed(alloc, chunk);
+        if let Err(fault) = self.flush(writer) {
+            return Err(fault);
+        }
+        match fed {
+            Ok(()) => Ok(()),
+            Err(_) => Err(Fault::OutOfMemory),
+        }
+    }
+}

@@ -1,0 +1,120 @@
+//! The words of a command line.
+
+ghost use Rattle.std.specs.Prelude.{◌≡◌, List, Option, ◌∷◌, IfOk, IfErr, IfSome, OnOk, option_map, map, false, []};
+ghost use Rattle.clap.specs.declared.builder.command.Command.TheViews.{out-Command};
+ghost use Rattle.clap.specs.Words.{app_of, first_of, FailsBy, HasKind, fault_of, found_of, rows_of, subcommand_of, subcommand_rows_of};
+ghost use Rattle.clap.specs.declared.error.kind.ErrorKind.TheVariants.{MissingSubcommand};
+ghost use Rattle.console.specs.Words.{desk_app, run_app, IsOrder, IsWordFault};
+
+use clap::error::ErrorKind;
+use clap::{Arg, ArgMatches, Command, Error};
+use std::alloc::{AllocError, Global};
+
+/// What a command line orders.
+#[derive(Clone, Copy, Debug, PartialEq, Eq)]
+pub enum Order<'a> {
+    /// To answer the script on standard input from the network of a file, or of standard input itself where the file's
+    /// name is `-`.
+    Run { net: &'a str },
+}
+
+/// Why a command line isn't read.
+#[derive(Drop)]
+pub enum WordFault {
+    /// It isn't one of the desk's, or asks for help; `clap` has the text and the exit status.
+    Clap(Error),
+}
+
+/// The command `run`.
+fn run_command<'a>(alloc: Global) -> Result<Command<'a>, AllocError>
+    ensures app { IfOk result (λ c. app_of c ≡ run_app) }
+    ensures local { IfOk result (λ c. (out-Command c).has_globals ≡ false) }
+{
+    let net = Arg::new(alloc, "net").required(true).value_name("NET").help(
+        "File with the network, or - for standard input up to the line %%",
+    );
+    Command::new(alloc, "run")
+        .about("Answer a script of commands, read from standard input")
+        .arg(net)
+}
+
+/// The whole command.
+fn desk_command<'a>(alloc: Global) -> Result<Command<'a>, AllocError>
+    ensures app { IfOk result (λ c. app_of c ≡ desk_app) }
+{
+    let run = run_command(alloc)?;
+    Command::new(alloc, "route_desk")
+        .about(
+            "Settled routing state of a Signalling System No. 7 network (ITU-T Q.704, MTP level 3)",
+        )
+        .subcommand(run)
+}
+
+/// What `clap` makes of the words.
+fn desk_matches<'a>(alloc: Global, words: &'a [&'a str]) -> Result<ArgMatches<'a>, Error>
+    ensures rows { IfOk result (λ m. subcommand_rows_of m ≡ subcommand_of desk_app (map (λ w. w.now) words.entry.now)) }
+    ensures kinds { FailsBy (fault_of desk_app (map (λ w. w.now) words.entry.now)) result }
+{
+    let command = match desk_command(alloc) {
+        Ok(command) => command,
+        Err(e) => return Err(Error::from(e)),
+    };
+    command.try_get_matches_from(words)
+}
+
+/// The subcommand that the words name, with its own matches.
+fn entered<'m, 'a>(matches: &'m ArgMatches<'a>) -> Option<(&'a str, &'m ArgMatches<'a>)>
+    ensures { option_map (λ p. (p.0.now, rows_of (found_of p.1.now))) result ≡ subcommand_rows_of matches.entry.now }
+{
+    matches.subcommand()
+}
+
+/// The first value of an argument.
+fn value_at<'a>(matches: &ArgMatches<'a>, id: &str) -> Option<&'a str>
+    ensures { option_map (λ s. s.now) result ≡ first_of id.now (rows_of (found_of matches.now)) }
+{
+    matches.get_str(id)
+}
+
+/// What the matches order.
+fn order_of<'a>(matches: &ArgMatches<'a>) -> Option<Order<'a>>
+    ensures { IfSome result (λ order. IsOrder order (subcommand_rows_of matches.now)) }
+{
+    let (name, inner) = entered(matches)?;
+    let net = value_at(inner, "net")?;
+    if name == "run" {
+        return Some(Order::Run { net });
+    }
+    None
+}
+
+/// The error of a command line without what it needs.
+fn missing(alloc: Global) -> Error
+    ensures { HasKind (MissingSubcommand ∷ []) result }
+{
+    match desk_command(alloc) {
+        Ok(mut command) => {
+            match command.error(ErrorKind::MissingSubcommand, "a subcommand is missing") {
+                Ok(error) => error,
+                Err(e) => Error::from(e),
+            }
+        }
+        Err(e) => Error::from(e),
+    }
+}
+
+/// Reads the words of a command line, the program's name first.
+pub fn read_words<'a>(alloc: Global, words: &'a [&'a str]) -> Result<Order<'a>, WordFault>
+    ensures order { IfOk result (λ order. IsOrder order (subcommand_of desk_app (map (λ w. w.now) words.entry.now))) }
+    ensures accepted { OnOk result (fault_of desk_app (map (λ w. w.now) words.entry.now) ≡ []) }
+    ensures fault { IfErr result (IsWordFault (fault_of desk_app (map (λ w. w.now) words.entry.now))) }
+{
+    let matches = match desk_matches(alloc, words) {
+        Ok(matches) => matches,
+        Err(e) => return Err(WordFault::Clap(e)),
+    };
+    match order_of(&matches) {
+        Some(order) => Ok(order),
+        None => Err(WordFault::Clap(missing(alloc))),
+    }
+}

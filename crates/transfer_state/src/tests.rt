@@ -1,0 +1,103 @@
+//! The table of two end points with a transfer point between, worked out by hand.
+
+use crate::{LinkRef, Message, RowState, Table, find_row, table_of};
+use excerpts::Excerpt;
+use link_state::LinkChange;
+use net_data::{Event, Net};
+use net_items::items::{Kind, Plan};
+use net_items::lists::{Classes, Row, Rows, Slcs, Vias};
+use point_codes::{MsgKind, PointCode};
+use route_choice::{Choice, Far};
+use std::alloc::{AllocError, Global};
+use std::test::Fail;
+
+fn code(number: u16) -> Result<PointCode, Fail> {
+    Ok(PointCode::new(number).ok_or("no code")?)
+}
+
+fn edit(alloc: Global, net: &mut Net, event: &Event) -> Result<(), Fail> {
+    if net.apply(alloc, event).is_ok() {
+        Ok(())
+    } else {
+        Err("an edit was refused")?
+    }
+}
+
+/// A set of one link, which is restored.
+fn add_set(alloc: Global, net: &mut Net, id: u16, a: PointCode, b: PointCode) -> Result<(), Fail> {
+    let slcs = Slcs::from_vec(Vec::from_slice(alloc, &[0])?);
+    edit(alloc, net, &Event::AddSet(id, a, b, slcs))?;
+    edit(alloc, net, &Event::Link(id, 0, LinkChange::Restore))
+}
+
+fn new_row(alloc: Global, point: PointCode, rank: u8, via: PointCode) -> Result<Row, AllocError> {
+    let mut classes = Vec::new(alloc);
+    classes.push(Vias::from_slice(alloc, &[via])?)?;
+    Ok(Row {
+        point,
+        rank,
+        classes: Classes::from_vec(classes),
+        mate: false,
+    })
+}
+
+/// The end point 2-1-1 leads over the transfer point 2-10-1 to the end point 2-1-2.
+fn new_net(alloc: Global) -> Result<Net, Fail> {
+    let (a, b, p) = (code(4105)?, code(4106)?, code(4177)?);
+    let mut net = Net::empty(alloc, 2);
+    edit(alloc, &mut net, &Event::AddPoint(a, Kind::Sep))?;
+    edit(alloc, &mut net, &Event::AddPoint(b, Kind::Sep))?;
+    edit(alloc, &mut net, &Event::AddPoint(p, Kind::Stp))?;
+    add_set(alloc, &mut net, 1, a, p)?;
+    add_set(alloc, &mut net, 2, p, b)?;
+    let mut rows = Vec::new(alloc);
+    rows.push(new_row(alloc, a, 2, p)?)?;
+    rows.push(new_row(alloc, p, 1, b)?)?;
+    let plan = Plan {
+        dest: b,
+        rows: Rows::from_vec(rows),
+    };
+    edit(alloc, &mut net, &Event::SetPlan(plan))?;
+    Ok(net)
+}
+
+fn new_table(alloc: Global) -> Result<Table, Fail> {
+    let net = new_net(alloc)?;
+    let excerpt = Excerpt::of(alloc, &net, code(4106)?)
+        .ok()
+        .ok_or("no excerpt")?;
+    Ok(table_of(alloc, &excerpt)?)
+}
+
+/// Class 1 with one via, allowed.
+fn over(via: PointCode) -> Choice {
+    Choice {
+        class: 1,
+        members: [Some(via), None],
+        status: Far::Allowed,
+    }
+}
+
+fn is_state(state: &RowState, choice: Choice, id: u16, messages: &[Message]) -> bool {
+    state.choice == choice
+        && state.links == [Some(LinkRef { id, slc: 0 }); 16]
+        && state.messages.as_slice() == messages
+}
+
+#[test]
+fn makes_a_table(rt: HostRuntime) -> Result<(), Fail> {
+    let (a, b, p) = (code(4105)?, code(4106)?, code(4177)?);
+    let table = new_table(rt.alloc())?;
+    assert_eq!(rt; table.dest, b);
+    assert_eq!(rt; table.rows.as_slice().len(), 2);
+    let allowed = Message {
+        kind: MsgKind::Tfa,
+        to: a,
+    };
+    let end = find_row(&table, a).ok_or("no row")?;
+    assert!(rt; is_state(end, over(p), 1, &[]));
+    let transfer = find_row(&table, p).ok_or("no row")?;
+    assert!(rt; is_state(transfer, over(b), 2, &[allowed]));
+    assert!(rt; find_row(&table, b).is_none());
+    Ok(())
+}
