@@ -6,3 +6,4 @@ pub mod Pairs
 pub mod Removals
 pub mod SeenLemmas
 pub mod RanksLemmas
+pub mod TransferLemmas

@@ -4,3 +4,5 @@ pub mod Valid
 pub mod Edits
 pub mod Seen
 pub mod Ranks
+pub mod Transfers
+pub mod Settings

@@ -22,6 +22,8 @@ pub mod refusals;
 pub mod row_tests;
 pub mod seen;
 pub mod sets;
+pub mod setting;
+pub mod transfers;
 pub mod uses;
 
 pub use events::{Cause, Event, Refusal};

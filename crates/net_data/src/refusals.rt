@@ -16,6 +16,8 @@ use crate::row_tests::{
 };
 use crate::seen::{are_vias_once, see};
 use crate::sets::Sets;
+use crate::setting::Setting;
+use crate::transfers::note_transfers;
 use net_items::items::{LinkSet, Point};
 use net_items::lists::{Row, place_of_link};
 use net_items::lookups::{is_point, place_of_set};
@@ -57,26 +59,21 @@ pub fn are_small_rows(rows: &[Row]) -> bool
     rows.iter().all(|row| is_small_row(row))
 }
 
-/// What is wrong with a row, whose earlier rows are given.
+/// What is wrong with a row, whose earlier rows are given, with whether one of them has its point, and whether each of
+/// its vias stands once.
 pub fn cause_of(
-    points: &[Point],
+    setting: &Setting<'_>,
     sets: &Sets,
-    dest: PointCode,
-    ranks: &[u16],
-    rows: &[Row],
     earlier: &[Row],
     row: &Row,
     twice: bool,
     once: bool,
 ) -> Option<Cause>
-    requires rising { IsRising (λ p. p.code) points.now }
-    requires long { length ranks.now ≡ 16384 }
-    requires ranks { IsRanks ranks.now rows.now }
     requires twice { twice ≡ list_any (λ other. other.point == row.now.point) earlier.now }
     requires once { once ≡ distinct (vias_of row.now) }
-    ensures { result ≡ the_cause points.now sets.now dest rows.now earlier.now row.now }
+    ensures { result ≡ the_cause setting.now.points sets.now setting.now.dest setting.now.rows earlier.now row.now }
 {
-    if row.point == dest {
+    if row.point == setting.dest() {
         return Some(Cause::IsDest);
     }
     if twice {
@@ -88,13 +85,13 @@ pub fn cause_of(
     if !once {
         return Some(Cause::ViaTwice);
     }
-    if !are_vias_lower(points, dest, ranks, rows, row) {
+    if !are_vias_lower(setting, row) {
         return Some(Cause::NotLower);
     }
-    if !are_vias_no_mates(points, dest, row) {
+    if !are_vias_no_mates(setting, row) {
         return Some(Cause::ViaMate);
     }
-    if row.mate && !has_mate_row(points, sets, dest, ranks, rows, row) {
+    if row.mate && !has_mate_row(setting, sets, row) {
         return Some(Cause::BadMate);
     }
     if has_no_class(row) && !row.mate {
@@ -125,14 +122,17 @@ pub fn bad_row(points: &[Point], sets: &Sets, dest: PointCode, rows: &[Row]) -> 
     ensures { result ≡ the_bad_row points.now sets.now dest rows.now [] rows.now }
 {
     let mut ranks = [0; 16384];
+    let mut transfers = [false; 16384];
     let mut seen = [false; 16384];
     note_ranks(&mut ranks, rows);
+    note_transfers(&mut transfers, points);
+    let setting = Setting::new(points, &transfers, dest, rows, &ranks);
     for place in 0..rows.len() {
         let row = &rows[place];
         let earlier = &rows[..place];
         let twice = see(&mut seen, row.point);
         let once = are_vias_once(row);
-        let cause = cause_of(points, sets, dest, &ranks, rows, earlier, row, twice, once);
+        let cause = cause_of(&setting, sets, earlier, row, twice, once);
         if let Some(cause) = cause {
             return Some(Refusal::BadRow(row.point, cause));
         }

@@ -3,16 +3,15 @@
 ghost use Rattle.std.specs.Prelude.{◌≡◌, length, ◌==◌, ◌||◌, not, false};
 ghost use Rattle.std.specs.List.{list_all};
 ghost use Rattle.std.specs.Option.{option_map_or};
-ghost use Rattle.net_data.specs.Ranks.{IsRanks};
 ghost use Rattle.net_items.specs.Keyed.{IsRising, IsFoundAt, IsGapAt};
 ghost use Rattle.net_items.specs.Lookups.{point_at, has_point, is_stp as stp, mate_of as mate, set_between, joined, row_at};
 ghost use Rattle.net_data.specs.Valid.{all_vias, any_via, is_mate as mate_is, is_lower as lower, is_free as free, is_small_class as small_class, has_mate_row as mate_row, is_small_row as small_row};
 
-use crate::ranks::{has_lower, has_same};
 use crate::sets::{Around, Sets};
+use crate::setting::Setting;
 use net_items::items::Point;
 use net_items::lists::{Row, Vias};
-use net_items::lookups::{is_stp, mate_of};
+use net_items::lookups::mate_of;
 use point_codes::PointCode;
 
 /// Whether a point is the mate of another.
@@ -49,65 +48,37 @@ pub fn are_vias_joined(sets: &Sets, row: &Row) -> bool
 }
 
 /// Whether a via leads to the destination, or to a transfer point with a row of lower rank.
-pub fn is_lower(
-    points: &[Point],
-    dest: PointCode,
-    ranks: &[u16],
-    rows: &[Row],
-    row: &Row,
-    z: PointCode,
-) -> bool
-    requires rising { IsRising (λ p. p.code) points.now }
-    requires long { length ranks.now ≡ 16384 }
-    requires ranks { IsRanks ranks.now rows.now }
-    ensures { result ≡ lower points.now dest rows.now row.now z }
+fn is_lower(setting: &Setting<'_>, row: &Row, z: PointCode) -> bool
+    ensures { result ≡ lower setting.now.points setting.now.dest setting.now.rows row.now z }
 {
-    if z == dest {
+    if z == setting.dest() {
         return true;
     }
-    if !is_stp(points, z) {
+    if !setting.is_stp(z) {
         return false;
     }
-    has_lower(ranks, rows, z, row.rank)
+    setting.has_lower_row(z, row.rank)
 }
 
-fn are_lower(
-    points: &[Point],
-    dest: PointCode,
-    ranks: &[u16],
-    rows: &[Row],
-    row: &Row,
-    vias: &[PointCode],
-) -> bool
-    requires rising { IsRising (λ p. p.code) points.now }
-    requires long { length ranks.now ≡ 16384 }
-    requires ranks { IsRanks ranks.now rows.now }
-    ensures { result ≡ list_all (lower points.now dest rows.now row.now) vias.now }
+fn are_lower(setting: &Setting<'_>, row: &Row, vias: &[PointCode]) -> bool
+    ensures { result ≡ list_all (lower setting.now.points setting.now.dest setting.now.rows row.now) vias.now }
 {
-    vias.iter()
-        .all(|z| is_lower(points, dest, ranks, rows, row, *z))
+    vias.iter().all(|z| is_lower(setting, row, *z))
 }
 
-pub fn are_vias_lower(
-    points: &[Point],
-    dest: PointCode,
-    ranks: &[u16],
-    rows: &[Row],
-    row: &Row,
-) -> bool
-    requires rising { IsRising (λ p. p.code) points.now }
-    requires long { length ranks.now ≡ 16384 }
-    requires ranks { IsRanks ranks.now rows.now }
-    ensures { result ≡ all_vias (lower points.now dest rows.now row.now) row.now }
+fn are_classes_lower(setting: &Setting<'_>, row: &Row, classes: &[Vias]) -> bool
+    ensures { result ≡ list_all (λ vias. list_all (lower setting.now.points setting.now.dest setting.now.rows row.now) vias) classes.now }
 {
-    row.classes.as_slice().iter().all(|vias| are_lower(
-        points,
-        dest,
-        ranks,
-        rows,
-        row,
-        vias.as_slice(),
-    ))
+    classes
+        .iter()
+        .all(|vias| are_lower(setting, row, vias.as_slice()))
+}
+
+/// Whether each via leads to the destination, or to a transfer point with a row of lower rank.
+pub fn are_vias_lower(setting: &Setting<'_>, row: &Row) -> bool
+    ensures { result ≡ all_vias (lower setting.now.points setting.now.dest setting.now.rows row.now) row.now }
+{
+    are_classes_lower(setting, row, row.classes.as_slice())
 }
 
 /// Whether a point is the destination, or isn't that mate.
@@ -135,39 +106,28 @@ fn are_classes_no_mates(mate: Option<PointCode>, dest: PointCode, classes: &[Via
 }
 
 /// Whether no via is the row point's mate, unless that is the destination.
-pub fn are_vias_no_mates(points: &[Point], dest: PointCode, row: &Row) -> bool
-    requires { IsRising (λ p. p.code) points.now }
-    ensures { result ≡ all_vias (free points.now dest row.now.point) row.now }
+pub fn are_vias_no_mates(setting: &Setting<'_>, row: &Row) -> bool
+    ensures { result ≡ all_vias (free setting.now.points setting.now.dest row.now.point) row.now }
 {
-    let mate = mate_of(points, row.point);
-    are_classes_no_mates(mate, dest, row.classes.as_slice())
+    let mate = setting.mate_of(row.point);
+    are_classes_no_mates(mate, setting.dest(), row.classes.as_slice())
 }
 
 /// Whether the row's point is a transfer point whose mate is joined to it, is not the destination and has a row of the
 /// same rank.
-pub fn has_mate_row(
-    points: &[Point],
-    sets: &Sets,
-    dest: PointCode,
-    ranks: &[u16],
-    rows: &[Row],
-    row: &Row,
-) -> bool
-    requires rising { IsRising (λ p. p.code) points.now }
-    requires long { length ranks.now ≡ 16384 }
-    requires ranks { IsRanks ranks.now rows.now }
-    ensures { result ≡ mate_row points.now sets.now dest rows.now row.now }
+pub fn has_mate_row(setting: &Setting<'_>, sets: &Sets, row: &Row) -> bool
+    ensures { result ≡ mate_row setting.now.points sets.now setting.now.dest setting.now.rows row.now }
 {
-    if !is_stp(points, row.point) {
+    if !setting.is_stp(row.point) {
         return false;
     }
-    match mate_of(points, row.point) {
+    match setting.mate_of(row.point) {
         None => false,
         Some(mate) => {
-            if !sets.is_joined(row.point, mate) || mate == dest {
+            if !sets.is_joined(row.point, mate) || mate == setting.dest() {
                 return false;
             }
-            has_same(ranks, rows, mate, row.rank)
+            setting.has_equal_row(mate, row.rank)
         }
     }
 }
