@@ -1,12 +1,14 @@
 -- What a table of the codes seen says of a list.
-use Rattle.std.proofs.Common.{◌≡◌, ◌≢◌, ℕ, zero, suc, ◌+◌, append_assoc, append-nil, add-one, ◌<◌, ◌≤◌, Bool, true, false, not, ◌||◌, eqb, List, [], ◌∷◌, ◌++◌, length, get_or, set, take, drop, refl, ap, sym, ◌∙◌, subst, arith, ⊎_elim}
-use Rattle.std.specs.List.{list_any}
-use Rattle.std.proofs.lemmas.Bool.{or_left, or_right, or_cases, cases_eq, eqb-true, eq-eqb, ne_eqb, and_right}
+use Rattle.std.proofs.Common.{map, ◌≡◌, ◌≢◌, ℕ, zero, suc, ◌+◌, append_assoc, append-nil, add-one, ◌<◌, ◌≤◌, Bool, true, false, not, ◌||◌, eqb, List, [], ◌∷◌, ◌++◌, length, get_or, set, take, drop, refl, ap, sym, ◌∙◌, subst, arith, ⊎_elim}
+use Rattle.std.specs.List.{list_any, list_all}
+use Rattle.net_items.specs.declared.items.Point.{Point}
+use Rattle.net_items.specs.declared.lists.Row.{Row}
+use Rattle.std.proofs.lemmas.Bool.{and_parts, or_left, or_right, or_cases, cases_eq, eqb-true, eq-eqb, ne_eqb, and_right}
 use Rattle.std.proofs.lemmas.Bool.Decides.{nat_tests}
 use Rattle.std.proofs.lemmas.List.{get_or-set_same, get_or-set_other, take_more}
 use Rattle.std.proofs.lemmas.List.Folds.{list_any-append}
 use Rattle.net_data.specs.Valid.{is_distinct}
-use Rattle.net_items.specs.Lookups.{concat_vias}
+use Rattle.net_items.specs.Lookups.{concat_vias, has_point}
 use Rattle.net_data.specs.Seen.{IsSeen}
 
 -- one that is there already stands twice
@@ -107,3 +109,35 @@ pub twice_first : (z : ℕ) (others : List ℕ) (later : List (List ℕ)) → (l
 twice_first z others later some =
     let yes : list_any (λ y. eqb y z) (others ++ concat_vias later) ≡ true = both_any (λ y. eqb y z) others later ∙ some in
     rw yes refl
+
+-- a point is there exactly where its code is among the codes
+codes_there : (points : List Point) (c : ℕ) → list_any (λ y. eqb y c) (map (λ (p : Point). p.code) points) ≡ has_point points c
+codes_there [] c = refl
+codes_there (p ∷ ps) c = go (eqb p.code c) refl (codes_there ps c)
+  where
+    go : (b : Bool) → eqb p.code c ≡ b → list_any (λ y. eqb y c) (map (λ (p : Point). p.code) ps) ≡ has_point ps c
+        → list_any (λ y. eqb y c) (map (λ (p : Point). p.code) (p ∷ ps)) ≡ has_point (p ∷ ps) c
+    go true e rec = rw e refl
+    go false e rec = rw e rec
+
+-- one more row of which the point is there
+pub there-next : (points : List Point) (rows : List Row) (i : ℕ) (r : Row) (b : Bool) → i < length rows → r ≡ get_or rows i r → b ≡ list_any (λ y. eqb y r.point) (map (λ (p : Point). p.code) points) → b ≡ true
+    → list_all (λ (r : Row). has_point points r.point) (take i rows) ≡ true → list_all (λ (r : Row). has_point points r.point) (take (i + 1) rows) ≡ true
+there-next points rows i r b within is said seen before =
+    let here : has_point points r.point ≡ true = sym (codes_there points r.point) ∙ (sym said ∙ seen) in
+    subst (λ xs. list_all (λ (r : Row). has_point points r.point) xs ≡ true) (sym (take_push rows i r r within is))
+    (all-append (λ (r : Row). has_point points r.point) (take i rows) r before here)
+  where
+    all-append : (t : Row → Bool) (xs : List Row) (x : Row) → list_all t xs ≡ true → t x ≡ true → list_all t (xs ++ x ∷ []) ≡ true
+    all-append t [] x h one = rw one refl
+    all-append t (y ∷ ys) x h one = let both = and_parts (t y) _ h in rw both.0 (all-append t ys x both.1 one)
+
+-- a row of which the point is not there
+pub there-not : (points : List Point) (rows : List Row) (i : ℕ) (r : Row) (b : Bool) → i < length rows → r ≡ get_or rows i r → b ≡ list_any (λ y. eqb y r.point) (map (λ (p : Point). p.code) points) → b ≡ false
+    → list_all (λ (r : Row). has_point points r.point) rows ≡ false
+there-not points rows i r b within is said missing = at rows i r within is (sym (codes_there points r.point) ∙ (sym said ∙ missing))
+  where
+    at : (rows : List Row) (i : ℕ) (r : Row) → i < length rows → r ≡ get_or rows i r → has_point points r.point ≡ false → list_all (λ (r : Row). has_point points r.point) rows ≡ false
+    at [] i r within is none = absurd (omega arith)
+    at (x ∷ xs) zero r within is none = let e : has_point points x.point ≡ false = subst (λ (u : Row). has_point points u.point ≡ false) is none in rw e refl
+    at (x ∷ xs) (suc i) r within is none = let rest = at xs i r (omega arith) is none in rw rest (grind arith)

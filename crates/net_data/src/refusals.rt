@@ -7,6 +7,7 @@ ghost use Rattle.net_data.specs.Ranks.{IsRanks};
 ghost use Rattle.net_items.specs.Keyed.{IsRising, IsFoundAt, IsGapAt};
 ghost use Rattle.net_items.specs.Lookups.{vias_of, has_point, set_at};
 ghost use Rattle.net_data.specs.Valid.{is_distinct as distinct, is_small_row as small_row, is_nil as nil};
+ghost use Rattle.net_data.specs.Settings.{HaveTransferMates};
 ghost use Rattle.net_data.specs.Edits.{cause_of as the_cause, bad_row as the_bad_row, is_end as end_is, has_link as link_there, has_last_link, set_passes};
 
 use crate::events::{Cause, Refusal};
@@ -14,7 +15,7 @@ use crate::ranks::note_ranks;
 use crate::row_tests::{
     are_vias_joined, are_vias_lower, are_vias_no_mates, has_mate_row, is_small_row,
 };
-use crate::seen::{are_vias_once, see};
+use crate::seen::{are_vias_once, is_seen, see, see_points};
 use crate::sets::Sets;
 use crate::setting::Setting;
 use crate::transfers::note_transfers;
@@ -110,15 +111,22 @@ fn has_no_class(row: &Row) -> bool
 }
 
 pub fn has_points(points: &[Point], rows: &[Row]) -> bool
-    requires { IsRising (λ p. p.code) points.now }
     ensures { result ≡ list_all (λ r. has_point points.now r.point) rows.now }
 {
-    rows.iter().all(|r| is_point(points, r.point))
+    let mut seen = [false; 16384];
+    see_points(&mut seen, points);
+    for row in rows {
+        if !is_seen(&seen, row.point) {
+            return false;
+        }
+    }
+    true
 }
 
 /// The first wrong row, and what is wrong with it.
 pub fn bad_row(points: &[Point], sets: &Sets, dest: PointCode, rows: &[Row]) -> Option<Refusal>
-    requires { IsRising (λ p. p.code) points.now }
+    requires rising { IsRising (λ p. p.code) points.now }
+    requires mates { HaveTransferMates points.now }
     ensures { result ≡ the_bad_row points.now sets.now dest rows.now [] rows.now }
 {
     let mut ranks = [0; 16384];

@@ -1,12 +1,13 @@
 //! Whether a point stands twice: a via in a row, or the point of a row in a plan.
 
-ghost use Rattle.std.specs.Prelude.{◌≡◌, ◌<◌, ◌&&◌, ◌++◌, ◌==◌, ◌∷◌, [], List, ℕ, length, true, false};
+ghost use Rattle.std.specs.Prelude.{◌≡◌, ◌<◌, ◌&&◌, ◌++◌, ◌==◌, ◌∷◌, [], List, ℕ, map, length, slice_index_or, true, false};
 ghost use Rattle.std.specs.List.{list_any};
 ghost use Rattle.net_items.specs.Lookups.{concat_vias, vias_of};
 ghost use Rattle.net_data.specs.Valid.{is_distinct as distinct};
 ghost use Rattle.net_data.specs.Seen.{IsSeen};
 
 use crate::uses::{is_in, is_in_any};
+use net_items::items::Point;
 use net_items::lists::{Row, Vias};
 use point_codes::PointCode;
 
@@ -101,4 +102,24 @@ pub fn see(seen: &mut [bool], point: PointCode) -> bool
     let before = seen[at];
     seen[at] = true;
     before
+}
+
+/// Marks the points of a network in a blank table.
+pub fn see_points(seen: &mut [bool], points: &[Point])
+    requires long { length seen.old ≡ 16384 }
+    requires blank { (z : ℕ) → z < 16384 → slice_index_or seen.old z false ≡ false }
+    ensures long { length seen.new ≡ 16384 }
+    ensures seen { IsSeen seen.new (map (λ p. p.code) points.now) }
+{
+    for point in points {
+        let _before = see(seen, point.code);
+    }
+}
+
+/// Whether a point is marked.
+pub fn is_seen(seen: &[bool], point: PointCode) -> bool
+    requires { length seen.now ≡ 16384 }
+    ensures { (done : List ℕ) → IsSeen seen.now done → result ≡ list_any (λ y. y == point) done }
+{
+    seen[point.number() as usize]
 }

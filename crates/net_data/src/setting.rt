@@ -71,7 +71,11 @@ impl<'a> Setting<'a> {
     pub fn mate_of(&self, z: PointCode) -> Option<PointCode>
         ensures { result ≡ mate self.now.points z }
     {
-        mate_of(self.points, z)
+        if self.is_stp(z) {
+            mate_of(self.points, z)
+        } else {
+            None
+        }
     }
 
     /// Whether a point has a row of lower rank.

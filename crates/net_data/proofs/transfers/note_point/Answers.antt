@@ -1,4 +1,4 @@
-use Rattle.std.proofs.Common.{ap, refl, subst, sym, ◌≡◌, true, false}
+use Rattle.std.proofs.Common.{ap}
 use Rattle.net_items.specs.Lookups.{kind_is_stp}
 use Rattle.net_data.proofs.TransferLemmas.{IsTransfers-note, IsTransfers-keep}
 use Rattle.net_data.proofs.transfers.note_point.Goals as goal

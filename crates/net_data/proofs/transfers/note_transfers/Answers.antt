@@ -1,4 +1,4 @@
-use Rattle.std.proofs.Common.{◌≡◌, ◌<◌, sym, subst, take, length, arith, List}
+use Rattle.std.proofs.Common.{sym, subst, take, arith, List}
 use Rattle.net_items.specs.declared.items.Point.{Point}
 use Rattle.net_data.specs.Transfers.{IsTransfers}
 use Rattle.net_data.proofs.SeenLemmas.{take_push}
