@@ -1,6 +1,5 @@
 -- What more lines do to the answers, and what answers are.
-use Rattle.std.proofs.Common.{◌≡◌, ℕ, ◌+◌, ◌≤◌, ◌==◌, Bool, true, false, cond, Option, Some, None, List, [], ◌∷◌, ◌++◌, sym, ap, subst, refl, ◌∙◌, arith, append_assoc, append-nil, codes}
-use Rattle.std.proofs.lemmas.List.Sums.{sum_by-append}
+use Rattle.std.proofs.Common.{◌≡◌, ℕ, Bool, true, false, cond, Option, Some, None, List, [], ◌∷◌, ◌++◌, sym, ap, subst, refl, ◌∙◌, append_assoc, append-nil}
 use Rattle.net_data.specs.Network.{Network}
 use Rattle.console.specs.Lines.{whole_lines, rest_of, trimmed, is_too_long, is_silent}
 use Rattle.tokens.specs.Words.{words_of}
@@ -8,7 +7,7 @@ use Rattle.console.specs.declared.commands.Query.{Query}
 use Rattle.console.specs.declared.commands.Query.TheVariants.{Status}
 use Rattle.console.specs.Commands.{Reply, bad_line, answer, query_of, command}
 use Rattle.console.specs.Answers.{reply, ended, silent, answers, after_lines}
-use Rattle.console.specs.Run.{line_count, IsFrontOf}
+use Rattle.console.specs.Run.{IsFrontOf}
 use Rattle.console.proofs.LineLemmas.{cut_ended}
 
 -- answers in two parts

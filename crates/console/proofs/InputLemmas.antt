@@ -1,12 +1,11 @@
 -- Where the network text ends and the script starts.
 use Rattle.std.proofs.Common.{◌≡◌, ℕ, ◌+◌, ◌-◌, ◌<◌, ◌≤◌, ◌==◌, Bool, true, false, cond, List, [], ◌∷◌, ◌++◌, length, take, drop, get_or, Option, Some, None, Ok, Err, inl, inr, sym, ap, subst, refl, ◌∙◌, arith, append_assoc, append-nil, length-append, length-drop}
 use Rattle.std.proofs.lemmas.Bool.{eqb-true, true≢false}
-use Rattle.std.proofs.lemmas.Bool.Decides.{nat_tests}
 use Rattle.std.proofs.lemmas.List.{take-append-drop, take-append-le, drop-append-le, append_cancel_right, take_more, length-take-le, drop-take, take_all}
 use Rattle.std.proofs.Math.ListN.{drop_of_length-le}
 use Rattle.std.proofs.lemmas.Grind.{common_steps}
 use Rattle.console.specs.Lines.{put_before, cut, whole_lines, rest_of, lines_of}
-use Rattle.std.specs.Io.KnownBytes.{Consumes, IsAtEnd, prepend_known}
+use Rattle.std.specs.Io.KnownBytes.{Consumes, prepend_known}
 use Rattle.std.proofs.KnownBytes.{Appends-nil}
 use Rattle.net_data.specs.Network.{Network}
 use Rattle.net_text.specs.Reading.{Says}
@@ -314,3 +313,24 @@ ran_script unread middle left held holds o script start rest fault lines net ope
         done = subst (λ t. IsDone fault start left t net) (sym parts.2) ran.done;
       });
     }
+
+-- ---- an input that is put together
+
+grown_rest : (text : List ℕ) (b : ℕ) (end : List ℕ) → rest_of text ≡ end → (b == 10) ≡ false
+    → (whole_lines (text ++ b ∷ []) ≡ whole_lines text) × (rest_of (text ++ b ∷ []) ≡ end ++ b ∷ [])
+grown_rest text b end e other =
+    (ap (λ c. c.whole) (cut_grown text b other), ap (λ c. c.rest) (cut_grown text b other) ∙ ap (λ t. t ++ b ∷ []) e)
+
+-- a text whose lines are ended and are no mark, then the mark, then a script
+pub put_together : (text script : List ℕ) → has_mark (whole_lines text) ≡ false → rest_of text ≡ []
+    → (text_part ((text ++ 37 ∷ 37 ∷ []) ++ 10 ∷ script) ≡ text) × (script_part ((text ++ 37 ∷ 37 ∷ []) ++ 10 ∷ script) ≡ script)
+put_together text script none ended =
+    let one = grown_rest text 37 [] ended refl in
+    let two = grown_rest (text ++ 37 ∷ []) 37 (37 ∷ []) one.1 refl in
+    let marked = (text ++ 37 ∷ []) ++ 37 ∷ [] in
+    let all : marked ++ 10 ∷ script ≡ (text ++ 37 ∷ 37 ∷ []) ++ 10 ∷ script = ap (λ t. t ++ 10 ∷ script) (append_assoc text (37 ∷ []) (37 ∷ [])) in
+    let same : whole_lines marked ≡ whole_lines text = two.0 ∙ one.0 in
+    let clear : has_mark (whole_lines marked) ≡ false = ap has_mark same ∙ none in
+    let mark : is_mark (rest_of marked) ≡ true = ap is_mark two.1 in
+    let whole : joined (whole_lines text) ≡ text = sym (append-nil (joined (whole_lines text))) ∙ ap (λ t. joined (whole_lines text) ++ t) (sym ended) ∙ joined_lines text in
+    (ap text_part (sym all) ∙ marked_text marked script clear mark ∙ ap joined same ∙ whole, ap script_part (sym all) ∙ marked_script marked script clear mark)

@@ -1,10 +1,10 @@
 -- What one more line, one more byte and one more piece do to a run.
-use Rattle.std.proofs.Common.{◌≡◌, ◌≢◌, ℕ, ◌+◌, ◌==◌, Bool, true, false, List, [], ◌∷◌, ◌++◌, length, take, drop, Option, Some, None, sym, ap, subst, refl, ◌∙◌, arith, append_assoc, append-nil}
+use Rattle.std.proofs.Common.{◌≡◌, ℕ, ◌+◌, ◌==◌, false, List, [], ◌∷◌, ◌++◌, take, drop, Option, Some, None, sym, ap, subst, refl, ◌∙◌, arith, append_assoc, append-nil}
 use Rattle.std.proofs.lemmas.List.{take-append-drop}
 use Rattle.std.specs.Io.KnownBytes.{Appends, Consumes, Keeps, IsAtEnd}
 use Rattle.std.proofs.KnownBytes.{Appends-trans, Appends-nil, Consumes-nil, Consumes-trans, Consumes-kept}
 use Rattle.net_data.specs.Network.{Network}
-use Rattle.console.specs.Lines.{whole_lines, rest_of, last_line, lines_of}
+use Rattle.console.specs.Lines.{whole_lines, rest_of, lines_of}
 use Rattle.console.specs.Answers.{reply, answers, after_lines}
 use Rattle.console.specs.Run.{line_count, IsFrontOf, IsLine, IsTaken, IsAt, HasAnswered, IsCutOff, CutsOff, IsWritten, IsDone, Ran}
 use Rattle.console.specs.declared.faults.Fault.{Fault}

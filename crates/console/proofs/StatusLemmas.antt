@@ -1,11 +1,11 @@
 -- The answer from an excerpt is the answer from the network.
-use Rattle.std.proofs.Common.{◌≡◌, ℕ, List, Option, Some, None, Ok, Err, sym, ap, refl, ◌∙◌, codes}
+use Rattle.std.proofs.Common.{◌≡◌, ℕ, Option, Some, None, Ok, Err, ap, refl, ◌∙◌, codes}
 use Rattle.std.specs.Option.{option_map}
 use Rattle.net_items.specs.declared.items.Plan.{Plan}
 use Rattle.net_data.specs.Network.{Network}
 use Rattle.profile.specs.Whole.{scratch}
 use Rattle.excerpts.specs.Excerpts.{Extract, IsAnswer, excerpt_of, source_of, network_source}
-use Rattle.excerpts.specs.declared.faults.ExcerptFault.TheVariants.{NoPlan, OutOfMemory}
+use Rattle.excerpts.specs.declared.faults.ExcerptFault.TheVariants.{NoPlan}
 use Rattle.console.specs.Status.{row_in, row_answer, plan_answer}
 
 -- the plan of the excerpt is the one that was found

@@ -1,9 +1,10 @@
 //! A run of an input that starts with the network text.
 
-ghost use Rattle.std.specs.Prelude.{◌≡◌, ℕ, ◌*◌, ◌≤◌, ◌++◌, List, length, take, [], IfOk, OnOk, MatchResult, IfSome, Option, None, Some, Ok};
+ghost use Rattle.std.specs.Prelude.{◌≡◌, ℕ, ◌*◌, ◌≤◌, ◌++◌, List, length, take, [], IfOk, OnOk, MatchResult, IfSome, Option, None, Some, Ok, ◌∷◌, codes, false};
 ghost use Rattle.std.specs.Io.KnownBytes.{Consumes, IsAtEnd};
 ghost use Rattle.net_text.specs.Reading.{Says};
-ghost use Rattle.console.specs.Input.{is_mark, IsOpenAt, IsMarkAt, IsOpening, IsUnopened, IsLoadFault, RanInput, text_part, script_part};
+ghost use Rattle.console.specs.Lines.{whole_lines, rest_of};
+ghost use Rattle.console.specs.Input.{is_mark, has_mark, IsOpenAt, IsMarkAt, IsOpening, IsUnopened, IsLoadFault, RanInput, text_part, script_part};
 
 use crate::faults::Fault;
 use crate::lines::without_return;
@@ -58,9 +59,13 @@ fn find_mark(bytes: &[u8], first: usize, from: usize) -> Look
 /// The network text, the place where it ends, and the place where the script starts if a mark stands between them.
 #[derive(Drop)]
 pub struct Opening {
+    /// All bytes that were read.
     pub bytes: Vec<u8>,
+    /// Where the network text ends.
     pub text: usize,
+    /// Where the script starts.
     pub script: Option<usize>,
+    /// How many reads there were.
     pub reads: u64,
 }
 
@@ -236,3 +241,10 @@ pub fn run_input<R: Read, W: Write>(alloc: Global, reader: &mut R, writer: &mut 
         Err(fault) => unloaded(fault),
     }
 }
+
+/// The law: an input that is put together from a text, whose lines are ended and are not `%%`, the line `%%`, and a
+/// script, has them as its parts.
+pub fn parts_of_input()
+    ensures { (text script : List ℕ) → has_mark (whole_lines text) ≡ false → rest_of text ≡ []
+        → (text_part (text ++ codes "%%" ++ 10 ∷ script) ≡ text) × (script_part (text ++ codes "%%" ++ 10 ∷ script) ≡ script) }
+{}

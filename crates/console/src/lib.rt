@@ -29,7 +29,7 @@ pub mod words;
 
 pub use faults::Fault;
 pub use files::read_net;
-pub use input::run_input;
+pub use input::{parts_of_input, run_input};
 pub use printed::write_fault;
 pub use script::{ScriptEnd, run_script};
 pub use words::{Order, WordFault, read_words};

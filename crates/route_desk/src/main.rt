@@ -12,10 +12,8 @@
 use clap::Error;
 use console::{Fault, Order, WordFault, read_net, read_words, run_input, run_script, write_fault};
 use std::alloc::{AllocError, Global};
-use std::env;
-use std::fs;
-use std::io;
 use std::process::ExitCode;
+use std::{env, fs, io};
 
 /// The words of a command line as texts.
 fn texts(alloc: Global, words: &[String]) -> Result<Vec<&str>, AllocError> {

@@ -8,10 +8,17 @@ use std::alloc::Global;
 use std::test::Fail;
 
 const POINTS: &str = "'0-0-1 sep', '0-0-2 stp', '0-0-3 stp'";
+
 const SETS: &str = "'1 0-0-1 0-0-2 0'";
 
 /// Whether an edit of a small network gives the network of those entries.
-fn gives(alloc: Global, event: &Event, points: &str, pairs: &str, sets: &str) -> Result<bool, Fail> {
+fn gives(
+    alloc: Global,
+    event: &Event,
+    points: &str,
+    pairs: &str,
+    sets: &str,
+) -> Result<bool, Fail> {
     let mut net = net_of(alloc, POINTS, "", SETS, "")?;
     net.apply(alloc, event)?;
     Ok(net.equals(&net_of(alloc, points, pairs, sets, "")?))
@@ -38,12 +45,21 @@ fn edits_of_sets_give_the_network_of_the_text(rt: HostRuntime) -> Result<(), Fai
     let alloc = rt.alloc();
     let (a, q) = (code("0-0-1")?, code("0-0-3")?);
     let edits = [
-        (add_set(alloc, 0, a, q, &[5, 3])?, "'1 0-0-1 0-0-2 0', '0 0-0-1 0-0-3 3f 5f'"),
+        (
+            add_set(alloc, 0, a, q, &[5, 3])?,
+            "'1 0-0-1 0-0-2 0', '0 0-0-1 0-0-3 3f 5f'",
+        ),
         (Event::RemoveSet(1), ""),
         (Event::AddLink(1, 7), "'1 0-0-1 0-0-2 0 7f'"),
         (Event::Link(1, 0, LinkChange::Fail), "'1 0-0-1 0-0-2 0f'"),
-        (Event::Link(1, 0, LinkChange::Block(End::Second)), "'1 0-0-1 0-0-2 0bb'"),
-        (Event::Link(1, 0, LinkChange::Inhibit(End::First)), "'1 0-0-1 0-0-2 0ia'"),
+        (
+            Event::Link(1, 0, LinkChange::Block(End::Second)),
+            "'1 0-0-1 0-0-2 0bb'",
+        ),
+        (
+            Event::Link(1, 0, LinkChange::Inhibit(End::First)),
+            "'1 0-0-1 0-0-2 0ia'",
+        ),
     ];
     for (event, sets) in &edits {
         assert!(rt; gives(alloc, event, POINTS, "", *sets)?, "{event:?}");
@@ -114,10 +130,22 @@ fn a_pair_is_turned_back(rt: HostRuntime) -> Result<(), Fail> {
 fn changes_of_links_are_turned_back(rt: HostRuntime) -> Result<(), Fail> {
     let changes = [
         (LinkChange::Fail, LinkChange::Restore),
-        (LinkChange::Block(End::First), LinkChange::Unblock(End::First)),
-        (LinkChange::Block(End::Second), LinkChange::Unblock(End::Second)),
-        (LinkChange::Inhibit(End::First), LinkChange::Uninhibit(End::First)),
-        (LinkChange::Inhibit(End::Second), LinkChange::Uninhibit(End::Second)),
+        (
+            LinkChange::Block(End::First),
+            LinkChange::Unblock(End::First),
+        ),
+        (
+            LinkChange::Block(End::Second),
+            LinkChange::Unblock(End::Second),
+        ),
+        (
+            LinkChange::Inhibit(End::First),
+            LinkChange::Uninhibit(End::First),
+        ),
+        (
+            LinkChange::Inhibit(End::Second),
+            LinkChange::Uninhibit(End::Second),
+        ),
     ];
     for (there, back) in changes {
         let event = Event::Link(3, 1, there);

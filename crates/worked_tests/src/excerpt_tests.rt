@@ -50,6 +50,9 @@ fn an_excerpt_is_of_one_destination(rt: HostRuntime) -> Result<(), Fail> {
     let excerpt = Excerpt::of(alloc, &net, x)?;
     assert!(rt; excerpt.equals(&Excerpt::of(alloc, &net, x)?));
     assert!(rt; !excerpt.is_of(&net, a));
-    assert_eq!(rt; Excerpt::of(alloc, &net, a).err(), Some(ExcerptFault::NoPlan));
+    assert_eq!(rt;
+        Excerpt::of(alloc, &net, a).err(),
+        Some(ExcerptFault::NoPlan)
+    );
     Ok(())
 }

@@ -8,7 +8,10 @@ use std::test::Fail;
 fn says_its_parts(rt: HostRuntime) -> Result<(), Fail> {
     let net = worked(rt.alloc())?;
     assert_eq!(rt; (net.ni(), net.tfr()), (2, true));
-    assert_eq!(rt; (net.points().len(), net.sets().len(), net.plans().len()), (5, 6, 1));
+    assert_eq!(rt;
+        (net.points().len(), net.sets().len(), net.plans().len()),
+        (5, 6, 1)
+    );
     assert_eq!(rt; net.mate_of(code("2-10-1")?), Some(code("2-10-2")?));
     assert_eq!(rt; net.mate_of(code("2-1-1")?), None);
     Ok(())

@@ -15,11 +15,23 @@ fn refuses_row(alloc: Global, plan: &str, point: &str, cause: Cause) -> Result<b
 fn names_each_cause(rt: HostRuntime) -> Result<(), Fail> {
     let refused = [
         ("2-1-2 2-1-2:1:2-10-1", "2-1-2", Cause::IsDest),
-        ("2-1-2 2-10-1:1:2-1-2 2-10-1:1:2-1-1", "2-10-1", Cause::Twice),
+        (
+            "2-1-2 2-10-1:1:2-1-2 2-10-1:1:2-1-1",
+            "2-10-1",
+            Cause::Twice,
+        ),
         ("2-1-2 2-1-1:1:2-1-3+2-1-3", "2-1-1", Cause::NotJoined),
         ("2-1-2 2-1-1:2:2-10-1/2-10-1", "2-1-1", Cause::ViaTwice),
-        ("2-1-2 2-10-2:1:2-1-2 2-10-1:1:2-10-2", "2-10-1", Cause::NotLower),
-        ("2-1-2 2-10-2:1:2-1-2 2-10-1:2:2-10-2:m", "2-10-1", Cause::ViaMate),
+        (
+            "2-1-2 2-10-2:1:2-1-2 2-10-1:1:2-10-2",
+            "2-10-1",
+            Cause::NotLower,
+        ),
+        (
+            "2-1-2 2-10-2:1:2-1-2 2-10-1:2:2-10-2:m",
+            "2-10-1",
+            Cause::ViaMate,
+        ),
         ("2-1-2 2-10-1:1::m 2-10-2:2:2-1-2", "2-10-1", Cause::BadMate),
         ("2-1-2 2-10-1:1:2-1-2 2-1-1:0:", "2-1-1", Cause::NoRoute),
     ];
@@ -50,7 +62,10 @@ fn reads_any_row_of_a_point(rt: HostRuntime) -> Result<(), Fail> {
         "2-1-2 2-10-2:2:2-1-2:m 2-10-1:3:2-1-2 2-10-1:2:2-1-2",
     ];
     for plan in refused {
-        assert!(rt; refuses_row(rt.alloc(), plan, "2-10-1", Cause::Twice)?, "{plan}");
+        assert!(rt;
+            refuses_row(rt.alloc(), plan, "2-10-1", Cause::Twice)?,
+            "{plan}"
+        );
     }
     Ok(())
 }

@@ -37,15 +37,35 @@ fn refuses_a_point_past_1024(rt: HostRuntime) -> Result<(), Fail> {
     let mut net = Net::empty(alloc, 0);
     add_points(alloc, &mut net, 1024)?;
     let (first, last) = (code("0-0-0")?, code("0-128-0")?);
-    assert!(rt; refuses(alloc, &mut net, &Event::AddPoint(last, Kind::Sep), Refusal::Limit)?);
-    assert!(rt; refuses(alloc, &mut net, &Event::AddPoint(first, Kind::Sep), Refusal::PointThere)?);
+    assert!(rt;
+        refuses(
+            alloc,
+            &mut net,
+            &Event::AddPoint(last, Kind::Sep),
+            Refusal::Limit
+        )?
+    );
+    assert!(rt;
+        refuses(
+            alloc,
+            &mut net,
+            &Event::AddPoint(first, Kind::Sep),
+            Refusal::PointThere
+        )?
+    );
     Ok(())
 }
 
 #[test]
 fn refuses_to_remove_a_mate(rt: HostRuntime) -> Result<(), Fail> {
     let alloc = rt.alloc();
-    let mut net = net_of(alloc, "'2-10-1 stp', '2-10-2 stp'", "'2-10-1 2-10-2'", "", "")?;
+    let mut net = net_of(
+        alloc,
+        "'2-10-1 stp', '2-10-2 stp'",
+        "'2-10-1 2-10-2'",
+        "",
+        "",
+    )?;
     let event = Event::RemovePoint(code("2-10-2")?);
     assert!(rt; refuses(alloc, &mut net, &event, Refusal::Paired)?);
     Ok(())
@@ -53,7 +73,12 @@ fn refuses_to_remove_a_mate(rt: HostRuntime) -> Result<(), Fail> {
 
 #[test]
 fn refuses_pairs(rt: HostRuntime) -> Result<(), Fail> {
-    let (a, n, p, q) = (code("2-1-1")?, code("2-1-4")?, code("2-10-1")?, code("2-10-2")?);
+    let (a, n, p, q) = (
+        code("2-1-1")?,
+        code("2-1-4")?,
+        code("2-10-1")?,
+        code("2-10-2")?,
+    );
     let refused = [
         (Event::Pair(n, a), Refusal::NoPoint),
         (Event::Pair(p, a), Refusal::NotStp),
@@ -103,7 +128,10 @@ fn refuses_ends_of_sets(rt: HostRuntime) -> Result<(), Fail> {
         (7, "2-1-2", "2-1-2", Refusal::SameEnds),
     ];
     for (id, a, b, refusal) in refused {
-        assert!(rt; is_set_refused(rt.alloc(), id, a, b, &[], refusal)?, "{refusal:?}");
+        assert!(rt;
+            is_set_refused(rt.alloc(), id, a, b, &[], refusal)?,
+            "{refusal:?}"
+        );
     }
     Ok(())
 }

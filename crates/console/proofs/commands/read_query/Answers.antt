@@ -1,4 +1,4 @@
-use Rattle.std.proofs.Common.{◌≡◌, ◌≢◌, ℕ, List, [], ◌∷◌, length, map, None, refl, arith, sym}
+use Rattle.std.proofs.Common.{◌≡◌, ◌≢◌, ℕ, List, [], ◌∷◌, length, map, None, refl, arith}
 use Rattle.std.specs.Borrow.{Bor}
 use Rattle.console.specs.Commands.{query_of}
 use Rattle.console.proofs.commands.read_query.Goals as goal

@@ -1,4 +1,3 @@
-use Rattle.std.proofs.Common.{◌≤◌, length}
 use Rattle.console.specs.Input.{IsOpenAt}
 use Rattle.console.proofs.input.find_mark.Given as goal
 

@@ -1,4 +1,4 @@
-use Rattle.std.proofs.Common.{◌+◌, ◌*◌, ◌≤◌, length}
+use Rattle.std.proofs.Common.{◌*◌, ◌≤◌, length}
 use Rattle.std.specs.Io.KnownBytes.{Consumes}
 use Rattle.console.specs.Input.{IsOpenAt}
 use Rattle.console.proofs.input.read_text.Given as goal

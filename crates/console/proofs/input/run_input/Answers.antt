@@ -1,4 +1,4 @@
-use Rattle.std.proofs.Common.{take, ap, refl}
+use Rattle.std.proofs.Common.{take, ap}
 use Rattle.console.proofs.InputLemmas.{ran_unopened, ran_unloaded}
 use Rattle.console.proofs.input.run_input.Goals as goal
 

@@ -1,5 +1,5 @@
-use Rattle.std.proofs.Common.{◌≤◌, length, inr, arith, rules}
-use Rattle.console.proofs.InputLemmas.{mark_whole, text_length}
+use Rattle.std.proofs.Common.{inr, arith}
+use Rattle.console.proofs.InputLemmas.{text_length}
 use Rattle.console.proofs.input.Head.ended.Goals as goal
 
 pub returns-then-text-gt-TEXT_LIMIT : goal.returns-then-text-gt-TEXT_LIMIT

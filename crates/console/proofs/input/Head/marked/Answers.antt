@@ -1,4 +1,4 @@
-use Rattle.std.proofs.Common.{◌≤◌, length, inr, arith, rules}
+use Rattle.std.proofs.Common.{inr, arith}
 use Rattle.console.proofs.InputLemmas.{mark_whole, text_length}
 use Rattle.console.proofs.input.Head.marked.Goals as goal
 

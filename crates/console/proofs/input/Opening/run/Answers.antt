@@ -1,4 +1,4 @@
-use Rattle.std.proofs.Common.{◌-◌, ◌∙◌, length, take, drop, List, [], Some, ap, refl}
+use Rattle.std.proofs.Common.{◌-◌, ◌∙◌, length, take, drop, [], Some, ap, refl}
 use Rattle.std.specs.Io.KnownBytes.{prepend_known}
 use Rattle.console.specs.Lines.{whole_lines, rest_of, last_line}
 use Rattle.console.proofs.RunLemmas.{at_start, at_first, answered_more, ran_cut_off}

@@ -1,4 +1,4 @@
-use Rattle.std.proofs.Common.{ℕ, ◌+◌, ◌≤◌, ◌++◌, List, length, take, drop, rules, subst}
+use Rattle.std.proofs.Common.{ℕ, ◌≤◌, ◌++◌, List, length, take, drop, rules, subst}
 use Rattle.std.proofs.lemmas.List.{take_all}
 use Rattle.console.specs.Lines.{whole_lines}
 use Rattle.console.specs.Answers.{answers}
