@@ -137,6 +137,25 @@ fn text_then_script(rt: HostRuntime) -> Result<(), Fail> {
     Ok(())
 }
 
+const FAILED_SET: &[u8] = b"format = 1
+ni = 2
+points = [\"2-1-1 sep\", \"2-1-2 sep\", \"2-10-1 stp\"]
+sets = [\"1 2-1-1 2-10-1 0\", \"2 2-10-1 2-1-2 0f\"]
+plans = [\"2-1-2 2-1-1:2:2-10-1 2-10-1:1:2-1-2\"]
+%%
+status 2-1-1 2-1-2
+";
+
+#[test]
+fn failed_set(rt: HostRuntime) -> Result<(), Fail> {
+    let mut out: Vec<u8> = Vec::new(rt.alloc());
+    let mut reader = FAILED_SET;
+    let end = run_input(rt.alloc(), &mut reader, &mut out);
+    assert_eq!(rt; out.as_slice(), b"status prohibited\n".as_slice());
+    assert_eq!(rt; end.fault, None);
+    Ok(())
+}
+
 #[test]
 fn text_alone(rt: HostRuntime) -> Result<(), Fail> {
     let mut out: Vec<u8> = Vec::new(rt.alloc());

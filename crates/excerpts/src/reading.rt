@@ -11,6 +11,7 @@ ghost use Rattle.profile.specs.Walk.{is_via as via_is};
 ghost use Rattle.net_items.specs.declared.items.LinkSet.{LinkSet};
 ghost use Rattle.excerpts.specs.Excerpts.{kind_of as the_kind, row_point as the_row_point, leads as row_leads};
 
+use net_data::uses::is_via;
 use net_items::copies::{copy_set, place_of_row};
 use net_items::equals::{is_same_point, is_same_set};
 use net_items::items::{Kind, LinkSet, Plan, Point};
@@ -30,32 +31,13 @@ pub fn row_in(rows: &[Row], y: PointCode) -> Option<&Row>
     }
 }
 
-fn is_in(vias: &[PointCode], z: PointCode) -> bool
-    ensures { result ≡ list_any (λ v. v == z) vias.now }
-{
-    vias.iter().any(|via| *via == z)
-}
-
-fn is_in_any(classes: &[Vias], z: PointCode) -> bool
-    ensures { result ≡ list_any (λ vias. list_any (λ v. v == z) vias) classes.now }
-{
-    classes.iter().any(|vias| is_in(vias.as_slice(), z))
-}
-
-/// Whether a row leads to a via.
-pub fn is_via(row: &Row, z: PointCode) -> bool
-    ensures { result ≡ via_is row.now z }
-{
-    is_in_any(row.classes.as_slice(), z)
-}
-
 /// Whether a point has a row that leads to another.
 fn leads(rows: &[Row], y: PointCode, z: PointCode) -> bool
     requires { IsRising (λ r. r.point) rows.now }
     ensures { result ≡ row_leads rows.now y z }
 {
     match row_in(rows, y) {
-        Some(row) => is_via(row, z),
+        Some(row) => is_via(z, row),
         None => false,
     }
 }
