@@ -17,6 +17,7 @@ use net_items::lookups::{place_of_point, place_of_set};
 use point_codes::PointCode;
 use std::alloc::{AllocError, Global};
 
+/// Puts in a point, in the place of one of its code.
 pub fn put_point(points: &mut Vec<Point>, point: Point) -> Result<(), AllocError>
     requires { IsRising (λ p. p.code) points.old.items }
     ensures ok { OnOk result (points.new.items ≡ put (λ p. p.code) point points.old.items) }
@@ -33,6 +34,7 @@ pub fn put_point(points: &mut Vec<Point>, point: Point) -> Result<(), AllocError
     Ok(())
 }
 
+/// Puts in a set, in the place of one of its id.
 pub fn put_set(sets: &mut Vec<LinkSet>, set: LinkSet) -> Result<(), AllocError>
     requires { IsRising (λ s. s.id) sets.old.items }
     ensures ok { OnOk result (sets.new.items ≡ put (λ s. s.id) set sets.old.items) }
@@ -157,6 +159,7 @@ pub fn set_mate(points: &mut Vec<Point>, code: PointCode, mate: Option<PointCode
     }
 }
 
+/// Removes the point of a code that is there.
 pub fn remove_point(points: &mut Vec<Point>, code: PointCode)
     requires rising { IsRising (λ p. p.code) points.old.items }
     requires there { has_point points.old.items code ≡ true }

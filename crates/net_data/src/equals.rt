@@ -7,6 +7,7 @@ use net_items::equals::is_same_plan;
 use net_items::items::Plan;
 use std::sync::Arc;
 
+/// Whether shared plans are equal.
 pub fn are_same_plans(a: &[Arc<Plan>], b: &[Arc<Plan>]) -> bool
     ensures { IsTrue result ↔ (map arc_value a.now ≡ map arc_value b.now) }
 {

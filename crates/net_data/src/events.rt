@@ -10,60 +10,103 @@ use net_items::lists::Slcs;
 use point_codes::PointCode;
 use std::alloc::{AllocError, Global};
 
+/// An edit of a network, or a change of a link's state.
 #[derive(Debug, Drop)]
 pub enum Event {
+    /// A change of a link's marks: the set's id, the link's code, the change.
     Link(u16, u8, LinkChange),
+    /// A new point, without a mate.
     AddPoint(PointCode, Kind),
+    /// A point goes.
     RemovePoint(PointCode),
+    /// Two transfer points become mates.
     Pair(PointCode, PointCode),
+    /// A point and its mate are mates no longer.
     Unpair(PointCode),
+    /// A new set: its id, its first and second point, the codes of its links, each with the failed mark alone.
     AddSet(u16, PointCode, PointCode, Slcs),
+    /// A set goes.
     RemoveSet(u16),
+    /// A new link of a set, with the failed mark alone.
     AddLink(u16, u8),
+    /// A link of a set goes.
     RemoveLink(u16, u8),
+    /// A plan, in the place of one of its destination.
     SetPlan(Plan),
+    /// The plan of a destination goes.
     DropPlan(PointCode),
+    /// The option of transfer-restricted messages (Q.704 clause 13.4).
     SetTfr(bool),
 }
 
 /// What is wrong with a row of a plan.
 #[derive(Clone, Copy, Debug, PartialEq, Eq)]
 pub enum Cause {
+    /// The row's point is the destination.
     IsDest,
+    /// An earlier row has the point.
     Twice,
+    /// A via is joined to the point by no set.
     NotJoined,
+    /// A via stands twice.
     ViaTwice,
+    /// A via is neither the destination nor a transfer point with a row of lower rank.
     NotLower,
+    /// A via is the point's mate, and not the destination.
     ViaMate,
+    /// The mate flag is set, and the point is no transfer point, has no mate, is not joined to it, the mate is the destination, or has no row of the same rank.
     BadMate,
+    /// Neither a class nor the mate flag.
     NoRoute,
 }
 
+/// Why an edit is refused, in the order in which refusals are tried; want of memory alone comes last.
 #[derive(Clone, Copy, Debug, PartialEq, Eq)]
 pub enum Refusal {
+    /// Memory was refused.
     OutOfMemory,
+    /// A point is not there.
     NoPoint,
+    /// The point is there.
     PointThere,
+    /// The point is an end of a set, a destination, or has a row.
     PointUsed,
+    /// A point is no transfer point.
     NotStp,
+    /// A point has a mate.
     Paired,
+    /// The point has no mate.
     NotPaired,
+    /// A row uses one of the two as the via of the other, or the mate.
     PairUsed,
+    /// The set is not there.
     NoSet,
+    /// The id is taken.
     SetThere,
+    /// A set joins the two points: its id.
     Joined(u16),
+    /// The two points are one.
     SameEnds,
+    /// No link, too many, a code above 15, or one twice.
     BadLinks,
+    /// The link is not there.
     NoLink,
+    /// The link is there.
     LinkThere,
+    /// The set has no other link.
     LastLink,
+    /// A row leads over the set.
     SetUsed,
+    /// The destination has no plan.
     NoPlan,
+    /// The first wrong row of a plan, in the order given: its point and its first cause.
     BadRow(PointCode, Cause),
+    /// A limit: 1,024 points, set ids up to 4,095, ranks from 1, four classes of one or two vias.
     Limit,
 }
 
 impl Event {
+    /// A copy. It takes no memory for an event without a list.
     pub fn copy(&self, alloc: Global) -> Result<Event, AllocError>
         ensures { IfOk result (λ e. e ≡ self.now) }
     {

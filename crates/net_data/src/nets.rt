@@ -49,6 +49,7 @@ impl Model for Net {
 }
 
 impl Net {
+    /// The empty network of a network indicator below 4, with the option of transfer-restricted messages. It takes no memory.
     pub fn empty(alloc: Global, ni: u8) -> Net
         requires { ni < 4 }
         ensures { result ≡ record { ni = ni; tfr = true; points = []; sets = []; plans = [] } }
@@ -115,6 +116,7 @@ impl Net {
         self.points.as_slice()
     }
 
+    /// The mate of a point.
     pub fn mate_of(&self, code: PointCode) -> Option<PointCode>
         ensures { result ≡ the_mate self.now.points code }
     {
@@ -128,6 +130,7 @@ impl Net {
         self.sets.as_slice()
     }
 
+    /// The plan of a destination.
     pub fn plan(&self, dest: PointCode) -> Option<&Plan>
         ensures { option_copied result ≡ plan_at self.now.plans dest }
     {

@@ -16,6 +16,7 @@ use std::alloc::{AllocError, Global};
 use std::marker::Model;
 use std::sync::Arc;
 
+/// Plans in rising destination, each shared with the copies of its network.
 #[derive(Drop)]
 pub struct Plans {
     list: Vec<Arc<Plan>>,
@@ -103,6 +104,7 @@ fn copy_list(alloc: Global, plans: &[Arc<Plan>]) -> Result<Vec<Arc<Plan>>, Alloc
 }
 
 impl Plans {
+    /// No plans.
     pub fn new(alloc: Global) -> Plans
         ensures { result ≡ [] }
     {
@@ -111,6 +113,7 @@ impl Plans {
         }
     }
 
+    /// How many plans there are.
     pub fn len(&self) -> usize
         ensures { result ≡ length self.now }
     {
@@ -125,6 +128,7 @@ impl Plans {
         &self.list[place]
     }
 
+    /// The plan of a destination.
     pub fn find(&self, dest: PointCode) -> Option<&Plan>
         requires { IsRising (λ p. p.dest) self.now }
         ensures { option_copied result ≡ plan_at self.now dest }
@@ -190,6 +194,7 @@ impl Plans {
         }
     }
 
+    /// A copy that shares each plan.
     pub fn copy(&self, alloc: Global) -> Result<Plans, AllocError>
         ensures { IfOk result (λ p. p ≡ self.now) }
     {
@@ -198,30 +203,35 @@ impl Plans {
         })
     }
 
+    /// Whether the plans are equal.
     pub fn equals(&self, other: &Plans) -> bool
         ensures { IsTrue result ↔ (self.now ≡ other.now) }
     {
         are_same_plans(self.list.as_slice(), other.list.as_slice())
     }
 
+    /// Whether a plan has a row of one point that leads to the other, which isn't its destination.
     pub fn any_uses_pair(&self, y: PointCode, z: PointCode) -> bool
         ensures { result ≡ list_any (pair_used y z) self.now }
     {
         any_uses_pair(self.list.as_slice(), y, z)
     }
 
+    /// Whether a plan has the point as its destination or in a row.
     pub fn any_uses_point(&self, code: PointCode) -> bool
         ensures { result ≡ list_any (point_used code) self.now }
     {
         any_uses_point(self.list.as_slice(), code)
     }
 
+    /// Whether a plan has a row of the point with the mate flag.
     pub fn any_has_flag(&self, y: PointCode) -> bool
         ensures { result ≡ list_any (flagged y) self.now }
     {
         any_has_flag(self.list.as_slice(), y)
     }
 
+    /// Whether a plan has a row of one end of the set that leads to the other.
     pub fn any_uses_set(&self, points: &[Point], set: &LinkSet) -> bool
         requires { IsRising (λ p. p.code) points.now }
         ensures { result ≡ list_any (set_used points.now set.now) self.now }

@@ -54,6 +54,7 @@ pub fn are_good_links(slcs: &[u8]) -> bool
     }
 }
 
+/// Whether each row is within the limits of ranks and classes.
 pub fn are_small_rows(rows: &[Row]) -> bool
     ensures { result ≡ list_all small_row rows.now }
 {
@@ -110,6 +111,7 @@ fn has_no_class(row: &Row) -> bool
     }
 }
 
+/// Whether the point of each row is there.
 pub fn has_points(points: &[Point], rows: &[Row]) -> bool
     ensures { result ≡ list_all (λ r. has_point points.now r.point) rows.now }
 {
@@ -148,6 +150,7 @@ pub fn bad_row(points: &[Point], sets: &Sets, dest: PointCode, rows: &[Row]) -> 
     None
 }
 
+/// Whether there is a set of an id.
 pub fn is_set(sets: &[LinkSet], id: u16) -> bool
     requires { IsRising (λ s. s.id) sets.now }
     ensures { result ≡ is_some (set_at sets.now id) }
@@ -158,6 +161,7 @@ pub fn is_set(sets: &[LinkSet], id: u16) -> bool
     }
 }
 
+/// Whether a set has a link of a code.
 pub fn has_link(slc: u8, set: &LinkSet) -> bool
     requires { IsRising (λ l. l.slc) set.now.links }
     ensures { result ≡ link_there slc set.now }

@@ -34,12 +34,14 @@ impl Model for Links {
 }
 
 impl Links {
+    /// These links.
     pub fn from_vec(list: Vec<Link>) -> Links
         ensures { result ≡ list.items }
     {
         Links { list }
     }
 
+    /// The links in a vector.
     pub fn into_vec(self) -> Vec<Link>
         ensures { result.items ≡ self }
     {
@@ -47,12 +49,14 @@ impl Links {
         list
     }
 
+    /// The links as a slice.
     pub fn as_slice(&self) -> &[Link]
         ensures { result.now ≡ self.now }
     {
         self.list.as_slice()
     }
 
+    /// Puts a link in the place of another.
     pub fn set(&mut self, at: usize, link: Link)
         requires { at < length self.old }
         ensures { self.new ≡ slice_set self.old at link }
@@ -153,12 +157,14 @@ impl Model for Classes {
 }
 
 impl Classes {
+    /// These classes.
     pub fn from_vec(list: Vec<Vias>) -> Classes
         ensures { result ≡ list.items }
     {
         Classes { list }
     }
 
+    /// The classes as a slice.
     pub fn as_slice(&self) -> &[Vias]
         ensures { result.now ≡ self.now }
     {
@@ -191,12 +197,14 @@ impl Model for Rows {
 }
 
 impl Rows {
+    /// These rows.
     pub fn from_vec(list: Vec<Row>) -> Rows
         ensures { result ≡ list.items }
     {
         Rows { list }
     }
 
+    /// The rows in a vector.
     pub fn into_vec(self) -> Vec<Row>
         ensures { result.items ≡ self }
     {
@@ -204,6 +212,7 @@ impl Rows {
         list
     }
 
+    /// The rows as a slice.
     pub fn as_slice(&self) -> &[Row]
         ensures { result.now ≡ self.now }
     {
@@ -224,12 +233,14 @@ impl Model for Slcs {
 }
 
 impl Slcs {
+    /// These link codes.
     pub fn from_vec(list: Vec<u8>) -> Slcs
         ensures { result ≡ list.items }
     {
         Slcs { list }
     }
 
+    /// The link codes as a slice.
     pub fn as_slice(&self) -> &[u8]
         ensures { result.now ≡ self.now }
     {
