@@ -3,6 +3,8 @@
 #![tactic(auto)]
 
 #[cfg(test)]
+mod copy_tests;
+#[cfg(test)]
 mod edit_tests;
 #[cfg(test)]
 mod excerpt_tests;
