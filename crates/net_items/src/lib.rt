@@ -4,7 +4,7 @@
 //! 2. A link set is a set of links that directly join two points; a link is named by its signalling link code
 //!    (Q.704 clause 2.2).
 //! 3. A plan says, for one destination, over which adjacent points each point leads its traffic: classes of one or
-//!    two vias in order of priority, and whether the mate may be used (own, after Q.704 clause 5).
+//!    two vias in order of priority, and whether the mate may be used (own, after Q.704 clause 4).
 //!
 //! The lists inside these types are small types of their own, which contracts see as lists. Whether they make a
 //! valid network is the subject of the crate `net_data`.
