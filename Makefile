@@ -13,7 +13,7 @@ demo: build
 	@$(PROGRAM) run examples/national.toml < examples/national.script
 
 build:
-	@cd crates/route_desk && rt run > out.log 2>&1 || { cat out.log; rm -f out.log; exit 1; }; rm -f out.log
+	@cd crates/route_desk && rt run -- --help > out.log 2>&1 || { cat out.log; rm -f out.log; exit 1; }; rm -f out.log
 
 test:
 	@rt ci
