@@ -1,6 +1,6 @@
-//! Codes with their numbers, worked out by hand, and texts that are no codes.
+//! Codes with their numbers and messages with their octets, worked out by hand, and texts that are no codes.
 
-use crate::{BadCode, PointCode};
+use crate::{BadCode, MsgKind, PointCode, tfm_octets};
 use std::test::Fail;
 
 #[test]
@@ -32,4 +32,29 @@ fn refuses(rt: HostRuntime) {
             "at {text}"
         );
     }
+}
+
+#[test]
+fn writes_messages(rt: HostRuntime) -> Result<(), Fail> {
+    let end = PointCode::parse(b"2-1-1")?;
+    let (p, q) = (PointCode::parse(b"2-10-1")?, PointCode::parse(b"2-10-2")?);
+    let x = PointCode::parse(b"2-1-2")?;
+    let (first, last) = (PointCode::parse(b"0-0-0")?, PointCode::parse(b"7-255-7")?);
+    assert_eq!(rt;
+        tfm_octets(2, p, q, MsgKind::Tfp, x),
+        [0x80, 0x51, 0x90, 0x14, 0x04, 0x14, 0x0A, 0x10]
+    );
+    assert_eq!(rt;
+        tfm_octets(2, end, q, MsgKind::Tfr, x),
+        [0x80, 0x09, 0x90, 0x14, 0x04, 0x34, 0x0A, 0x10]
+    );
+    assert_eq!(rt;
+        tfm_octets(2, end, p, MsgKind::Tfa, x),
+        [0x80, 0x09, 0x50, 0x14, 0x04, 0x54, 0x0A, 0x10]
+    );
+    assert_eq!(rt;
+        tfm_octets(0, last, first, MsgKind::Tfa, first),
+        [0x00, 0xFF, 0x3F, 0x00, 0x00, 0x54, 0x00, 0x00]
+    );
+    Ok(())
 }
