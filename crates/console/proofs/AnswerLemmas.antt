@@ -4,7 +4,7 @@ use Rattle.net_data.specs.Network.{Network}
 use Rattle.console.specs.Lines.{whole_lines, rest_of, trimmed, is_too_long, is_silent}
 use Rattle.tokens.specs.Words.{words_of}
 use Rattle.console.specs.declared.commands.Query.{Query}
-use Rattle.console.specs.declared.commands.Query.TheVariants.{Status}
+use Rattle.console.specs.declared.commands.Query.TheVariants.{About}
 use Rattle.console.specs.Commands.{Reply, bad_line, answer, query_of, command}
 use Rattle.console.specs.Answers.{reply, ended, silent, answers, after_lines}
 use Rattle.console.specs.Run.{IsFrontOf}
@@ -47,7 +47,7 @@ front_of_more net written ls ms all e h =
 -- no line changes the network yet
 answer-after : (net : Network) (query : Option Query) → (answer net query).after ≡ net
 answer-after net None = refl
-answer-after net (Some (Status y x)) = refl
+answer-after net (Some (About asked y x)) = refl
 
 ended-after : (b c : Bool) (net : Network) (r : Reply) → r.after ≡ net → (cond b (ended (bad_line net)) (cond c (silent net) (ended r))).after ≡ net
 ended-after true c net r e = refl

@@ -3,4 +3,4 @@ pub mod AnswerLemmas
 pub mod RunLemmas
 pub mod InputLemmas
 pub mod PlainLemmas
-pub mod StatusLemmas
+pub mod RowLemmas

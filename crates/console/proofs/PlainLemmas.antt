@@ -6,14 +6,18 @@ use Rattle.std.proofs.lemmas.List.Sums.{sum_by-append}
 use Rattle.std.proofs.lemmas.Fmt.{digits_decimal}
 use Rattle.std.proofs.lemmas.Str.Parse.{IsNumeralModel, numerals_by_value, tells_all_ascii_digits}
 use Rattle.std.specs.Char.{is_ascii_digit}
-use Rattle.std.specs.Fmt.{decimal}
+use Rattle.std.specs.Fmt.{decimal, digit_glyph}
 use Rattle.std.specs.Str.{all_ascii_digits}
 use Rattle.std.specs.Str.Parse.{digits_value}
 use Rattle.point_codes.specs.Codes.{code_text}
+use Rattle.point_codes.specs.declared.kinds.MsgKind.{MsgKind}
+use Rattle.profile.specs.declared.tables.Message.{Message}
 use Rattle.route_choice.specs.declared.choices.Far.{Far}
 use Rattle.route_choice.specs.declared.choices.Far.TheVariants.{Allowed, Restricted, Prohibited}
 use Rattle.console.specs.Run.{line_count}
 use Rattle.console.specs.Status.{far_text, member_text}
+use Rattle.console.specs.Links.{link_text}
+use Rattle.console.specs.Messages.{kind_text, message_text, octet_text}
 
 pub line_count-append : (a b : List ℕ) → line_count (a ++ b) ≡ line_count a + line_count b
 line_count-append a b = sum_by-append (λ x. cond (x == 10) 1 0) a b
@@ -50,6 +54,32 @@ plain_code n small =
 pub plain_member : (member : Option ℕ) (code : ℕ) → member ≡ Some code → code < 16384 → line_count (member_text member) ≡ 0
 plain_member member code e small =
     ap (λ m. line_count (member_text m)) e ∙ plain_both (32 ∷ []) (code_text code) refl (plain_code code small)
+
+-- a link
+pub plain_link : (id slc : ℕ) → id < 2 ^ 64 → slc < 2 ^ 64 → line_count (link_text (Some (record { id = id; slc = slc }))) ≡ 0
+plain_link id slc small_id small_slc =
+    plain_both (decimal id) (58 ∷ decimal slc) (plain_decimal id small_id) (plain_decimal slc small_slc)
+
+-- a kind of message
+pub plain_kind : (kind : MsgKind) → line_count (kind_text kind) ≡ 0
+plain_kind MsgKind.Tfp = refl
+plain_kind MsgKind.Tfr = refl
+plain_kind MsgKind.Tfa = refl
+
+-- a message
+pub plain_message : (m : Message) → m.to < 16384 → line_count (message_text m) ≡ 0
+plain_message m small =
+    plain_both (32 ∷ []) (kind_text m.kind ++ 62 ∷ code_text m.to) refl
+    (plain_both (kind_text m.kind) (62 ∷ code_text m.to) (plain_kind m.kind) (plain_code m.to small))
+
+-- a hexadecimal digit
+plain_glyph : (d : ℕ) → line_count (digit_glyph true d ∷ []) ≡ 0
+plain_glyph d = grind (arith, nat_tests)
+
+-- an octet
+pub plain_octet : (octet : ℕ) → line_count (octet_text octet) ≡ 0
+plain_octet octet =
+    plain_both (digit_glyph true (octet / 16) ∷ []) (digit_glyph true (octet % 16) ∷ []) (plain_glyph (octet / 16)) (plain_glyph (octet % 16))
 
 -- a status
 pub plain_far : (far : Far) → line_count (far_text far) ≡ 0

@@ -6,3 +6,6 @@ pub mod Input
 pub mod Words
 pub mod Refusals
 pub mod Status
+pub mod Links
+pub mod Messages
+pub mod Rows

@@ -4,9 +4,12 @@
 //!    carriage return at a line's end is dropped.
 //! 2. A line of more than 131,072 bytes is answered `refused 62 BadLine`, whatever it holds. Of the others, an empty
 //!    line, a line of spaces alone and a comment, whose first byte is `#`, get no answer.
-//! 3. Every other line gets one line for an answer. `status Y X` is answered with what the point Y uses towards the
-//!    destination X in the settled network: `status STATUS class N by CODE CODE`, or `status prohibited` for class 0;
-//!    it is refused 26 NoPlan, then 29 NoRow. A line that is no command is answered `refused 62 BadLine`.
+//! 3. Every other line gets one line for an answer. Questions about the row of the point Y in the settled table of the
+//!    destination X are refused 26 NoPlan, then 29 NoRow. `status Y X` is answered with what Y uses: `status STATUS class
+//!    N by CODE CODE`, or `status prohibited` for class 0; `sls Y X` with the link of each signalling link selection, as
+//!    `ID:SLC`, or `sls none` for class 0; `messages Y X` with the transfer messages in force from Y, as `TFA>CODE`, in
+//!    rising code of the receiver; `octets Y Z X` with the octets of the message in force from Y to Z, or `octets none`.
+//!    A line that is no command is answered `refused 62 BadLine`.
 //! 4. The answers to the lines of one read are written before more is read.
 //! 5. A run ends early where memory is wanting (1), reading fails (63) or writing fails (64). What was written is then
 //!    a front of the answers. A read that the system interrupts is tried again; after 2^32 reads the run ends with 63.
@@ -21,7 +24,10 @@ pub mod faults;
 pub mod files;
 pub mod input;
 mod lines;
+mod links;
+mod messages;
 pub mod printed;
+mod rows;
 pub mod script;
 mod session;
 pub mod status;

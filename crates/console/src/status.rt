@@ -1,18 +1,13 @@
-//! The command `status`.
+//! The answer to `status`.
 
 ghost use Rattle.std.specs.Prelude.{◌≡◌, ◌++◌, IfOk, OnOk, string_bytes};
 ghost use Rattle.std.specs.List.{flat_map};
-ghost use Rattle.console.specs.Status.{far_text, member_text, status_text, row_in, row_answer, status_answer};
-ghost use Rattle.profile.specs.Whole.{scratch};
-ghost use Rattle.excerpts.specs.Excerpts.{source_of};
+ghost use Rattle.console.specs.Status.{far_text, member_text, status_text};
 ghost use Rattle.console.specs.Run.{line_count};
 
-use excerpts::{Excerpt, ExcerptFault};
-use net_data::nets::Net;
 use point_codes::PointCode;
 use route_choice::{Choice, Far};
 use std::alloc::{AllocError, Global};
-use transfer_state::{find_row, table_of};
 
 /// A status.
 fn far_word(far: Far) -> &'static str
@@ -67,33 +62,4 @@ pub fn write_status(alloc: Global, choice: &Choice) -> Result<String, AllocError
     let mut text = format!(in alloc; "status {word} class {class} by")?;
     put_members(alloc, &mut text, &choice.members)?;
     Ok(text)
-}
-
-/// The answer from the row of a point, without a line feed.
-fn answer_row(alloc: Global, excerpt: &Excerpt, point: PointCode) -> Result<String, AllocError>
-    ensures text { IfOk result (λ text. string_bytes text ≡ row_answer (row_in (scratch (source_of excerpt.now)) point)) }
-    ensures plain { IfOk result (λ text. line_count (string_bytes text) ≡ 0) }
-{
-    let table = table_of(alloc, excerpt)?;
-    match find_row(&table, point) {
-        Some(state) => write_status(alloc, &state.choice),
-        None => String::from_str(alloc, "refused 29 NoRow"),
-    }
-}
-
-/// The answer to `status Y X`, without a line feed.
-pub fn answer_status(
-    alloc: Global,
-    net: &Net,
-    point: PointCode,
-    dest: PointCode,
-) -> Result<String, AllocError>
-    ensures text { IfOk result (λ text. string_bytes text ≡ status_answer net.now point dest) }
-    ensures plain { IfOk result (λ text. line_count (string_bytes text) ≡ 0) }
-{
-    match Excerpt::of(alloc, net, dest) {
-        Ok(excerpt) => answer_row(alloc, &excerpt, point),
-        Err(ExcerptFault::NoPlan) => String::from_str(alloc, "refused 26 NoPlan"),
-        Err(ExcerptFault::OutOfMemory) => Err(AllocError),
-    }
 }

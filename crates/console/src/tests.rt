@@ -144,6 +144,8 @@ sets = [\"1 2-1-1 2-10-1 0\", \"2 2-10-1 2-1-2 0f\"]
 plans = [\"2-1-2 2-1-1:2:2-10-1 2-10-1:1:2-1-2\"]
 %%
 status 2-1-1 2-1-2
+sls 2-1-1 2-1-2
+messages 2-10-1 2-1-2
 ";
 
 #[test]
@@ -151,7 +153,55 @@ fn failed_set(rt: HostRuntime) -> Result<(), Fail> {
     let mut out: Vec<u8> = Vec::new(rt.alloc());
     let mut reader = FAILED_SET;
     let end = run_input(rt.alloc(), &mut reader, &mut out);
-    assert_eq!(rt; out.as_slice(), b"status prohibited\n".as_slice());
+    assert_eq!(rt;
+        out.as_slice(),
+        b"status prohibited\nsls none\nmessages TFP>2-1-1\n".as_slice()
+    );
+    assert_eq!(rt; end.fault, None);
+    Ok(())
+}
+
+const MATES: &[u8] = b"format = 1
+ni = 2
+points = ['2-1-1 sep', '2-1-2 sep', '2-1-3 sep', '2-10-1 stp', '2-10-2 stp']
+pairs = ['2-10-1 2-10-2']
+sets = ['1 2-1-1 2-10-1 0 1', '2 2-1-1 2-10-2 0 1', '3 2-10-1 2-1-2 0 1', '4 2-10-2 2-1-2 0f', '5 2-10-1 2-10-2 0']
+plans = ['2-1-2 2-1-1:2:2-10-1+2-10-2 2-10-1:1:2-1-2:m 2-10-2:1:2-1-2:m']
+%%
+status 2-10-2 2-1-2
+sls 2-1-1 2-1-2
+messages 2-10-2 2-1-2
+messages 2-10-1 2-1-2
+messages 2-1-1 2-1-2
+octets 2-10-2 2-10-1 2-1-2
+octets 2-10-2 2-1-1 2-1-2
+octets 2-10-2 2-1-3 2-1-2
+octets 2-1-3 2-1-1 2-1-2
+sls 2-1-1 2-1-3
+octets 2-10-2 2-1-2
+messages 2-10-2 2-1-1 2-1-2
+";
+
+const MATES_ANSWERS: &[u8] = b"status restricted class 5 by 2-10-1
+sls 1:0 1:0 1:1 1:1 1:0 1:0 1:1 1:1 1:0 1:0 1:1 1:1 1:0 1:0 1:1 1:1
+messages TFR>2-1-1 TFP>2-10-1
+messages TFA>2-1-1 TFA>2-10-2
+messages
+octets 80 51 90 14 04 14 0A 10
+octets 80 09 90 14 04 34 0A 10
+octets none
+refused 29 NoRow
+refused 26 NoPlan
+refused 62 BadLine
+refused 62 BadLine
+";
+
+#[test]
+fn questions_of_rows(rt: HostRuntime) -> Result<(), Fail> {
+    let mut out: Vec<u8> = Vec::new(rt.alloc());
+    let mut reader = MATES;
+    let end = run_input(rt.alloc(), &mut reader, &mut out);
+    assert_eq!(rt; out.as_slice(), MATES_ANSWERS);
     assert_eq!(rt; end.fault, None);
     Ok(())
 }
