@@ -2,5 +2,3 @@ pub mod LineLemmas
 pub mod AnswerLemmas
 pub mod RunLemmas
 pub mod InputLemmas
-pub mod PlainLemmas
-pub mod RowLemmas

@@ -6,13 +6,14 @@ use Rattle.std.proofs.KnownBytes.{Appends-trans, Appends-nil, Consumes-nil, Cons
 use Rattle.net_data.specs.Network.{Network}
 use Rattle.console.specs.Lines.{whole_lines, rest_of, lines_of}
 use Rattle.console.specs.Answers.{reply, answers, after_lines}
-use Rattle.console.specs.Run.{line_count, IsFrontOf, IsLine, IsTaken, IsAt, HasAnswered, IsCutOff, CutsOff, IsWritten, IsDone, Ran}
+use Rattle.answers.specs.Text.{line_count}
+use Rattle.console.specs.Run.{IsFrontOf, IsLine, IsTaken, IsAt, HasAnswered, IsCutOff, CutsOff, IsWritten, IsDone, Ran}
 use Rattle.console.specs.declared.faults.Fault.{Fault}
 use Rattle.console.specs.declared.faults.Fault.TheVariants.{OutOfMemory, Read, Write, Load}
 use Rattle.console.specs.declared.session.Session.{Session}
 use Rattle.console.proofs.LineLemmas.{cut_ended, cut_grown, whole_more}
 use Rattle.console.proofs.AnswerLemmas.{ended_answers, ended_after, front_of_more, IsFrontOf-whole}
-use Rattle.console.proofs.PlainLemmas.{line_count-append}
+use Rattle.answers.proofs.PlainLemmas.{line_count-append}
 
 -- a line was ended and answered
 pub taken_line : (start : Network) (read written : List ℕ) (s t : Session) → IsTaken start read written s

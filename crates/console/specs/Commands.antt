@@ -4,9 +4,9 @@ use Rattle.std.specs.Str.{bytes_eq}
 use Rattle.point_codes.specs.Codes.{code_of}
 use Rattle.net_data.specs.Network.{Network}
 use Rattle.tokens.specs.Words.{words_of}
-use Rattle.console.specs.Rows.{answer_about}
-use Rattle.console.specs.declared.rows.Asked.{Asked}
-use Rattle.console.specs.declared.rows.Asked.TheVariants.{Status, Links, Messages, Octets}
+use Rattle.answers.specs.Rows.{answer_about}
+use Rattle.answers.specs.declared.rows.Asked.{Asked}
+use Rattle.answers.specs.declared.rows.Asked.TheVariants.{Status, Links, Messages, Octets}
 use Rattle.console.specs.declared.commands.Query.{Query}
 use Rattle.console.specs.declared.commands.Query.TheVariants.{About}
 

@@ -6,7 +6,8 @@ use Rattle.net_data.specs.Network.{Network}
 use Rattle.net_text.specs.Reading.{Says}
 use Rattle.net_text.specs.declared.faults.LoadFault.{LoadFault}
 use Rattle.console.specs.Lines.{trimmed, whole_lines, rest_of}
-use Rattle.console.specs.Run.{line_count, IsWritten, IsDone}
+use Rattle.answers.specs.Text.{line_count}
+use Rattle.console.specs.Run.{IsWritten, IsDone}
 use Rattle.console.specs.declared.faults.Fault.{Fault}
 use Rattle.console.specs.declared.faults.Fault.TheVariants.{OutOfMemory, Read, Write, Load}
 use Rattle.console.specs.declared.input.Opening.{Opening}

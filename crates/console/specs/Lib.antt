@@ -4,8 +4,4 @@ pub mod Answers
 pub mod Run
 pub mod Input
 pub mod Words
-pub mod Refusals
-pub mod Status
-pub mod Links
-pub mod Messages
-pub mod Rows
+pub mod Faults

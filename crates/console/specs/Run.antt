@@ -1,17 +1,14 @@
 -- What a run of a script reads and writes.
-use Rattle.std.specs.Prelude.{◌≡◌, ℕ, ◌==◌, ◌<◌, ◌≤◌, Bool, true, false, List, [], ◌++◌, length, count_by, Option, Some, None}
+use Rattle.std.specs.Prelude.{◌≡◌, ℕ, ◌<◌, ◌≤◌, Bool, true, false, List, [], ◌++◌, length, Option, Some, None}
 use Rattle.std.specs.Io.KnownBytes.{Consumes, Appends, IsAtEnd}
 use Rattle.net_data.specs.Network.{Network}
+use Rattle.answers.specs.Text.{line_count}
 use Rattle.console.specs.Lines.{whole_lines, rest_of, lines_of}
 use Rattle.console.specs.Answers.{answers, after_lines}
 use Rattle.console.specs.declared.faults.Fault.{Fault}
 use Rattle.console.specs.declared.faults.Fault.TheVariants.{OutOfMemory, Read, Write, Load}
 use Rattle.console.specs.declared.lines.Line.{Line}
 use Rattle.console.specs.declared.session.Session.{Session}
-
--- how many line feeds a text has
-abbrev pub line_count : List ℕ → ℕ
-line_count text = count_by (λ b. b == 10) text
 
 -- more could follow
 abbrev pub IsFrontOf : List ℕ → List ℕ → Type 0

@@ -2,9 +2,9 @@
 
 ghost use Rattle.std.specs.Prelude.{◌≡◌, map, Some, IfOk, string_bytes};
 ghost use Rattle.console.specs.Commands.{about, answer, asked_by, asked_of, command, query_of};
-ghost use Rattle.console.specs.Run.{line_count};
+ghost use Rattle.answers.specs.Text.{line_count};
 
-use crate::rows::{Asked, answer_about};
+use answers::{Asked, answer_about};
 use net_data::nets::Net;
 use point_codes::PointCode;
 use std::alloc::{AllocError, Global};

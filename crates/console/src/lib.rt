@@ -24,13 +24,9 @@ pub mod faults;
 pub mod files;
 pub mod input;
 mod lines;
-mod links;
-mod messages;
 pub mod printed;
-mod rows;
 pub mod script;
 mod session;
-pub mod status;
 pub mod words;
 
 pub use faults::Fault;

@@ -3,7 +3,8 @@
 ghost use Rattle.std.specs.Prelude.{◌≡◌, ℕ, ◌+◌, ◌*◌, ◌^◌, ◌<◌, ◌≤◌, List, Option, Some, None};
 ghost use Rattle.std.specs.Io.KnownBytes.{IsAtEnd};
 ghost use Rattle.net_data.specs.Network.{Network};
-ghost use Rattle.console.specs.Run.{HasAnswered, Ran, line_count};
+ghost use Rattle.answers.specs.Text.{line_count};
+ghost use Rattle.console.specs.Run.{HasAnswered, Ran};
 
 use crate::faults::Fault;
 use crate::session::Session;

@@ -5,7 +5,8 @@ ghost use Rattle.std.specs.Io.KnownBytes.{Appends};
 ghost use Rattle.net_data.specs.Network.{Network};
 ghost use Rattle.console.specs.Lines.{whole_lines};
 ghost use Rattle.console.specs.Answers.{reply};
-ghost use Rattle.console.specs.Run.{IsLine, IsTaken, IsAt, IsCutOff, CutsOff, IsFrontOf, line_count};
+ghost use Rattle.answers.specs.Text.{line_count};
+ghost use Rattle.console.specs.Run.{IsLine, IsTaken, IsAt, IsCutOff, CutsOff, IsFrontOf};
 ghost use Rattle.console.specs.Answers.{answers};
 
 use crate::commands::run_command;

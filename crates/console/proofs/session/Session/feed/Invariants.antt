@@ -1,6 +1,7 @@
 use Rattle.std.proofs.Common.{◌≡◌, ℕ, ◌+◌, ◌≤◌, ◌++◌, List, take}
 use Rattle.net_data.specs.Network.{Network}
-use Rattle.console.specs.Run.{IsTaken, line_count}
+use Rattle.answers.specs.Text.{line_count}
+use Rattle.console.specs.Run.{IsTaken}
 use Rattle.console.proofs.session.Session.feed.Given as goal
 
 -- the bytes so far were taken

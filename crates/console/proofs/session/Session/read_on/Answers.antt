@@ -1,7 +1,7 @@
 use Rattle.std.proofs.Common.{◌≡◌, ℕ, ◌≤◌, ◌++◌, List, length, take, ap, refl, arith, rules}
 use Rattle.std.proofs.KnownBytes.{Consumes-trans}
 use Rattle.console.specs.Lines.{whole_lines, rest_of, last_line}
-use Rattle.console.specs.Run.{line_count}
+use Rattle.answers.specs.Text.{line_count}
 use Rattle.console.proofs.RunLemmas.{answered_more, answered_same, answered_kept, ran_cut_off, ran_unread}
 use Rattle.console.proofs.session.Session.read_on.Goals as goal
 use Rattle.console.proofs.session.Session.read_on.Goals.{in-Ok+in_default, in-Err+else-ne}

@@ -1,6 +1,7 @@
 use Rattle.std.proofs.Common.{ℕ, ◌+◌, ◌*◌, ◌≤◌, List, Option}
 use Rattle.net_data.specs.Network.{Network}
-use Rattle.console.specs.Run.{HasAnswered, line_count}
+use Rattle.answers.specs.Text.{line_count}
+use Rattle.console.specs.Run.{HasAnswered}
 use Rattle.console.proofs.session.Session.read_on.Given as goal
 
 -- what was read is answered

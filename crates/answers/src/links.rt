@@ -1,0 +1,53 @@
+//! The answer to `sls`.
+
+ghost use Rattle.std.specs.Prelude.{◌≡◌, ◌++◌, IfOk, OnOk, Some, string_bytes};
+ghost use Rattle.std.specs.List.{flat_map};
+ghost use Rattle.answers.specs.Links.{link_text, links_text};
+ghost use Rattle.answers.specs.Text.{line_count};
+
+use profile::tables::{LinkRef, RowState};
+use std::alloc::{AllocError, Global};
+
+/// A link after a space, by its set and its signalling link code.
+fn link_word(alloc: Global, id: u16, slc: u8) -> Result<String, AllocError>
+    ensures text { IfOk result (λ word. string_bytes word ≡ link_text (Some (record { id = id; slc = slc }))) }
+    ensures plain { line_count (link_text (Some (record { id = id; slc = slc }))) ≡ 0 }
+{
+    format!(in alloc; " {id}:{slc}")
+}
+
+/// Adds a link after a space.
+fn put_link(alloc: Global, text: &mut String, link: Option<LinkRef>) -> Result<(), AllocError>
+    ensures text { OnOk result (string_bytes text.new ≡ string_bytes text.old ++ link_text link) }
+    ensures plain { line_count (link_text link) ≡ 0 }
+{
+    let Some(link) = link else {
+        return Ok(());
+    };
+    let word = link_word(alloc, link.id, link.slc)?;
+    text.push_str(word.as_str())
+}
+
+/// Adds links, each after a space.
+fn put_links(alloc: Global, text: &mut String, links: &[Option<LinkRef>]) -> Result<(), AllocError>
+    ensures text { OnOk result (string_bytes text.new ≡ string_bytes text.old ++ flat_map link_text links.now) }
+    ensures plain { OnOk result (line_count (string_bytes text.new) ≡ line_count (string_bytes text.old)) }
+{
+    for link in links {
+        put_link(alloc, text, *link)?;
+    }
+    Ok(())
+}
+
+/// The links of a row in text, in rising signalling link selection.
+pub(crate) fn write_links(alloc: Global, state: &RowState) -> Result<String, AllocError>
+    ensures text { IfOk result (λ text. string_bytes text ≡ links_text state.now) }
+    ensures plain { IfOk result (λ text. line_count (string_bytes text) ≡ 0) }
+{
+    if state.choice.class == 0 {
+        return String::from_str(alloc, "sls none");
+    }
+    let mut text = String::from_str(alloc, "sls")?;
+    put_links(alloc, &mut text, &state.links)?;
+    Ok(text)
+}

@@ -1,0 +1,114 @@
+//! The answers to `messages` and `octets`.
+
+ghost use Rattle.std.specs.Prelude.{◌≡◌, ◌++◌, ◌<◌, IfOk, OnOk, Some, string_bytes};
+ghost use Rattle.std.specs.List.{flat_map};
+ghost use Rattle.std.specs.Option.{option_copied};
+ghost use Rattle.answers.specs.Messages.{kind_text, message_text, messages_text, message_to as the_message_to, octet_text, octets_text, octets_to};
+ghost use Rattle.answers.specs.Text.{line_count};
+
+use point_codes::{MsgKind, PointCode, tfm_octets};
+use profile::tables::{Message, Messages, RowState};
+use std::alloc::{AllocError, Global};
+
+/// The kind of a message.
+fn kind_word(kind: MsgKind) -> &'static str
+    ensures { result.now ≡ kind_text kind }
+{
+    match kind {
+        MsgKind::Tfp => "TFP",
+        MsgKind::Tfr => "TFR",
+        MsgKind::Tfa => "TFA",
+    }
+}
+
+/// Adds a message after a space.
+fn put_message(alloc: Global, text: &mut String, message: Message) -> Result<(), AllocError>
+    ensures text { OnOk result (string_bytes text.new ≡ string_bytes text.old ++ message_text message) }
+    ensures plain { line_count (message_text message) ≡ 0 }
+{
+    // The proof reads the code's range from this.
+    let _number = message.to.number();
+    let word = kind_word(message.kind);
+    text.push_str(" ")?;
+    text.push_str(word)?;
+    text.push_str(">")?;
+    message.to.put_text(alloc, text)
+}
+
+/// Adds messages, each after a space.
+fn put_messages(alloc: Global, text: &mut String, messages: &[Message]) -> Result<(), AllocError>
+    ensures text { OnOk result (string_bytes text.new ≡ string_bytes text.old ++ flat_map message_text messages.now) }
+    ensures plain { OnOk result (line_count (string_bytes text.new) ≡ line_count (string_bytes text.old)) }
+{
+    for message in messages {
+        put_message(alloc, text, *message)?;
+    }
+    Ok(())
+}
+
+/// The messages in force from a point in text, in rising code of the receiver.
+pub(crate) fn write_messages(alloc: Global, messages: &Messages) -> Result<String, AllocError>
+    ensures text { IfOk result (λ text. string_bytes text ≡ messages_text messages.now) }
+    ensures plain { IfOk result (λ text. line_count (string_bytes text) ≡ 0) }
+{
+    let mut text = String::from_str(alloc, "messages")?;
+    put_messages(alloc, &mut text, messages.as_slice())?;
+    Ok(text)
+}
+
+/// The message to a point.
+fn message_to(messages: &[Message], z: PointCode) -> Option<&Message>
+    ensures { option_copied result ≡ the_message_to messages.now z }
+{
+    messages.iter().find(|m| m.to == z)
+}
+
+/// An octet after a space.
+fn octet_word(alloc: Global, octet: u8) -> Result<String, AllocError>
+    ensures { IfOk result (λ word. string_bytes word ≡ octet_text octet) }
+{
+    format!(in alloc; " {octet:02X}")
+}
+
+/// Adds an octet after a space.
+fn put_octet(alloc: Global, text: &mut String, octet: u8) -> Result<(), AllocError>
+    ensures text { OnOk result (string_bytes text.new ≡ string_bytes text.old ++ octet_text octet) }
+    ensures plain { line_count (octet_text octet) ≡ 0 }
+{
+    let word = octet_word(alloc, octet)?;
+    text.push_str(word.as_str())
+}
+
+/// Adds octets, each after a space.
+fn put_octets(alloc: Global, text: &mut String, octets: &[u8]) -> Result<(), AllocError>
+    ensures text { OnOk result (string_bytes text.new ≡ string_bytes text.old ++ flat_map octet_text octets.now) }
+    ensures plain { OnOk result (line_count (string_bytes text.new) ≡ line_count (string_bytes text.old)) }
+{
+    for octet in octets {
+        put_octet(alloc, text, *octet)?;
+    }
+    Ok(())
+}
+
+/// The octets of the message in force from a row's point to another about a destination, in text.
+pub(crate) fn write_octets(
+    alloc: Global,
+    ni: u8,
+    dest: PointCode,
+    state: &RowState,
+    z: PointCode,
+) -> Result<String, AllocError>
+    requires { ni < 4 }
+    ensures text { IfOk result (λ text. string_bytes text ≡ octets_text (octets_to ni dest state.now z)) }
+    ensures plain { IfOk result (λ text. line_count (string_bytes text) ≡ 0) }
+{
+    match message_to(state.messages.as_slice(), z) {
+        None => String::from_str(alloc, "octets none"),
+        Some(message) => {
+            let octets = tfm_octets(ni, z, state.point, message.kind, dest);
+            let mut text = String::from_str(alloc, "octets")?;
+            put_octets(alloc, &mut text, &octets)?;
+            Ok(text)
+        }
+    }
+}
