@@ -4,8 +4,8 @@ use Rattle.std.specs.Fmt.{decimal}
 use Rattle.point_codes.specs.Codes.{code_text}
 use Rattle.net_data.specs.declared.events.Refusal.{Refusal}
 use Rattle.net_data.specs.declared.events.Refusal.TheVariants as refusal
-use Rattle.net_data.specs.declared.events.Cause.{Cause}
-use Rattle.net_data.specs.declared.events.Cause.TheVariants as cause
+use Rattle.plan_rows.specs.declared.causes.Cause.{Cause}
+use Rattle.plan_rows.specs.declared.causes.Cause.TheVariants as cause
 use Rattle.net_text.specs.declared.faults.Key.{Key}
 use Rattle.net_text.specs.declared.faults.Key.TheVariants as key
 use Rattle.net_text.specs.declared.faults.LoadFault.{LoadFault}
