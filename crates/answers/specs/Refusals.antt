@@ -4,8 +4,8 @@ use Rattle.std.specs.Fmt.{decimal}
 use Rattle.point_codes.specs.Codes.{code_text}
 use Rattle.net_data.specs.declared.events.Refusal.{Refusal}
 use Rattle.net_data.specs.declared.events.Refusal.TheVariants as refusal
-use Rattle.net_data.specs.declared.events.Cause.{Cause}
-use Rattle.net_data.specs.declared.events.Cause.TheVariants as cause
+use Rattle.plan_rows.specs.declared.causes.Cause.{Cause}
+use Rattle.plan_rows.specs.declared.causes.Cause.TheVariants as cause
 
 -- the number and the name of a refusal
 abbrev pub refusal_name : Refusal → List ℕ

@@ -13,7 +13,9 @@ use Rattle.net_items.specs.Keyed.{IsRising}
 use Rattle.net_items.specs.Lookups.{has_point, is_stp, mate_of, joined, set_between, row_at, plan_at}
 use Rattle.net_items.proofs.KeyedLemmas.{found_holds}
 use Rattle.net_data.specs.Network.{Network}
-use Rattle.net_data.specs.Valid.{is_lower, is_free, is_mate, is_nil, is_small_class, has_equal_row, has_mate_row, IsRightRow, IsRightPlan, IsRightSet}
+use Rattle.net_sets.specs.Sets.{is_nil}
+use Rattle.plan_rows.specs.Rows.{is_lower, is_free, is_mate, is_small_class, has_equal_row, has_mate_row}
+use Rattle.net_data.specs.Valid.{IsRightRow, IsRightPlan, IsRightSet}
 use Rattle.net_data.specs.Valid.{IsValid as IsValidNet}
 use Rattle.profile.specs.Status.{Source}
 use Rattle.profile.specs.Valid.{IsLower, HasMate, IsVia, IsValidRow, IsValid, HasFewLinks}

@@ -11,12 +11,12 @@ ghost use Rattle.profile.specs.Walk.{is_via as via_is};
 ghost use Rattle.net_items.specs.declared.items.LinkSet.{LinkSet};
 ghost use Rattle.excerpts.specs.Excerpts.{kind_of as the_kind, row_point as the_row_point, leads as row_leads};
 
-use net_data::uses::is_via;
 use net_items::copies::{copy_set, place_of_row};
 use net_items::equals::{is_same_point, is_same_set};
 use net_items::items::{Kind, LinkSet, Plan, Point};
 use net_items::lists::{Row, Vias};
 use net_items::lookups::{find_point, is_stp, mate_of};
+use plan_rows::uses::is_via;
 use point_codes::PointCode;
 use std::alloc::{AllocError, Global};
 

@@ -8,7 +8,8 @@ use Rattle.net_items.specs.declared.items.LinkSet.{LinkSet}
 use Rattle.net_items.specs.declared.items.Plan.{Plan}
 use Rattle.net_items.specs.declared.lists.Row.{Row}
 use Rattle.net_items.specs.Lookups.{has_point, is_stp, mate_of, joined}
-use Rattle.net_data.specs.Valid.{all_vias, is_via, is_lower, is_free, has_equal_row, has_mate_row, IsRightRow, IsRightPlan, IsRightSet}
+use Rattle.plan_rows.specs.Rows.{all_vias, is_via, is_lower, is_free, has_equal_row, has_mate_row}
+use Rattle.net_data.specs.Valid.{IsRightRow, IsRightPlan, IsRightSet}
 use Rattle.net_items.proofs.KeyedLemmas.{All-then}
 
 -- what all pass, and what follows for another test

@@ -1,9 +1,5 @@
 pub mod Orders
-pub mod JointLemmas
 pub mod Frames
 pub mod Preserve
 pub mod Pairs
 pub mod Removals
-pub mod SeenLemmas
-pub mod RanksLemmas
-pub mod TransferLemmas

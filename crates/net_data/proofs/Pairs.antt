@@ -12,8 +12,10 @@ use Rattle.net_data.specs.declared.events.Event.TheVariants as on
 use Rattle.net_items.specs.Keyed.{IsRising}
 use Rattle.net_data.specs.Network.{Network}
 use Rattle.net_items.specs.Lookups.{point_at, has_point, is_stp, kind_is_stp, mate_of}
-use Rattle.net_data.specs.Valid.{is_via, is_mate, has_mate_row, IsRightRow, IsRightPlan, IsRightSet, AreMates, IsValid}
-use Rattle.net_data.specs.Edits.{either_uses, uses_pair, is_flagged, has_flag, refusal_of, changed, with_mate, set_mate}
+use Rattle.plan_rows.specs.Rows.{is_via, is_mate, has_mate_row}
+use Rattle.net_data.specs.Valid.{IsRightRow, IsRightPlan, IsRightSet, AreMates, IsValid}
+use Rattle.plan_rows.specs.Uses.{either_uses, uses_pair, is_flagged, has_flag}
+use Rattle.net_data.specs.Edits.{refusal_of, changed, with_mate, set_mate}
 use Rattle.net_data.proofs.Frames.{IsRightRow-kept, IsRightPlan-kept, IsRightSet-then, All-unless, neither, flag-kept, flag-off}
 use Rattle.net_data.proofs.Preserve.{when_none, not_some}
 use Rattle.net_items.proofs.KeyedLemmas.{All-edit, at_key-edit, All-then, IsRising-edit, length-edit}

@@ -12,13 +12,16 @@ use Rattle.net_items.specs.declared.lists.Row.{Row}
 use Rattle.net_items.specs.declared.links.Link.{Link}
 use Rattle.link_state.specs.declared.marks.LinkChange.{LinkChange}
 use Rattle.net_data.specs.declared.events.Event.TheVariants as on
-use Rattle.net_data.specs.declared.events.Refusal.TheVariants.{BadRow}
-use Rattle.net_items.specs.Keyed.{IsRising, put, edit}
+use Rattle.net_items.specs.Keyed.{put, edit}
 use Rattle.link_state.specs.Marks.{marks_after}
 use Rattle.net_data.specs.Network.{Network}
 use Rattle.net_items.specs.Lookups.{point_at, has_point, is_stp, kind_is_stp, mate_of, joins, set_at, set_between, joined, vias_of}
-use Rattle.net_data.specs.Valid.{all_vias, is_distinct, is_nil, is_lower, is_free, has_mate_row, is_small_row, IsRightRow, IsRightPlan, IsRightSet, IsOnePerPair, IsValid}
-use Rattle.net_data.specs.Edits.{when, cause_of, bad_row, refusal_of, changed, new_link, new_links, in_order, put_rows, with_change}
+use Rattle.plan_rows.specs.Rows.{all_vias, is_lower, is_free, has_mate_row, is_small_row}
+use Rattle.net_data.specs.Valid.{IsRightRow, IsRightPlan, IsRightSet, IsValid}
+use Rattle.net_sets.specs.Sets.{is_distinct, is_nil, new_link, new_links, with_change, IsOnePerPair}
+use Rattle.net_sets.proofs.SetLemmas.{IsRising-new_links}
+use Rattle.plan_rows.specs.Causes.{when, cause_of, wrong_row}
+use Rattle.net_data.specs.Edits.{refusal_of, changed, in_order, put_rows}
 use Rattle.net_items.proofs.KeyedLemmas.{All-put, All-then, All-edit, IsRising-put, IsRising-edit, length-put, length-put_pos, length-edit, is_some-put, put_new, some_find-put, none_find-put, some_find-edit}
 use Rattle.std.proofs.lemmas.List.Folds.{list_any-append}
 use Rattle.net_data.proofs.Orders.{links_few, any_put, IsRising-put_rows, All-put_rows}
@@ -131,10 +134,6 @@ module _ (net : Network) (v : IsValid net) where
       }
 
 -- new links
-pub IsRising-new_links : (slcs : List ℕ) → IsRising (λ (l : Link). l.slc) (new_links slcs)
-IsRising-new_links [] = tt
-IsRising-new_links (slc ∷ slcs) = IsRising-put (λ (l : Link). l.slc) (new_link slc) (new_links slcs) (IsRising-new_links slcs)
-
 new_links-small : (slcs : List ℕ) → list_all (λ c. ltb c 16) slcs ≡ true → AllByRecursion (λ (l : Link). l.slc < 16) (new_links slcs)
 new_links-small [] h = tt
 new_links-small (slc ∷ slcs) h =
@@ -200,12 +199,12 @@ module _ (net : Network) (v : IsValid net) where
       }
 
 -- what one of the rows passes, one of them passes after they were put among others: none has the point of an earlier one
-any_put_rows : (points : List Point) (sets : List LinkSet) (dest : ℕ) (rows : List Row) (t : Row → Bool) (earlier rs others : List Row) → bad_row points sets dest rows earlier rs ≡ None
+any_put_rows : (points : List Point) (sets : List LinkSet) (dest : ℕ) (rows : List Row) (t : Row → Bool) (earlier rs others : List Row) → wrong_row points sets dest rows earlier rs ≡ None
     → ((z : ℕ) → list_any (λ (x : Row). eqb x.point z) others ≡ list_any (λ (x : Row). eqb x.point z) earlier)
     → (list_any t rs || list_any t others) ≡ true → list_any t (put_rows rs others) ≡ true
 any_put_rows points sets dest rows t earlier [] others none same h = h
 any_put_rows points sets dest rows t earlier (r ∷ rs) others none same h =
-    let both = or_none (option_map (λ cause. BadRow r.point cause) (cause_of points sets dest rows earlier r)) _ none in
+    let both = or_none (option_map _ (cause_of points sets dest rows earlier r)) _ none in
     let t1 = when_none (eqb r.point dest) _ _ (map_none _ (cause_of points sets dest rows earlier r) both.0) in
     let t2 = when_none (list_any (λ (other : Row). eqb other.point r.point) earlier) _ _ t1.1 in
     let absent : list_any (λ (x : Row). eqb x.point r.point) others ≡ false = same r.point ∙ t2.0 in
@@ -218,10 +217,10 @@ any_put_rows points sets dest rows t earlier (r ∷ rs) others none same h =
     any_moved a b c e = grind arith
 
 -- rows with no cause are right
-rows_right_from : (points : List Point) (sets : List LinkSet) (dest : ℕ) (rows earlier rs : List Row) → bad_row points sets dest rows earlier rs ≡ None → list_all (λ (r : Row). has_point points r.point) rs ≡ true → list_all is_small_row rs ≡ true → AllByRecursion (IsRightRow points sets dest rows) rs
+rows_right_from : (points : List Point) (sets : List LinkSet) (dest : ℕ) (rows earlier rs : List Row) → wrong_row points sets dest rows earlier rs ≡ None → list_all (λ (r : Row). has_point points r.point) rs ≡ true → list_all is_small_row rs ≡ true → AllByRecursion (IsRightRow points sets dest rows) rs
 rows_right_from points sets dest rows earlier [] none there small = tt
 rows_right_from points sets dest rows earlier (r ∷ rs) none there small =
-    let both = or_none (option_map (λ cause. BadRow r.point cause) (cause_of points sets dest rows earlier r)) _ none in
+    let both = or_none (option_map _ (cause_of points sets dest rows earlier r)) _ none in
     let t1 = when_none (eqb r.point dest) _ _ (map_none _ (cause_of points sets dest rows earlier r) both.0) in
     let t2 = when_none (list_any (λ (other : Row). eqb other.point r.point) earlier) _ _ t1.1 in
     let t3 = when_none (not (all_vias (joined sets r.point) r)) _ _ t2.1 in
@@ -251,10 +250,11 @@ module _ (net : Network) (v : IsValid net) where
   pub valid-SetPlan : (p : Plan) → refusal_of net (on.SetPlan p) ≡ None → IsValid (changed net (on.SetPlan p))
   valid-SetPlan p none =
       let t1 = when_none (not (has_point net.points p.dest && list_all (λ (r : Row). has_point net.points r.point) p.rows)) _ _ none in
-      let t2 = or_none (bad_row net.points net.sets p.dest p.rows [] p.rows) _ t1.1 in
+      let t2 = or_none (option_map _ (wrong_row net.points net.sets p.dest p.rows [] p.rows)) _ t1.1 in
+      let right_rows = map_none _ (wrong_row net.points net.sets p.dest p.rows [] p.rows) t2.0 in
       let t3 = when_none (not (list_all is_small_row p.rows)) _ _ t2.1 in
       let there = and_parts (has_point net.points p.dest) _ (not-false _ t1.0) in
-      let right : AllByRecursion (IsRightRow net.points net.sets p.dest p.rows) p.rows = rows_right_from net.points net.sets p.dest p.rows [] p.rows t2.0 there.1 (not-false _ t3.0) in
+      let right : AllByRecursion (IsRightRow net.points net.sets p.dest p.rows) p.rows = rows_right_from net.points net.sets p.dest p.rows [] p.rows right_rows there.1 (not-false _ t3.0) in
       let new : Plan = record p { rows = in_order p.rows } in
       record {
         ni_small = v.ni_small;
@@ -271,7 +271,7 @@ module _ (net : Network) (v : IsValid net) where
               is_there = there.0;
               rows_rise = IsRising-put_rows p.rows [] tt;
               rows_right = All-then (λ (r : Row). r.point) (IsRightRow net.points net.sets p.dest p.rows) (IsRightRow net.points net.sets p.dest (in_order p.rows))
-                  (λ r h. IsRightRow-then net.points net.points net.sets net.sets p.dest p.rows (in_order p.rows) r (λ c h. h) (λ z h. h) refl (λ t h. any_put_rows net.points net.sets p.dest p.rows t [] p.rows [] t2.0 (λ z. refl) (or_left (list_any t p.rows) false h)) (λ c h. h) h)
+                  (λ r h. IsRightRow-then net.points net.points net.sets net.sets p.dest p.rows (in_order p.rows) r (λ c h. h) (λ z h. h) refl (λ t h. any_put_rows net.points net.sets p.dest p.rows t [] p.rows [] right_rows (λ z. refl) (or_left (list_any t p.rows) false h)) (λ c h. h) h)
                   (in_order p.rows) (All-put_rows (IsRightRow net.points net.sets p.dest p.rows) p.rows [] right tt);
             }) v.plans_right;
       }

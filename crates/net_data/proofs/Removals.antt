@@ -12,8 +12,11 @@ use Rattle.net_data.specs.declared.events.Event.TheVariants as on
 use Rattle.net_items.specs.Keyed.{put, without}
 use Rattle.net_data.specs.Network.{Network}
 use Rattle.net_items.specs.Lookups.{point_at, has_point, is_stp, kind_is_stp, mate_of, joins, set_at, joined}
-use Rattle.net_data.specs.Valid.{is_via, is_mate, IsRightRow, IsRightPlan, IsRightSet, IsOnePerPair, AreMates, IsValid}
-use Rattle.net_data.specs.Edits.{is_row_of, uses_point, is_end, either_leads, uses_set, has_link, has_last_link, set_passes, refusal_of, changed, new_link, with_link, without_link, edit_set}
+use Rattle.plan_rows.specs.Rows.{is_via, is_mate}
+use Rattle.net_data.specs.Valid.{IsRightRow, IsRightPlan, IsRightSet, AreMates, IsValid}
+use Rattle.net_sets.specs.Sets.{is_end, has_link, has_last_link, set_passes, new_link, with_link, without_link, edit_set, IsOnePerPair}
+use Rattle.plan_rows.specs.Uses.{is_row_of, uses_point, either_leads, uses_set}
+use Rattle.net_data.specs.Edits.{refusal_of, changed}
 use Rattle.net_data.proofs.Orders.{links_few}
 use Rattle.net_data.proofs.Frames.{IsRightRow-kept, IsRightPlan-kept, IsRightPlan-then, All-unless, flag-kept}
 use Rattle.net_data.proofs.Preserve.{when_none, not_some}

@@ -1,67 +1,16 @@
 -- A valid network.
-use Rattle.std.specs.Prelude.{◌≡◌, ◌≢◌, ℕ, ◌<◌, ◌≤◌, Bool, true, false, not, ◌&&◌, ◌||◌, ◌==◌, nat_lt, nat_le, Some, List, [], ◌∷◌, length}
-use Rattle.std.specs.List.{AllByRecursion, list_all, list_any}
-use Rattle.std.specs.Option.{option_map_or}
+use Rattle.std.specs.Prelude.{◌≡◌, ◌≢◌, ℕ, ◌<◌, ◌≤◌, true, false, not, ◌&&◌, ◌==◌, Some, List, length}
+use Rattle.std.specs.List.{AllByRecursion}
 use Rattle.net_items.specs.declared.items.Point.{Point}
 use Rattle.net_items.specs.declared.items.LinkSet.{LinkSet}
 use Rattle.net_items.specs.declared.items.Plan.{Plan}
 use Rattle.net_items.specs.declared.lists.Row.{Row}
 use Rattle.net_items.specs.declared.links.Link.{Link}
 use Rattle.net_items.specs.Keyed.{IsRising}
-use Rattle.net_data.specs.Network.{Network}
 use Rattle.net_items.specs.Lookups.{has_point, is_stp, mate_of, joined, vias_of}
-
--- no number stands twice
-abbrev pub is_distinct : List ℕ → Bool
-is_distinct [] = true
-is_distinct (x ∷ xs) = not (list_any (λ y. y == x) xs) && is_distinct xs
-
-abbrev pub is_nil : {X : Type 0} → List X → Bool
-is_nil [] = true
-is_nil (x ∷ xs) = false
-
--- whether each via passes, and whether one does
-abbrev pub all_vias : (ℕ → Bool) → Row → Bool
-all_vias p r = list_all (λ vias. list_all p vias) r.classes
-
-abbrev pub any_via : (ℕ → Bool) → Row → Bool
-any_via p r = list_any (λ vias. list_any p vias) r.classes
-
--- whether z is a via of the row
-abbrev pub is_via : ℕ → Row → Bool
-is_via z r = any_via (λ via. via == z) r
-
--- whether z is the mate of y
-abbrev pub is_mate : List Point → ℕ → ℕ → Bool
-is_mate points y z = option_map_or (λ m. m == z) (mate_of points y) false
-
--- the point has a row of lower rank
-abbrev pub has_lower_row : List Row → ℕ → ℕ → Bool
-has_lower_row rows z rank = list_any (λ (other : Row). other.point == z && nat_lt other.rank rank) rows
-
--- the point has a row of this rank
-abbrev pub has_equal_row : List Row → ℕ → ℕ → Bool
-has_equal_row rows z rank = list_any (λ (other : Row). other.point == z && other.rank == rank) rows
-
--- a via leads to the destination, or to a transfer point with a row of lower rank
-abbrev pub is_lower : List Point → ℕ → List Row → Row → ℕ → Bool
-is_lower points dest rows r z = z == dest || (is_stp points z && has_lower_row rows z r.rank)
-
--- the row's point is a transfer point whose mate is joined to it, is not the destination and has a row of the same rank
-abbrev pub has_mate_row : List Point → List LinkSet → ℕ → List Row → Row → Bool
-has_mate_row points sets dest rows r = is_stp points r.point && option_map_or (λ m. joined sets r.point m && (not (m == dest) && has_equal_row rows m r.rank)) (mate_of points r.point) false
-
--- a via that is not the point's mate, unless it is the destination
-abbrev pub is_free : List Point → ℕ → ℕ → ℕ → Bool
-is_free points dest y z = z == dest || not (is_mate points y z)
-
--- a class of one or two vias
-abbrev pub is_small_class : List ℕ → Bool
-is_small_class vias = not (is_nil vias) && nat_le (length vias) 2
-
--- the limits of a row
-abbrev pub is_small_row : Row → Bool
-is_small_row r = (not (r.rank == 0) && nat_le r.rank 255) && (nat_le (length r.classes) 4 && list_all is_small_class r.classes)
+use Rattle.net_sets.specs.Sets.{is_distinct, is_nil, IsOnePerPair}
+use Rattle.plan_rows.specs.Rows.{all_vias, is_lower, is_free, has_mate_row, is_small_row}
+use Rattle.net_data.specs.Network.{Network}
 
 -- a row of the plan of dest with those rows
 pub record IsRightRow (points : List Point) (sets : List LinkSet) (dest : ℕ) (rows : List Row) (r : Row) : Type 0 where
@@ -75,11 +24,13 @@ pub record IsRightRow (points : List Point) (sets : List LinkSet) (dest : ℕ) (
   pub mate_right : (r.mate && not (has_mate_row points sets dest rows r)) ≡ false
   pub has_route : (is_nil r.classes && not r.mate) ≡ false
 
+-- a plan whose destination is there, with right rows in rising code
 pub record IsRightPlan (points : List Point) (sets : List LinkSet) (p : Plan) : Type 0 where
   pub is_there : has_point points p.dest ≡ true
   pub rows_rise : IsRising (λ (r : Row). r.point) p.rows
   pub rows_right : AllByRecursion (IsRightRow points sets p.dest p.rows) p.rows
 
+-- a set of a small id with one to sixteen links, that joins two points which are there
 pub record IsRightSet (points : List Point) (s : LinkSet) : Type 0 where
   pub small : s.id ≤ 4095
   pub a_there : has_point points s.a ≡ true
@@ -96,11 +47,7 @@ pub record AreMates (points : List Point) (p m : ℕ) : Type 0 where
   pub stp : is_stp points p ≡ true
   pub back : mate_of points m ≡ Some p
 
--- no later set joins the ends of an earlier one
-abbrev pub IsOnePerPair : List LinkSet → Type 0
-IsOnePerPair [] = Unit {0}
-IsOnePerPair (s ∷ ss) = (joined ss s.a s.b ≡ false) × IsOnePerPair ss
-
+-- a network whose points, sets and plans are in order, with mates of each other, right sets and right plans
 pub record IsValid (net : Network) : Type 0 where
   pub ni_small : net.ni < 4
   pub few_points : length net.points ≤ 1024

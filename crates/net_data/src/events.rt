@@ -7,6 +7,7 @@ use net_items::copies::{copy_plan, copy_slcs};
 use net_items::equals::{are_same_slcs, is_same_change, is_same_plan};
 use net_items::items::{Kind, Plan};
 use net_items::lists::Slcs;
+pub use plan_rows::causes::Cause;
 use point_codes::PointCode;
 use std::alloc::{AllocError, Global};
 
@@ -37,27 +38,6 @@ pub enum Event {
     DropPlan(PointCode),
     /// The option of transfer-restricted messages (Q.704 clause 13.4).
     SetTfr(bool),
-}
-
-/// What is wrong with a row of a plan.
-#[derive(Clone, Copy, Debug, PartialEq, Eq)]
-pub enum Cause {
-    /// The row's point is the destination.
-    IsDest,
-    /// An earlier row has the point.
-    Twice,
-    /// A via is joined to the point by no set.
-    NotJoined,
-    /// A via stands twice.
-    ViaTwice,
-    /// A via is neither the destination nor a transfer point with a row of lower rank.
-    NotLower,
-    /// A via is the point's mate, and not the destination.
-    ViaMate,
-    /// The mate flag is set, and the point is no transfer point, has no mate, is not joined to it, the mate is the destination, or has no row of the same rank.
-    BadMate,
-    /// Neither a class nor the mate flag.
-    NoRoute,
 }
 
 /// Why an edit is refused, in the order in which refusals are tried; want of memory alone comes last.

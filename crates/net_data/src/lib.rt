@@ -17,14 +17,6 @@ pub mod equals;
 pub mod events;
 pub mod nets;
 pub mod plans;
-pub mod ranks;
-pub mod refusals;
-pub mod row_tests;
-pub mod seen;
-pub mod sets;
-pub mod setting;
-pub mod transfers;
-pub mod uses;
 
 pub use events::{Cause, Event, Refusal};
 pub use nets::Net;

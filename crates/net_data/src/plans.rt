@@ -6,11 +6,11 @@ ghost use Rattle.std.specs.List.{list_any};
 ghost use Rattle.std.specs.Option.{option_copied, option_map};
 ghost use Rattle.net_items.specs.Keyed.{IsRising, IsFoundAt, IsGapAt, put, without};
 ghost use Rattle.net_items.specs.Lookups.{plan_at};
-ghost use Rattle.net_data.specs.Edits.{uses_pair as pair_used, uses_point as point_used, uses_set as set_used, has_flag as flagged};
+ghost use Rattle.plan_rows.specs.Uses.{uses_pair as pair_used, uses_point as point_used, uses_set as set_used, has_flag as flagged};
 
 use crate::equals::are_same_plans;
-use crate::uses::{has_flag, uses_pair, uses_point, uses_set};
 use net_items::items::{LinkSet, Plan, Point};
+use plan_rows::uses::{has_flag, uses_pair, uses_point, uses_set};
 use point_codes::PointCode;
 use std::alloc::{AllocError, Global};
 use std::marker::Model;

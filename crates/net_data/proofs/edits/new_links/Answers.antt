@@ -1,6 +1,0 @@
-use Rattle.std.proofs.Common.{drop}
-use Rattle.net_data.proofs.Preserve.{IsRising-new_links}
-use Rattle.net_data.proofs.edits.new_links.Goals as goal
-
-pub put-requires : goal.put-requires
-put-requires c = rw c.loop-place.invariant.done (IsRising-new_links (drop c.loop-place.place c.args.slcs.now))

@@ -1,0 +1,2 @@
+pub mod JointLemmas
+pub mod SetLemmas

@@ -1,0 +1,2 @@
+pub mod Joints
+pub mod Sets

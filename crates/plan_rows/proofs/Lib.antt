@@ -1,0 +1,3 @@
+pub mod SeenLemmas
+pub mod RanksLemmas
+pub mod TransferLemmas

@@ -1,0 +1,7 @@
+pub mod Rows
+pub mod Causes
+pub mod Uses
+pub mod Seen
+pub mod Ranks
+pub mod Transfers
+pub mod Settings
