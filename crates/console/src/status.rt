@@ -12,7 +12,7 @@ use net_data::nets::Net;
 use point_codes::PointCode;
 use route_choice::{Choice, Far};
 use std::alloc::{AllocError, Global};
-use transfer_state::{find_row, table_of};
+use transfer_state::table_of;
 
 /// A status.
 fn far_word(far: Far) -> &'static str
@@ -75,7 +75,7 @@ fn answer_row(alloc: Global, excerpt: &Excerpt, point: PointCode) -> Result<Stri
     ensures plain { IfOk result (λ text. line_count (string_bytes text) ≡ 0) }
 {
     let table = table_of(alloc, excerpt)?;
-    match find_row(&table, point) {
+    match table.row(point) {
         Some(state) => write_status(alloc, &state.choice),
         None => String::from_str(alloc, "refused 29 NoRow"),
     }
