@@ -14,7 +14,7 @@ use net_data::nets::Net;
 use point_codes::PointCode;
 use profile::tables::RowState;
 use std::alloc::{AllocError, Global};
-use transfer_state::{find_row, table_of};
+use transfer_state::table_of;
 
 /// What is asked of a row.
 #[derive(Clone, Copy, Debug, PartialEq, Eq)]
@@ -62,7 +62,7 @@ fn answer_row(
     ensures plain { IfOk result (λ text. line_count (string_bytes text) ≡ 0) }
 {
     let table = table_of(alloc, excerpt)?;
-    match find_row(&table, point) {
+    match table.row(point) {
         Some(state) => write_row(alloc, asked, ni, excerpt.dest(), state),
         None => String::from_str(alloc, "refused 29 NoRow"),
     }

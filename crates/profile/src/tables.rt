@@ -1,9 +1,11 @@
 //! A table: what a network settles to for one destination, row by row.
 
-ghost use Rattle.std.specs.Prelude.{◌≡◌};
+ghost use Rattle.std.specs.Prelude.{◌≡◌, ◌==◌, find, IfOk};
+ghost use Rattle.std.specs.Option.{option_copied};
 
 use point_codes::{MsgKind, PointCode};
 use route_choice::Choice;
+use std::alloc::{AllocError, Global};
 use std::marker::Model;
 
 /// A link by its set and its signalling link code (Q.704 clause 2.2).
@@ -53,6 +55,15 @@ impl Messages {
     {
         self.list.as_slice()
     }
+
+    /// A copy, or want of memory.
+    pub fn copy(&self, alloc: Global) -> Result<Messages, AllocError>
+        ensures { IfOk result (λ m. m ≡ self.now) }
+    {
+        Ok(Messages {
+            list: Vec::from_slice(alloc, self.list.as_slice())?,
+        })
+    }
 }
 
 /// What the profile gives for one row.
@@ -66,6 +77,30 @@ pub struct RowState {
     pub links: [Option<LinkRef>; 16],
     /// The transfer messages in force from the point.
     pub messages: Messages,
+}
+
+impl RowState {
+    /// A copy, or want of memory.
+    pub fn copy(&self, alloc: Global) -> Result<RowState, AllocError>
+        ensures { IfOk result (λ s. s ≡ self.now) }
+    {
+        Ok(RowState {
+            point: self.point,
+            choice: self.choice,
+            links: self.links,
+            messages: self.messages.copy(alloc)?,
+        })
+    }
+}
+
+fn copy_states(alloc: Global, states: &[RowState]) -> Result<Vec<RowState>, AllocError>
+    ensures { IfOk result (λ v. v.items ≡ states.now) }
+{
+    let mut copies = Vec::with_capacity(alloc, states.len())?;
+    for state in states {
+        copies.push(state.copy(alloc)?)?;
+    }
+    Ok(copies)
 }
 
 /// The rows of a table, in rising code.
@@ -97,6 +132,15 @@ impl RowStates {
     {
         self.list.as_slice()
     }
+
+    /// A copy, or want of memory.
+    pub fn copy(&self, alloc: Global) -> Result<RowStates, AllocError>
+        ensures { IfOk result (λ r. r ≡ self.now) }
+    {
+        Ok(RowStates {
+            list: copy_states(alloc, self.list.as_slice())?,
+        })
+    }
 }
 
 /// The table of one destination.
@@ -106,4 +150,26 @@ pub struct Table {
     pub dest: PointCode,
     /// The states of the plan's rows.
     pub rows: RowStates,
+}
+
+impl Table {
+    /// The state of a point's row, if the table has one; the first where it has more.
+    pub fn row(&self, point: PointCode) -> Option<&RowState>
+        ensures { option_copied result ≡ find (λ state. state.point == point) self.now.rows }
+    {
+        self.rows
+            .as_slice()
+            .iter()
+            .find(|state| state.point == point)
+    }
+
+    /// A copy, or want of memory.
+    pub fn copy(&self, alloc: Global) -> Result<Table, AllocError>
+        ensures { IfOk result (λ t. t ≡ self.now) }
+    {
+        Ok(Table {
+            dest: self.dest,
+            rows: self.rows.copy(alloc)?,
+        })
+    }
 }

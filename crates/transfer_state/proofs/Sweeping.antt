@@ -21,7 +21,7 @@ use Rattle.net_items.specs.Keyed.{IsRising, IsFoundAt, IsGapAt}
 use Rattle.profile.proofs.Settled.{status_of_dest, status_of_row}
 
 -- what holds of each element holds of the one at a place
-at_index : {X : Type 0} (P : X → Type 0) (xs : List X) (i : ℕ) (d : X) → AllByRecursion P xs → i < length xs → P (get_or xs i d)
+pub at_index : {X : Type 0} (P : X → Type 0) (xs : List X) (i : ℕ) (d : X) → AllByRecursion P xs → i < length xs → P (get_or xs i d)
 at_index P [] i d all low = absurd (omega arith)
 at_index P (x ∷ xs) zero d all low = all.0
 at_index P (x ∷ xs) (suc i) d all low = at_index P xs i d all.1 (omega arith)

@@ -1,4 +1,5 @@
-//! The table of an excerpt: statuses, routes, links and transfer messages, made by one sweep in rising rank.
+//! The table of an excerpt: statuses, routes, links and transfer messages, made by one sweep in rising rank, or checked row
+//! by row.
 //!
 //! 1. The statuses of the vias of a row, and of the vias of its mate, are those of rows of lower rank, so one sweep over
 //!    the ranks in rising order gives every status (own, after Q.704 clauses 13.2 to 13.4).
@@ -7,14 +8,19 @@
 //! 3. A transfer point tells each neighbour but the destination: prohibited where it leads its own traffic over that
 //!    neighbour, and else its status. An end point tells nothing (Q.704 clauses 13.2 to 13.4).
 //! 4. The table is the one that the definitions of `profile` give from scratch.
+//! 5. A table that is at hand is checked by the local rule (own): each row is what it makes of the messages that its
+//!    neighbours hold towards it. Exactly the table from scratch passes.
 #![tactic(auto)]
 
+pub mod certificate;
+mod hearing;
 mod states;
 mod sweep;
 pub mod table;
 
+pub use certificate::{Clause, Complaint, check};
 pub use profile::tables::{LinkRef, Message, Messages, RowState, RowStates, Table};
-pub use table::{find_row, table_of};
+pub use table::table_of;
 
 #[cfg(test)]
 mod tests;

@@ -85,7 +85,7 @@ fn is_member(z: PointCode, choice: &Choice) -> bool
 
 /// The message in force from a point with this choice to a point: prohibited where that point is used, and else the
 /// status (Q.704 clauses 13.2 to 13.4).
-fn message(choice: &Choice, z: PointCode) -> MsgKind
+pub(crate) fn message(choice: &Choice, z: PointCode) -> MsgKind
     ensures { result ≡ message_of choice.now z }
 {
     if is_member(z, choice) {

@@ -1,14 +1,12 @@
-//! The table of an excerpt, and its rows.
+//! The table of an excerpt.
 
-ghost use Rattle.std.specs.Prelude.{◌≡◌, ◌==◌, find, IfOk};
-ghost use Rattle.std.specs.Option.{option_copied};
+ghost use Rattle.std.specs.Prelude.{◌≡◌, IfOk};
 ghost use Rattle.profile.specs.Whole.{scratch};
 ghost use Rattle.excerpts.specs.Excerpts.{source_of};
 
 use crate::states::{links_of, messages_of};
 use crate::sweep::{choice_of, rows_of, statuses};
 use excerpts::Excerpt;
-use point_codes::PointCode;
 use profile::tables::{RowState, RowStates, Table};
 use std::alloc::{AllocError, Global};
 
@@ -36,15 +34,4 @@ pub fn table_of(alloc: Global, e: &Excerpt) -> Result<Table, AllocError>
         dest: e.dest(),
         rows: RowStates::from_vec(list),
     })
-}
-
-/// The state of a point's row in a table, if it has one.
-pub fn find_row(table: &Table, point: PointCode) -> Option<&RowState>
-    ensures { option_copied result ≡ find (λ state. state.point == point) table.now.rows }
-{
-    table
-        .rows
-        .as_slice()
-        .iter()
-        .find(|state| state.point == point)
 }

@@ -1,6 +1,6 @@
 //! The table of two end points with a transfer point between, worked out by hand.
 
-use crate::{LinkRef, Message, RowState, Table, find_row, table_of};
+use crate::{LinkRef, Message, RowState, Table, table_of};
 use excerpts::Excerpt;
 use link_state::LinkChange;
 use net_data::{Event, Net};
@@ -94,10 +94,10 @@ fn makes_a_table(rt: HostRuntime) -> Result<(), Fail> {
         kind: MsgKind::Tfa,
         to: a,
     };
-    let end = find_row(&table, a).ok_or("no row")?;
+    let end = table.row(a).ok_or("no row")?;
     assert!(rt; is_state(end, over(p), 1, &[]));
-    let transfer = find_row(&table, p).ok_or("no row")?;
+    let transfer = table.row(p).ok_or("no row")?;
     assert!(rt; is_state(transfer, over(b), 2, &[allowed]));
-    assert!(rt; find_row(&table, b).is_none());
+    assert!(rt; table.row(b).is_none());
     Ok(())
 }

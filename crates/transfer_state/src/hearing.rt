@@ -1,0 +1,135 @@
+//! What a row hears from a table, and the choice that follows: the local rule of `profile`.
+//!
+//! The rows of the table stand in the places of the plan's, so a point's row is found by halves among the plan's rows.
+
+ghost use Rattle.std.specs.Prelude.{◌≡◌, ◌≤◌, ◌==◌, length, All, map, find};
+ghost use Rattle.std.specs.Option.{option_copied};
+ghost use Rattle.route_choice.specs.Routes.{offered, offered_in, mate_of_pair};
+ghost use Rattle.profile.specs.Local.{reading as reading_of};
+ghost use Rattle.profile.specs.Status.{offers, offer};
+ghost use Rattle.profile.specs.Valid.{IsSmall};
+ghost use Rattle.profile.specs.Whole.{heard_in as heard_in_of, heard_from as heard_from_of, choice_heard as choice_heard_of};
+ghost use Rattle.excerpts.specs.Excerpts.{source_of};
+ghost use Rattle.transfer_state.specs.Complaints.{far_from, mate_from, HasPoints};
+
+use crate::sweep::rows_of;
+use excerpts::Excerpt;
+use link_sets::are_joined;
+use net_items::Row;
+use net_items::copies::place_of_row;
+use point_codes::{MsgKind, PointCode};
+use profile::tables::{Message, Table};
+use route_choice::{Choice, Far};
+
+/// The status that a message tells (Q.704 clauses 13.2 to 13.4).
+fn reading(kind: MsgKind) -> Far
+    ensures { result ≡ reading_of kind }
+{
+    match kind {
+        MsgKind::Tfa => Far::Allowed,
+        MsgKind::Tfr => Far::Restricted,
+        MsgKind::Tfp => Far::Prohibited,
+    }
+}
+
+/// The first of these messages that goes to a point.
+fn message_to(messages: &[Message], y: PointCode) -> Option<&Message>
+    ensures { option_copied result ≡ find (λ m. m.to == y) messages.now }
+{
+    messages.iter().find(|m| m.to == y)
+}
+
+/// What a point hears from messages: prohibited where none goes to it.
+fn heard_in(messages: &[Message], y: PointCode) -> Far
+    ensures { result ≡ heard_in_of messages.now y }
+{
+    match message_to(messages, y) {
+        Some(m) => reading(m.kind),
+        None => Far::Prohibited,
+    }
+}
+
+/// What `y` hears of `z` from a table: prohibited where `z` has no row.
+fn heard_from(e: &Excerpt, table: &Table, y: PointCode, z: PointCode) -> Far
+    requires { HasPoints (source_of e.now) table.now }
+    ensures { result ≡ heard_from_of table.now y z }
+{
+    e.validity();
+    match place_of_row(rows_of(e), z) {
+        Ok(at) => heard_in(table.rows.as_slice()[at].messages.as_slice(), y),
+        Err(_) => Far::Prohibited,
+    }
+}
+
+/// What a point hears over a via: prohibited where no available set joins them, allowed of the destination.
+fn offer_heard(e: &Excerpt, table: &Table, y: PointCode, via: PointCode) -> Far
+    requires { HasPoints (source_of e.now) table.now }
+    ensures { result ≡ (offer (source_of e.now) (far_from (source_of e.now) table.now y) y via).far }
+{
+    if !are_joined(e.sets(), y, via) {
+        Far::Prohibited
+    } else if via == e.dest() {
+        Far::Allowed
+    } else {
+        heard_from(e, table, y, via)
+    }
+}
+
+/// What a point hears over the vias of a class, in their places.
+fn fars_heard_in(e: &Excerpt, table: &Table, y: PointCode, vias: &[PointCode]) -> [Far; 2]
+    requires points { HasPoints (source_of e.now) table.now }
+    requires small { length vias.now ≤ 2 }
+    ensures { offered_in vias.now result ≡ map (offer (source_of e.now) (far_from (source_of e.now) table.now y) y) vias.now }
+{
+    match vias {
+        [] => [Far::Prohibited, Far::Prohibited],
+        [only] => [offer_heard(e, table, y, *only), Far::Prohibited],
+        [first, second, ..] => [
+            offer_heard(e, table, y, *first),
+            offer_heard(e, table, y, *second),
+        ],
+    }
+}
+
+/// What a row hears over its vias, in their places.
+fn fars_heard(e: &Excerpt, table: &Table, row: &Row) -> [[Far; 2]; 4]
+    requires points { HasPoints (source_of e.now) table.now }
+    requires few { length row.now.classes ≤ 4 }
+    requires small { All (λ vias. length vias ≤ 2) row.now.classes }
+    ensures { offered row.now.classes result ≡ offers (source_of e.now) (far_from (source_of e.now) table.now row.now.point) row.now }
+{
+    let mut fars = [[Far::Prohibited; 2]; 4];
+    let classes = row.classes.as_slice();
+    for (i, vias) in classes.iter().enumerate() {
+        fars[i] = fars_heard_in(e, table, row.point, vias.as_slice());
+    }
+    fars
+}
+
+/// What a row hears of its mate, where it may use it.
+fn mate_heard(e: &Excerpt, table: &Table, row: &Row) -> Option<(PointCode, Far)>
+    requires { HasPoints (source_of e.now) table.now }
+    ensures { mate_of_pair result ≡ mate_from (source_of e.now) table.now row.now }
+{
+    if !row.mate {
+        return None;
+    }
+    let point = e.mate_of(row.point)?;
+    let mate = e.row(point)?;
+    if are_joined(e.sets(), row.point, mate.point) {
+        let far = heard_from(e, table, row.point, mate.point);
+        Some((mate.point, far))
+    } else {
+        None
+    }
+}
+
+/// The choice that a row makes by what it hears from a table.
+pub(crate) fn choice_heard(e: &Excerpt, table: &Table, row: &Row) -> Choice
+    requires points { HasPoints (source_of e.now) table.now }
+    requires small { IsSmall row.now }
+    ensures { result ≡ choice_heard_of (source_of e.now) table.now row.now }
+{
+    let mate = mate_heard(e, table, row);
+    route_choice::choose(row, &fars_heard(e, table, row), mate, e.tfr())
+}
