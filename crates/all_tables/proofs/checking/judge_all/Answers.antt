@@ -1,0 +1,14 @@
+use Rattle.std.proofs.Common.{ap, ◌∙◌}
+use Rattle.std.specs.Prelude.{IfOk}
+use Rattle.rayon.proofs.ToStd.{slice-AllZip}
+use Rattle.all_tables.specs.Tables.{IsJudged}
+use Rattle.all_tables.proofs.Judged.{collected}
+use Rattle.all_tables.proofs.checking.judge_all.Goals as goal
+
+pub returns : goal.returns
+returns g c =
+    let slice = ap (λ it. it.slice.now) c.with_min_len.ensures.base ∙ c.par_iter.ensures in
+    let h = c.in_ok-collect.ensures in
+    let chain = rw (c.map.ensures.base, c.map.ensures.f) at h.1 in
+    collected _ (IsJudged c.args.net.now) (λ v. v.items) c.in_ok-collect.field-0 c.args.tables.now h.0
+    (slice-AllZip chain.0 c.args.tables.now (chain.1 ∙ slice) (λ t x. IfOk x (IsJudged c.args.net.now t)) h.0 chain.2) h.2

@@ -1,0 +1,83 @@
+//! The tables of all planned destinations.
+
+ghost use Rattle.std.specs.Prelude.{◌≡◌, IfOk, map};
+ghost use Rattle.all_tables.specs.Tables.{table_at as the_table_at, tables, those_there};
+
+use excerpts::{Excerpt, ExcerptFault};
+use net_data::Net;
+use point_codes::PointCode;
+use profile::tables::Table;
+use rayon::prelude::*;
+use std::alloc::{AllocError, Global};
+use std::thread::Threads;
+use transfer_state::table_of;
+
+/// The destinations that have a plan, in rising code.
+fn destinations(alloc: Global, net: &Net) -> Result<Vec<PointCode>, AllocError>
+    ensures { IfOk result (λ dests. dests.items ≡ map (λ p. p.dest) net.now.plans) }
+{
+    let plans = net.plans();
+    let mut dests = Vec::with_capacity(alloc, plans.len())?;
+    for place in 0..plans.len() {
+        dests.push(plans.at(place).dest)?;
+    }
+    Ok(dests)
+}
+
+/// The table of a destination, if it has a plan.
+fn table_at(alloc: Global, net: &Net, dest: PointCode) -> Result<Option<Table>, AllocError>
+    ensures { IfOk result (λ table. table ≡ the_table_at net.now dest) }
+{
+    match Excerpt::of(alloc, net, dest) {
+        Ok(excerpt) => Ok(Some(table_of(alloc, &excerpt)?)),
+        Err(ExcerptFault::NoPlan) => Ok(None),
+        Err(ExcerptFault::OutOfMemory) => Err(AllocError),
+    }
+}
+
+/// Those tables that are there, in their order.
+fn present(alloc: Global, found: Vec<Option<Table>>) -> Result<Vec<Table>, AllocError>
+    ensures { IfOk result (λ tables. tables.items ≡ those_there found.items) }
+{
+    let mut tables = Vec::with_capacity(alloc, found.len())?;
+    for one in found {
+        if let Some(table) = one {
+            tables.push(table)?;
+        }
+    }
+    Ok(tables)
+}
+
+/// The tables of destinations, each where it has a plan, in their order.
+fn tables_at(
+    rt: &(impl Threads + Sync),
+    alloc: Global,
+    net: &Net,
+    dests: &[PointCode],
+) -> Result<Vec<Option<Table>>, AllocError>
+    ensures { IfOk result (λ v. v.items ≡ map (the_table_at net.now) dests.now) }
+{
+    dests
+        .par_iter()
+        .with_min_len(1)
+        .map(
+            |dest: &PointCode| -> Result<Option<Table>, AllocError>
+                ensures { IfOk result (λ table. table ≡ the_table_at net.entry.now dest.now) }
+            { table_at(alloc, net, *dest) },
+        )
+        .collect::<Result<Vec<Option<Table>>, AllocError>>(rt, alloc)?
+}
+
+/// The settled tables of all planned destinations, in rising code. It fails where memory is refused.
+pub fn tables_of(
+    rt: &(impl Threads + Sync),
+    alloc: Global,
+    net: &Net,
+) -> Result<Vec<Table>, AllocError>
+    ensures { IfOk result (λ v. v.items ≡ tables net.now) }
+{
+    net.validity();
+    let dests = destinations(alloc, net)?;
+    let found = tables_at(rt, alloc, net, &dests)?;
+    present(alloc, found)
+}
