@@ -1,6 +1,8 @@
-//! The table of two end points with a transfer point between, worked out by hand.
+//! The table of two end points with a transfer point between, worked out by hand, and what is found wrong with others.
 
-use crate::{LinkRef, Message, RowState, Table, table_of};
+use crate::{
+    Clause, Complaint, LinkRef, Message, Messages, RowState, RowStates, Table, check, table_of,
+};
 use excerpts::Excerpt;
 use link_state::LinkChange;
 use net_data::{Event, Net};
@@ -61,12 +63,45 @@ fn new_net(alloc: Global) -> Result<Net, Fail> {
     Ok(net)
 }
 
-fn new_table(alloc: Global) -> Result<Table, Fail> {
+fn new_excerpt(alloc: Global) -> Result<Excerpt, Fail> {
     let net = new_net(alloc)?;
-    let excerpt = Excerpt::of(alloc, &net, code(4106)?)
-        .ok()
-        .ok_or("no excerpt")?;
-    Ok(table_of(alloc, &excerpt)?)
+    Ok(
+        Excerpt::of(alloc, &net, code(4106)?)
+            .ok()
+            .ok_or("no excerpt")?,
+    )
+}
+
+fn new_table(alloc: Global) -> Result<Table, Fail> {
+    Ok(table_of(alloc, &new_excerpt(alloc)?)?)
+}
+
+/// A copy of a point's row.
+fn copy_row(alloc: Global, table: &Table, point: PointCode) -> Result<RowState, Fail> {
+    Ok(table.row(point).ok_or("no row")?.copy(alloc)?)
+}
+
+/// A copy of the table, with this row in the place of its point's.
+fn with_row(alloc: Global, table: &Table, row: &RowState) -> Result<Table, Fail> {
+    let mut rows = Vec::new(alloc);
+    for old in table.rows.as_slice() {
+        let new = if old.point == row.point { row } else { old };
+        rows.push(new.copy(alloc)?)?;
+    }
+    Ok(Table {
+        dest: table.dest,
+        rows: RowStates::from_vec(rows),
+    })
+}
+
+/// One message.
+fn sends(alloc: Global, kind: MsgKind, to: PointCode) -> Result<Messages, Fail> {
+    let list = Vec::from_slice(alloc, &[Message { kind, to }])?;
+    Ok(Messages::from_vec(list))
+}
+
+fn complaint(point: PointCode, clause: Clause) -> Result<(), Complaint> {
+    Err(Complaint { point, clause })
 }
 
 /// Class 1 with one via, allowed.
@@ -99,5 +134,88 @@ fn makes_a_table(rt: HostRuntime) -> Result<(), Fail> {
     let transfer = table.row(p).ok_or("no row")?;
     assert!(rt; is_state(transfer, over(b), 2, &[allowed]));
     assert!(rt; table.row(b).is_none());
+    Ok(())
+}
+
+#[test]
+fn copies_a_table(rt: HostRuntime) -> Result<(), Fail> {
+    let (a, p) = (code(4105)?, code(4177)?);
+    let table = new_table(rt.alloc())?;
+    let copy = table.copy(rt.alloc())?;
+    assert_eq!(rt; copy.dest, table.dest);
+    assert_eq!(rt; copy.rows.as_slice().len(), table.rows.as_slice().len());
+    for point in [a, p] {
+        let old = table.row(point).ok_or("no row")?;
+        let new = copy.row(point).ok_or("no row")?;
+        assert_eq!(rt; new.choice, old.choice);
+        assert_eq!(rt; new.links, old.links);
+        assert_eq!(rt; new.messages.as_slice(), old.messages.as_slice());
+    }
+    Ok(())
+}
+
+#[test]
+fn passes_its_table(rt: HostRuntime) -> Result<(), Fail> {
+    let excerpt = new_excerpt(rt.alloc())?;
+    let table = new_table(rt.alloc())?;
+    assert_eq!(rt; check(&excerpt, &table), Ok(()));
+    Ok(())
+}
+
+#[test]
+fn finds_wrong_points(rt: HostRuntime) -> Result<(), Fail> {
+    let (a, b) = (code(4105)?, code(4106)?);
+    let alloc = rt.alloc();
+    let excerpt = new_excerpt(alloc)?;
+    let mut table = new_table(alloc)?;
+    let mut rows = Vec::new(alloc);
+    rows.push(copy_row(alloc, &table, a)?)?;
+    let short = Table {
+        dest: b,
+        rows: RowStates::from_vec(rows),
+    };
+    assert_eq!(rt; check(&excerpt, &short), complaint(b, Clause::Points));
+    table.dest = a;
+    assert_eq!(rt; check(&excerpt, &table), complaint(b, Clause::Points));
+    Ok(())
+}
+
+#[test]
+fn finds_a_wrong_choice(rt: HostRuntime) -> Result<(), Fail> {
+    let (a, p) = (code(4105)?, code(4177)?);
+    let alloc = rt.alloc();
+    let excerpt = new_excerpt(alloc)?;
+    let table = new_table(alloc)?;
+    let mut transfer = copy_row(alloc, &table, p)?;
+    transfer.choice = over(a);
+    let routed = with_row(alloc, &table, &transfer)?;
+    assert_eq!(rt; check(&excerpt, &routed), complaint(p, Clause::Route));
+    let mut end = copy_row(alloc, &table, a)?;
+    let mut choice = over(p);
+    choice.status = Far::Restricted;
+    end.choice = choice;
+    let restricted = with_row(alloc, &routed, &end)?;
+    assert_eq!(rt; check(&excerpt, &restricted), complaint(a, Clause::Status));
+    Ok(())
+}
+
+#[test]
+fn finds_wrong_links_and_messages(rt: HostRuntime) -> Result<(), Fail> {
+    let (a, p) = (code(4105)?, code(4177)?);
+    let alloc = rt.alloc();
+    let excerpt = new_excerpt(alloc)?;
+    let table = new_table(alloc)?;
+    let mut end = copy_row(alloc, &table, a)?;
+    end.messages = sends(alloc, MsgKind::Tfa, p)?;
+    let sent = with_row(alloc, &table, &end)?;
+    assert_eq!(rt; check(&excerpt, &sent), complaint(a, Clause::Messages));
+    end.links[3] = None;
+    let cut = with_row(alloc, &table, &end)?;
+    assert_eq!(rt; check(&excerpt, &cut), complaint(a, Clause::Links));
+    // A row is wrong by what it hears, and not by what its via knows.
+    let mut transfer = copy_row(alloc, &table, p)?;
+    transfer.messages = sends(alloc, MsgKind::Tfp, a)?;
+    let told = with_row(alloc, &table, &transfer)?;
+    assert_eq!(rt; check(&excerpt, &told), complaint(a, Clause::Route));
     Ok(())
 }
