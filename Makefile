@@ -11,6 +11,9 @@ demo: build
 	@echo
 	@echo '$$ route_desk run examples/national.toml < examples/national.script'
 	@$(PROGRAM) run examples/national.toml < examples/national.script
+	@echo
+	@echo '$$ route_desk check examples/national.toml'
+	@$(PROGRAM) check examples/national.toml
 
 build:
 	@cd crates/route_desk && rt run -- --help > out.log 2>&1 || { cat out.log; rm -f out.log; exit 1; }; rm -f out.log

@@ -24,10 +24,10 @@ echo 'octets 00 FF 3F 00 00 54 00 00' >> "$folder/answers"
 
 # network indicator, destination, origin, heading code H1 (1 TFP, 3 TFR, 5 TFA), code concerned
 cat > "$folder/wanted" <<'WANTED'
-2 4177 4178 1 4106
-2 4105 4178 3 4106
-2 4105 4177 5 4106
-0 16383 0 5 0
+0x02 4177 4178 0x01 4106
+0x02 4105 4178 0x03 4106
+0x02 4105 4177 0x05 4106
+0x00 16383 0 0x05 0
 WANTED
 
 sed 's/^octets/000000/' "$folder/answers" > "$folder/hex"

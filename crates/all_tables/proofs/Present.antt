@@ -1,6 +1,8 @@
 -- The tables of planned destinations are all there.
 use Rattle.std.proofs.Common.{◌≡◌, ℕ, ◌<◌, false, eqb, List, [], ◌∷◌, ◌++◌, Option, Some, None, map, option_map, refl, ap, ◌∙◌, append-nil, arith}
+use Rattle.std.specs.Prelude.{All}
 use Rattle.std.specs.List.{AllByRecursion}
+use Rattle.std.proofs.lemmas.List.Elements.{All-from_recursion}
 use Rattle.net_items.specs.declared.items.Plan.{Plan}
 use Rattle.net_items.specs.Keyed.{IsRising, at_key}
 use Rattle.std.proofs.lemmas.Bool.{eq-eqb, ne_eqb}
@@ -10,7 +12,7 @@ use Rattle.net_data.specs.Network.{Network}
 use Rattle.profile.specs.Whole.{scratch}
 use Rattle.excerpts.specs.Excerpts.{network_source}
 use Rattle.net_items.proofs.KeyedLemmas.{All-then}
-use Rattle.all_tables.specs.Tables.{table_at, tables, those_there}
+use Rattle.all_tables.specs.Tables.{table_at, tables, those_there, IsSettledIn}
 
 -- one more
 pub those_there-append : {X : Type 0} (xs ys : List (Option X)) → those_there (xs ++ ys) ≡ those_there xs ++ those_there ys
@@ -42,9 +44,21 @@ finds_own key [] up = tt
 finds_own key (x ∷ xs) up = (rw (eq-eqb (key x) (key x) refl) refl, later_finds key x xs xs up.0 (finds_own key xs up.1))
 
 -- each planned destination has its table
+each_there : (net : Network) → IsRising (λ (p : Plan). p.dest) net.plans → AllByRecursion (λ (p : Plan). table_at net p.dest ≡ Some (scratch (network_source net p))) net.plans
+each_there net up =
+    All-then (λ (p : Plan). p.dest) (λ p. plan_at net.plans p.dest ≡ Some p) (λ p. table_at net p.dest ≡ Some (scratch (network_source net p)))
+    (λ p e. ap (λ o. option_map (λ q. scratch (network_source net q)) o) e) net.plans (finds_own (λ (p : Plan). p.dest) net.plans up)
+
 pub all_there : (net : Network) → IsRising (λ (p : Plan). p.dest) net.plans → those_there (map (table_at net) (map (λ (p : Plan). p.dest) net.plans)) ≡ tables net
 all_there net up =
     ap those_there (map-map (table_at net) (λ (p : Plan). p.dest) net.plans)
-    ∙ those_there-all (λ p. table_at net p.dest) (λ p. scratch (network_source net p)) net.plans
-    (All-then (λ (p : Plan). p.dest) (λ p. plan_at net.plans p.dest ≡ Some p) (λ p. table_at net p.dest ≡ Some (scratch (network_source net p)))
-    (λ p e. ap (λ o. option_map (λ q. scratch (network_source net q)) o) e) net.plans (finds_own (λ (p : Plan). p.dest) net.plans up))
+    ∙ those_there-all (λ p. table_at net p.dest) (λ p. scratch (network_source net p)) net.plans (each_there net up)
+
+settled_among : (net : Network) (plans : List Plan) → AllByRecursion (λ (p : Plan). table_at net p.dest ≡ Some (scratch (network_source net p))) plans
+    → AllByRecursion (IsSettledIn net) (map (λ p. scratch (network_source net p)) plans)
+settled_among net [] h = tt
+settled_among net (p ∷ ps) h = (h.0, settled_among net ps h.1)
+
+-- each of the tables is the settled one of its destination
+pub all_settled : (net : Network) → IsRising (λ (p : Plan). p.dest) net.plans → All (IsSettledIn net) (tables net)
+all_settled net up = All-from_recursion (IsSettledIn net) (tables net) (settled_among net net.plans (each_there net up))

@@ -1,7 +1,7 @@
 //! The tables of all planned destinations.
 
-ghost use Rattle.std.specs.Prelude.{◌≡◌, IfOk, map};
-ghost use Rattle.all_tables.specs.Tables.{table_at as the_table_at, tables, those_there};
+ghost use Rattle.std.specs.Prelude.{◌≡◌, IfOk, All, map};
+ghost use Rattle.all_tables.specs.Tables.{table_at as the_table_at, tables, those_there, IsSettledIn};
 
 use excerpts::{Excerpt, ExcerptFault};
 use net_data::Net;
@@ -74,7 +74,8 @@ pub fn tables_of(
     alloc: Global,
     net: &Net,
 ) -> Result<Vec<Table>, AllocError>
-    ensures { IfOk result (λ v. v.items ≡ tables net.now) }
+    ensures each { IfOk result (λ v. v.items ≡ tables net.now) }
+    ensures settled { IfOk result (λ v. All (IsSettledIn net.now) v.items) }
 {
     net.validity();
     let dests = destinations(alloc, net)?;

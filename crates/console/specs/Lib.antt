@@ -5,3 +5,4 @@ pub mod Run
 pub mod Input
 pub mod Words
 pub mod Faults
+pub mod Checking

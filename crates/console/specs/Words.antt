@@ -3,7 +3,7 @@ use Rattle.std.specs.Prelude.{◌≡◌, ◌⊎◌, [], ◌∷◌, List, Option,
 use Rattle.clap.specs.Words.{App, Rule, Row, Text, new_app, new_rule, with_rule, with_subcommand, first_of, Kinds, HasKind}
 use Rattle.clap.specs.declared.error.kind.ErrorKind.TheVariants.{MissingSubcommand}
 use Rattle.console.specs.declared.words.Order.{Order}
-use Rattle.console.specs.declared.words.Order.TheVariants.{Run}
+use Rattle.console.specs.declared.words.Order.TheVariants.{Run, Check}
 use Rattle.console.specs.declared.words.WordFault.{WordFault}
 use Rattle.console.specs.declared.words.WordFault.TheVariants.{Clap}
 
@@ -15,13 +15,18 @@ net_rule = record (new_rule (codes "net")) { required = true; value_names = 1 }
 abbrev pub run_app : App
 run_app = with_rule (new_app (codes "run")) net_rule
 
+-- `check NET`
+abbrev pub check_app : App
+check_app = with_rule (new_app (codes "check")) net_rule
+
 -- `route_desk`
 abbrev pub desk_app : App
-desk_app = with_subcommand (new_app (codes "route_desk")) run_app.top
+desk_app = with_subcommand (with_subcommand (new_app (codes "route_desk")) run_app.top) check_app.top
 
 -- the order is what the subcommand's matches say
 abbrev pub IsOrder : Order → Option (Text × List Row) → Type 0
 IsOrder (Run net) found = (rows : List Row) × (found ≡ Some (codes "run", rows)) × (first_of (codes "net") rows ≡ Some net.now)
+IsOrder (Check net) found = (rows : List Row) × (found ≡ Some (codes "check", rows)) × (first_of (codes "net") rows ≡ Some net.now)
 
 -- memory was wanting, the words have one of these faults, or a subcommand is missing
 abbrev pub IsWordFault : Kinds → WordFault → Type 0

@@ -16,9 +16,12 @@
 //! 6. An input starts with the network text, up to the first line that is `%%`, and the script comes after that line;
 //!    without it the input is the network text. A network text has at most 134,217,728 bytes, else it is 63. Nothing is
 //!    written unless the network text was read and loaded.
-//! 7. `route_desk run NET` is the only command line.
+//! 7. The command lines are `route_desk run NET` and `route_desk check NET`. The check works out the settled tables of all
+//!    planned destinations, checks each by the local rule, and answers `ok P` for P plans or `bad X Y c`: the destination of
+//!    the first wrong table, and point and letter of the first complaint about it.
 #![tactic(auto)]
 
+pub mod checking;
 mod commands;
 pub mod faults;
 pub mod files;
@@ -29,6 +32,7 @@ pub mod script;
 mod session;
 pub mod words;
 
+pub use checking::{CheckEnd, check_net};
 pub use faults::Fault;
 pub use files::read_net;
 pub use input::{parts_of_input, run_input};
@@ -36,5 +40,7 @@ pub use printed::write_fault;
 pub use script::{ScriptEnd, run_script};
 pub use words::{Order, WordFault, read_words};
 
+#[cfg(test)]
+mod check_tests;
 #[cfg(test)]
 mod tests;

@@ -4,7 +4,7 @@ ghost use Rattle.std.specs.Prelude.{◌≡◌, List, Option, ◌∷◌, IfOk, If
 ghost use Rattle.clap.specs.declared.builder.command.Command.TheViews.{out-Command};
 ghost use Rattle.clap.specs.Words.{app_of, first_of, FailsBy, HasKind, fault_of, found_of, rows_of, subcommand_of, subcommand_rows_of};
 ghost use Rattle.clap.specs.declared.error.kind.ErrorKind.TheVariants.{MissingSubcommand};
-ghost use Rattle.console.specs.Words.{desk_app, run_app, IsOrder, IsWordFault};
+ghost use Rattle.console.specs.Words.{check_app, desk_app, run_app, IsOrder, IsWordFault};
 
 use clap::error::ErrorKind;
 use clap::{Arg, ArgMatches, Command, Error};
@@ -16,6 +16,8 @@ pub enum Order<'a> {
     /// To answer the script on standard input from the network of a file, or of standard input itself where the file's
     /// name is `-`.
     Run { net: &'a str },
+    /// To check the settled tables of the network of a file.
+    Check { net: &'a str },
 }
 
 /// Why a command line isn't read.
@@ -38,16 +40,32 @@ fn run_command<'a>(alloc: Global) -> Result<Command<'a>, AllocError>
         .arg(net)
 }
 
+/// The command `check`.
+fn check_command<'a>(alloc: Global) -> Result<Command<'a>, AllocError>
+    ensures app { IfOk result (λ c. app_of c ≡ check_app) }
+    ensures local { IfOk result (λ c. (out-Command c).has_globals ≡ false) }
+{
+    let net = Arg::new(alloc, "net")
+        .required(true)
+        .value_name("NET")
+        .help("File with the network");
+    Command::new(alloc, "check")
+        .about("Work out the tables of all destinations, and check each by the local rule")
+        .arg(net)
+}
+
 /// The whole command.
 fn desk_command<'a>(alloc: Global) -> Result<Command<'a>, AllocError>
     ensures app { IfOk result (λ c. app_of c ≡ desk_app) }
 {
     let run = run_command(alloc)?;
+    let check = check_command(alloc)?;
     Command::new(alloc, "route_desk")
         .about(
             "Settled routing state of a Signalling System No. 7 network (ITU-T Q.704, MTP level 3)",
         )
-        .subcommand(run)
+        .subcommand(run)?
+        .subcommand(check)
 }
 
 /// What `clap` makes of the words.
@@ -84,6 +102,9 @@ fn order_of<'a>(matches: &ArgMatches<'a>) -> Option<Order<'a>>
     let net = value_at(inner, "net")?;
     if name == "run" {
         return Some(Order::Run { net });
+    }
+    if name == "check" {
+        return Some(Order::Check { net });
     }
     None
 }

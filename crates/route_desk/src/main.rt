@@ -2,17 +2,25 @@
 //!
 //! 1. `route_desk run NET` loads the network of the file NET, reads a script from standard input and answers it on
 //!    standard output. `route_desk run -` reads the network text from standard input too, up to the line `%%`.
-//! 2. It exits with 0 where the script was answered to its end: a refused line is no fault of a run.
-//! 3. It exits with 1 where the network isn't loaded, or where memory, reading or writing ended the run; standard
-//!    error then has one line, `route_desk: ` and the fault.
-//! 4. It exits with 2 where the command line isn't read, with `clap`'s text on standard error. Help is printed on
+//! 2. `route_desk check NET` works out the tables of all planned destinations of that network, by as many threads as there
+//!    are processors, checks each by the local rule, and writes `ok P` for P plans, or `bad X Y c` for the first wrong one.
+//! 3. It exits with 0 where the script was answered to its end: a refused line is no fault of a run; or where all tables
+//!    are right.
+//! 4. It exits with 1 where a table is wrong, where the network isn't loaded, or where memory, reading or writing ended the
+//!    run; in all but the first of these standard error has one line, `route_desk: ` and the fault.
+//! 5. It exits with 2 where the command line isn't read, with `clap`'s text on standard error. Help is printed on
 //!    standard output, with 0.
 #![tactic(auto)]
 
 use clap::Error;
-use console::{Fault, Order, WordFault, read_net, read_words, run_input, run_script, write_fault};
+use console::{
+    CheckEnd, Fault, Order, WordFault, check_net, read_net, read_words, run_input, run_script,
+    write_fault,
+};
+use net_data::Net;
 use std::alloc::{AllocError, Global};
 use std::process::ExitCode;
+use std::thread::Threads;
 use std::{env, fs, io};
 
 /// The words of a command line as texts.
@@ -45,13 +53,17 @@ fn report(rt: &HostRuntime, fault: Option<Fault>) -> io::Result<ExitCode> {
     Ok(ExitCode::from(1))
 }
 
+/// Loads the network of a file.
+fn load_file(rt: &HostRuntime, name: &str) -> Result<Net, Fault> {
+    match fs::open(rt, name) {
+        Ok(mut file) => read_net(rt.alloc(), &mut file),
+        Err(_) => Err(Fault::Read),
+    }
+}
+
 /// Runs the script on standard input from the network of a file, and gives the fault that ended the run.
 fn run_file(rt: &HostRuntime, name: &str) -> Option<Fault> {
-    let mut file = match fs::open(rt, name) {
-        Ok(file) => file,
-        Err(_) => return Some(Fault::Read),
-    };
-    match read_net(rt.alloc(), &mut file) {
+    match load_file(rt, name) {
         Ok(net) => run_script(rt.alloc(), &mut rt.reader(), &mut io::writer(rt), net).fault,
         Err(fault) => Some(fault),
     }
@@ -62,12 +74,40 @@ fn run_standard_input(rt: &HostRuntime) -> Option<Fault> {
     run_input(rt.alloc(), &mut rt.reader(), &mut io::writer(rt)).fault
 }
 
+/// Works out and checks all tables of a network.
+fn check_tables(
+    rt: &(impl Threads + Sync),
+    alloc: Global,
+    net: Result<Net, Fault>,
+) -> Result<CheckEnd, Fault> {
+    match check_net(rt, alloc, &net?) {
+        Ok(end) => Ok(end),
+        Err(_) => Err(Fault::OutOfMemory),
+    }
+}
+
+/// Says what a check found.
+fn report_check(rt: &HostRuntime, end: &CheckEnd) -> io::Result<ExitCode> {
+    let text = end.text.as_str();
+    if let Err(_) = println!(rt; "{text}") {
+        return report(rt, Some(Fault::Write));
+    }
+    if end.right {
+        return Ok(ExitCode::SUCCESS);
+    }
+    Ok(ExitCode::from(1))
+}
+
 fn main(rt: HostRuntime) -> io::Result<ExitCode> {
     let words: Vec<String> = env::args(&rt)?.collect(rt.alloc())?;
     let texts = texts(rt.alloc(), words.as_slice())?;
     match read_words(rt.alloc(), texts.as_slice()) {
         Ok(Order::Run { net: "-" }) => report(&rt, run_standard_input(&rt)),
         Ok(Order::Run { net }) => report(&rt, run_file(&rt, net)),
+        Ok(Order::Check { net }) => match check_tables(&rt, rt.alloc(), load_file(&rt, net)) {
+            Ok(end) => report_check(&rt, &end),
+            Err(fault) => report(&rt, Some(fault)),
+        },
         Err(WordFault::Clap(error)) => refuse(&rt, &error),
     }
 }

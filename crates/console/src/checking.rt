@@ -1,0 +1,72 @@
+//! The check of all tables of a network.
+
+ghost use Rattle.std.specs.Prelude.{◌≡◌, IfOk, length, string_bytes, true};
+ghost use Rattle.console.specs.Checking.{clause_letter, right_text, wrong_text, verdict_text};
+
+use all_tables::{Wrong, check_tables, tables_of};
+use net_data::nets::Net;
+use std::alloc::{AllocError, Global};
+use std::thread::Threads;
+use transfer_state::Clause;
+
+/// A check of all tables, as it is answered.
+#[derive(Debug, Drop)]
+pub struct CheckEnd {
+    /// The answer, without a line feed.
+    pub text: String,
+    /// Whether each table was right.
+    pub right: bool,
+}
+
+/// The letter of what is wrong.
+fn clause_word(clause: Clause) -> &'static str
+    ensures { result.now ≡ clause_letter clause }
+{
+    match clause {
+        Clause::Points => "a",
+        Clause::Route => "b",
+        Clause::Status => "c",
+        Clause::Links => "d",
+        Clause::Messages => "e",
+    }
+}
+
+/// The first wrong table in text.
+fn write_wrong(alloc: Global, wrong: Wrong) -> Result<String, AllocError>
+    ensures { IfOk result (λ text. string_bytes text ≡ wrong_text wrong) }
+{
+    let Wrong { dest, complaint } = wrong;
+    let point = complaint.point;
+    let word = clause_word(complaint.clause);
+    format!(in alloc; "bad {dest} {point} {word}")
+}
+
+/// What is said of that many tables, in text.
+fn write_verdict(alloc: Global, count: usize, wrong: Option<Wrong>) -> Result<String, AllocError>
+    ensures { IfOk result (λ text. string_bytes text ≡ verdict_text count wrong) }
+{
+    match wrong {
+        None => format!(in alloc; "ok {count}"),
+        Some(wrong) => write_wrong(alloc, wrong),
+    }
+}
+
+/// Works out the settled tables of all planned destinations, checks each by the local rule, and says `ok P` for P plans
+/// or `bad X Y c` for the first wrong one: its destination, and the point and the letter of the first complaint. That
+/// it always says `ok P` is its contract. It fails where memory is refused.
+pub fn check_net(
+    rt: &(impl Threads + Sync),
+    alloc: Global,
+    net: &Net,
+) -> Result<CheckEnd, AllocError>
+    ensures text { IfOk result (λ end. string_bytes end.text ≡ right_text (length net.now.plans)) }
+    ensures right { IfOk result (λ end. end.right ≡ true) }
+{
+    let tables = tables_of(rt, alloc, net)?;
+    let wrong = check_tables(rt, alloc, net, &tables)?;
+    let text = write_verdict(alloc, tables.len(), wrong)?;
+    Ok(CheckEnd {
+        text,
+        right: wrong.is_none(),
+    })
+}
