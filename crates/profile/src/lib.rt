@@ -15,8 +15,8 @@
 //! 6. A table holds all this for the rows of one plan. It reads the sets of its transfer points and of its rows' vias,
 //!    and no others (own).
 //!
-//! The crate has no program but the constructors and readers of its types: `profile_laws` states on its contract what
-//! holds of every valid source.
+//! The crate has no program but the constructors, readers and copies of its types: `profile_laws` states on its contract
+//! what holds of every valid source.
 #![tactic(auto)]
 
 pub mod hops;

@@ -1,5 +1,5 @@
-//! The table of an excerpt: statuses, routes, links and transfer messages, made by one sweep in rising rank, or checked row
-//! by row.
+//! The table of an excerpt: statuses, routes, links and transfer messages, made by one sweep in rising rank, or checked
+//! row by row.
 //!
 //! 1. The statuses of the vias of a row, and of the vias of its mate, are those of rows of lower rank, so one sweep over
 //!    the ranks in rising order gives every status (own, after Q.704 clauses 13.2 to 13.4).
