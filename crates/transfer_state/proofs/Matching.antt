@@ -1,7 +1,6 @@
 -- Whether a row's state, and a whole table, is what its neighbours' messages make it.
-use Rattle.std.proofs.Common.{◌≡◌, ℕ, zero, suc, ◌+◌, ◌<◌, List, [], ◌∷◌, Some, None, map, eqb, Bool, true, false, not, refl, sym, ap, ◌∙◌, arith, inl, inr, subst, length, get_or}
-use Rattle.std.specs.Prelude.{filter, find, slice_get}
-use Rattle.std.specs.List.{AllByRecursion}
+use Rattle.std.proofs.Common.{◌≡◌, ℕ, zero, suc, ◌+◌, ◌<◌, List, [], ◌∷◌, Some, None, map, eqb, Bool, true, false, refl, sym, ap, ◌∙◌, arith, inl, inr, subst, length, get_or}
+use Rattle.std.specs.Prelude.{find, slice_get}
 use Rattle.std.proofs.lemmas.Bool.{eq-eqb, ne_eqb, cases_eq}
 use Rattle.std.proofs.lemmas.List.{length-map}
 use Rattle.std.proofs.lemmas.Option.{same_Some, slice_get_read}

@@ -19,7 +19,7 @@ mod sweep;
 pub mod table;
 
 pub use certificate::{Clause, Complaint, check};
-pub use profile::tables::{LinkRef, Message, Messages, RowState, RowStates, Table};
+pub use profile::tables::{LinkRef, Message, Messages, RowLinks, RowState, RowStates, Table};
 pub use table::table_of;
 
 #[cfg(test)]

@@ -1,4 +1,4 @@
-use Rattle.std.proofs.Common.{◌≡◌, map, not, eqb}
+use Rattle.std.proofs.Common.{map, not, eqb}
 use Rattle.std.specs.Prelude.{filter}
 use Rattle.link_sets.specs.Neighbours.{left_of, neighbours}
 use Rattle.profile.specs.Local.{message}

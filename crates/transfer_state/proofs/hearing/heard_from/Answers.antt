@@ -1,4 +1,4 @@
-use Rattle.std.proofs.Common.{◌≡◌, ◌∙◌, ap, sym, subst, List, get_or}
+use Rattle.std.proofs.Common.{◌∙◌, ap, subst, List, get_or}
 use Rattle.net_items.specs.declared.lists.Row.{Row}
 use Rattle.net_items.specs.Keyed.{IsFoundAt, IsGapAt}
 use Rattle.profile.specs.declared.tables.Message.{Message}
