@@ -3,12 +3,10 @@ use Rattle.std.proofs.Common.{◌≡◌, ℕ, ◌+◌, ◌<◌, ◌≤◌, List,
 use Rattle.std.proofs.lemmas.List.Elements.{filter-append}
 use Rattle.std.specs.Prelude.{filter}
 use Rattle.std.proofs.lemmas.List.{drop_more, drop_all, append_assoc, append-nil}
-use Rattle.route_choice.specs.declared.choices.Far.{Far}
 use Rattle.net_items.specs.declared.lists.Row.{Row}
 use Rattle.profile.specs.declared.tables.LinkRef.{LinkRef}
 use Rattle.profile.specs.declared.tables.Message.{Message}
 use Rattle.profile.specs.Status.{Source}
-use Rattle.transfer_state.specs.Told.{KnowsBelow, AreStatuses}
 use Rattle.route_choice.specs.declared.choices.Choice.{Choice}
 use Rattle.profile.specs.Local.{message}
 use Rattle.link_sets.specs.Neighbours.{neighbours}
@@ -24,9 +22,6 @@ made_more {X} f xs i d ys all y low is so_far =
 
 pub made_all : {X Y : Type 0} (f : X → Y) (xs : List X) (i : ℕ) (ys all : List Y) → length xs ≤ i → ys ++ map f (drop i xs) ≡ all → ys ≡ all
 made_all {X} f xs i ys all high so_far = sym (append-nil ys) ∙ ap (λ (r : List X). ys ++ map f r) (sym (drop_all i xs high)) ∙ so_far
-
-pub all_known : (src : Source) (statuses : List Far) (n : ℕ) → AreStatuses src statuses → KnowsBelow src statuses n
-all_known src statuses n are i row at low = are i row at
 
 pub state_made : (src : Source) (row : Row) (c right : Choice) (links : List (Option LinkRef)) (messages : List Message) → links ≡ (state_of src row c).links → messages ≡ messages_of src row c → c ≡ right
     → record { point = row.point; choice = c; links = links; messages = messages } ≡ state_of src row right
