@@ -5,7 +5,7 @@ ghost use Rattle.std.specs.List.{flat_map};
 ghost use Rattle.answers.specs.Links.{link_text, links_text};
 ghost use Rattle.answers.specs.Text.{line_count};
 
-use profile::tables::{LinkRef, RowState};
+use profile::tables::{LinkRef, RowLinks, RowState};
 use std::alloc::{AllocError, Global};
 
 /// A link after a space, by its set and its signalling link code.
@@ -28,13 +28,14 @@ fn put_link(alloc: Global, text: &mut String, link: Option<LinkRef>) -> Result<(
     text.push_str(word.as_str())
 }
 
-/// Adds links, each after a space.
-fn put_links(alloc: Global, text: &mut String, links: &[Option<LinkRef>]) -> Result<(), AllocError>
+/// Adds the sixteen links, each after a space.
+fn put_links(alloc: Global, text: &mut String, links: &RowLinks) -> Result<(), AllocError>
     ensures text { OnOk result (string_bytes text.new ≡ string_bytes text.old ++ flat_map link_text links.now) }
     ensures plain { OnOk result (line_count (string_bytes text.new) ≡ line_count (string_bytes text.old)) }
 {
-    for link in links {
-        put_link(alloc, text, *link)?;
+    links.validity();
+    for s in 0..16u8 {
+        put_link(alloc, text, links.at(s))?;
     }
     Ok(())
 }

@@ -18,12 +18,12 @@ use Rattle.net_data.specs.Valid.{IsValid as IsValidNet}
 use Rattle.profile.specs.Status.{Source}
 use Rattle.profile.specs.Reads.{is_planned_transfer, is_flagged, reads}
 use Rattle.profile.specs.Reads.{excerpt_of as source_excerpt}
-use Rattle.profile.specs.Valid.{IsValid, HasFewLinks}
+use Rattle.profile.specs.Valid.{IsValid, HasFewLinks, HasLinksInOrder}
 use Rattle.profile.specs.Whole.{scratch}
 use Rattle.profile.proofs.Certificate.{find-map}
 use Rattle.profile.proofs.Excerpting.{excerpt_valid, excerpt_scratch}
 use Rattle.excerpts.specs.Excerpts.{kind_of, row_point, network_source, source_of, excerpt_of, IsRight}
-use Rattle.excerpts.proofs.Sourcing.{source_valid, sets_few, row_point_is}
+use Rattle.excerpts.proofs.Sourcing.{source_valid, sets_few, sets_ordered, row_point_is}
 
 -- the points of rows rise as the rows do
 rise_points : (points : List Point) (rows : List Row) → IsRising (λ (r : Row). r.point) rows → IsRising (λ (p : Point). p.code) (map (row_point points) rows)
@@ -34,11 +34,12 @@ rise_points points (r ∷ rs) up = (above r rs up.0, rise_points points rs up.1)
     above r [] all = tt
     above r (s ∷ ss) all = (all.0, above r ss all.1)
 
-few_read : (p : LinkSet → Bool) (sets : List LinkSet) → AllByRecursion HasFewLinks sets → AllByRecursion HasFewLinks (filter p sets)
-few_read p [] all = tt
-few_read p (s ∷ ss) all = go (p s) (few_read p ss all.1)
+-- what all sets have, those that are read have
+all_read : (P : LinkSet → Type 0) (p : LinkSet → Bool) (sets : List LinkSet) → AllByRecursion P sets → AllByRecursion P (filter p sets)
+all_read P p [] all = tt
+all_read P p (s ∷ ss) all = go (p s) (all_read P p ss all.1)
   where
-    go : (b : Bool) → AllByRecursion HasFewLinks (filter p ss) → AllByRecursion HasFewLinks (cond b (s ∷ filter p ss) (filter p ss))
+    go : (b : Bool) → AllByRecursion P (filter p ss) → AllByRecursion P (cond b (s ∷ filter p ss) (filter p ss))
     go true rest = (all.0, rest)
     go false rest = rest
 
@@ -92,7 +93,8 @@ module _ (net : Network) (plan : Plan) where
     pub excerpt_right : IsRight (excerpt_of net plan)
     excerpt_right = record {
       valid = subst (λ (s : Source). IsValid s) (sym source_is) (excerpt_valid src (source_valid net v plan right));
-      few = All-from_recursion HasFewLinks (filter (reads src) net.sets) (few_read (reads src) net.sets (sets_few net v));
+      few = All-from_recursion HasFewLinks (filter (reads src) net.sets) (all_read HasFewLinks (reads src) net.sets (sets_few net v));
+      ordered = All-from_recursion HasLinksInOrder (filter (reads src) net.sets) (all_read HasLinksInOrder (reads src) net.sets (sets_ordered net v));
       points_rise = rise_points net.points plan.rows right.rows_rise;
       rows_rise = right.rows_rise;
     }

@@ -9,6 +9,7 @@ use Rattle.net_items.specs.declared.items.Point.{Point}
 use Rattle.net_items.specs.declared.items.LinkSet.{LinkSet}
 use Rattle.net_items.specs.declared.items.Plan.{Plan}
 use Rattle.net_items.specs.declared.lists.Row.{Row}
+use Rattle.net_items.specs.declared.links.Link.{Link}
 use Rattle.net_items.specs.Keyed.{IsRising}
 use Rattle.net_items.specs.Lookups.{has_point, is_stp, mate_of, joined, set_between, row_at, plan_at}
 use Rattle.net_items.proofs.KeyedLemmas.{found_holds}
@@ -18,7 +19,7 @@ use Rattle.plan_rows.specs.Rows.{is_lower, is_free, is_mate, is_small_class, has
 use Rattle.net_data.specs.Valid.{IsRightRow, IsRightPlan, IsRightSet}
 use Rattle.net_data.specs.Valid.{IsValid as IsValidNet}
 use Rattle.profile.specs.Status.{Source}
-use Rattle.profile.specs.Valid.{IsLower, HasMate, IsVia, IsValidRow, IsValid, HasFewLinks}
+use Rattle.profile.specs.Valid.{IsLower, HasMate, IsVia, IsValidRow, IsValid, HasFewLinks, HasLinksInOrder}
 use Rattle.excerpts.specs.Excerpts.{network_source}
 use Rattle.excerpts.proofs.ReadLemmas.{at_once}
 
@@ -178,6 +179,14 @@ few_all points (s ∷ ss) all = (record { few = all.0.few_links }, few_all point
 -- each set has at most sixteen links
 pub sets_few : (net : Network) → IsValidNet net → AllByRecursion HasFewLinks net.sets
 sets_few net v = few_all net.points net.sets v.sets_right
+
+ordered_all : (points : List Point) (sets : List LinkSet) → AllByRecursion (IsRightSet points) sets → AllByRecursion HasLinksInOrder sets
+ordered_all points [] all = tt
+ordered_all points (s ∷ ss) all = (record { rising = all.0.links_rise; small = All-from_recursion (λ (l : Link). l.slc < 16) s.links all.0.links_small }, ordered_all points ss all.1)
+
+-- the links of each set rise in signalling link code, each below sixteen
+pub sets_ordered : (net : Network) → IsValidNet net → AllByRecursion HasLinksInOrder net.sets
+sets_ordered net v = ordered_all net.points net.sets v.sets_right
 
 -- a plan that is found is right
 pub plan_right : (net : Network) → IsValidNet net → (dest : ℕ) (plan : Plan) → plan_at net.plans dest ≡ Some plan → IsRightPlan net.points net.sets plan

@@ -13,7 +13,7 @@ use Rattle.net_data.specs.Network.{Network}
 use Rattle.profile.specs.Status.{Source, source_in}
 use Rattle.profile.specs.Reads.{reads}
 use Rattle.profile.specs.Walk.{is_via}
-use Rattle.profile.specs.Valid.{IsValid, HasFewLinks}
+use Rattle.profile.specs.Valid.{IsValid, HasFewLinks, HasLinksInOrder}
 use Rattle.excerpts.specs.declared.faults.ExcerptFault.{ExcerptFault}
 use Rattle.excerpts.specs.declared.faults.ExcerptFault.TheVariants.{NoPlan, OutOfMemory}
 
@@ -62,9 +62,10 @@ IsAnswer (Some x) result = MatchResult result (λ e. e ≡ x) (λ fault. fault �
 abbrev pub leads : List Row → ℕ → ℕ → Bool
 leads rows y z = option_map_or (λ (row : Row). is_via row z) (row_at rows y) false
 
--- what every excerpt keeps: it is the source of a valid plan, and its lists are in order
+-- what every excerpt keeps: it is the source of a valid plan, its sets have at most sixteen links in order, and its lists are in order
 pub record IsRight (x : Extract) : Type 0 where
   pub valid : IsValid (source_of x)
   pub few : All HasFewLinks x.sets
+  pub ordered : All HasLinksInOrder x.sets
   pub points_rise : IsRising (λ (p : Point). p.code) x.points
   pub rows_rise : IsRising (λ (r : Row). r.point) x.plan.rows

@@ -8,5 +8,6 @@ pub mod Certificate
 pub mod Tracing
 pub mod Receiving
 pub mod Excerpting
+pub mod Linking
 pub mod Available
 pub mod Hopping

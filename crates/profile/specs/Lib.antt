@@ -3,6 +3,7 @@ pub mod Local
 pub mod Valid
 pub mod Walk
 pub mod Reads
+pub mod Links
 pub mod Whole
 pub mod Traces
 pub mod Laws

@@ -3,6 +3,8 @@ use Rattle.std.specs.Prelude.{◌≡◌, ◌≢◌, ◌<◌, ◌≤◌, ℕ, IsT
 use Rattle.std.specs.List.{AllPairs}
 use Rattle.net_items.specs.declared.lists.Row.{Row}
 use Rattle.net_items.specs.declared.items.LinkSet.{LinkSet}
+use Rattle.net_items.specs.declared.links.Link.{Link}
+use Rattle.net_items.specs.Keyed.{IsRising}
 use Rattle.net_items.specs.Lookups.{set_between}
 use Rattle.profile.specs.Status.{Source, row_of}
 
@@ -36,6 +38,11 @@ pub record IsSmall (row : Row) : Type 0 where
 -- a set of at most sixteen links
 pub record HasFewLinks (set : LinkSet) : Type 0 where
   pub few : length set.links ≤ 16
+
+-- a set whose links rise in signalling link code, each below sixteen
+pub record HasLinksInOrder (set : LinkSet) : Type 0 where
+  pub rising : IsRising (λ (link : Link). link.slc) set.links
+  pub small : All (λ (link : Link). link.slc < 16) set.links
 
 -- what a row is
 pub record IsValidRow (src : Source) (row : Row) : Type 0 where

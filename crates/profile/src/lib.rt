@@ -25,7 +25,7 @@ pub mod tables;
 
 pub use hops::{Hop, Hops, Trace};
 pub use laws::profile_laws;
-pub use tables::{LinkRef, Message, Messages, RowState, RowStates, Table};
+pub use tables::{LinkRef, Message, Messages, RowLinks, RowState, RowStates, SetLinks, Table};
 
 #[cfg(test)]
 mod tests;

@@ -1,10 +1,13 @@
 //! A table: what a network settles to for one destination, row by row.
 
-ghost use Rattle.std.specs.Prelude.{◌≡◌, ◌==◌, find, IfOk};
+ghost use Rattle.std.specs.Prelude.{◌≡◌, ◌↔◌, ◌<◌, ◌==◌, None, IsTrue, find, length, map, slice_index_or, IfOk};
+ghost use Rattle.std.specs.List.{range_with_len};
 ghost use Rattle.std.specs.Option.{option_copied};
+ghost use Rattle.profile.specs.Links.{link_over, links_at};
 
 use point_codes::{MsgKind, PointCode};
 use route_choice::Choice;
+use sls_share::{Carried, member_for};
 use std::alloc::{AllocError, Global};
 use std::marker::Model;
 
@@ -15,6 +18,165 @@ pub struct LinkRef {
     pub id: u16,
     /// The signalling link code.
     pub slc: u8,
+}
+
+/// A set by its number, with the links that carry its share numbers (Q.704 clause 2.3).
+#[derive(Debug, Drop)]
+pub struct SetLinks {
+    /// The set's number.
+    pub id: u16,
+    /// Which of its links carries each share number.
+    pub carried: Carried,
+}
+
+impl SetLinks {
+    /// The link that carries share number `t`, 0 to 15, where one does.
+    fn link_for(&self, t: u8) -> Option<LinkRef>
+        requires { t < 16 }
+        ensures { result ≡ link_over self.now t }
+    {
+        let slc = self.carried.link_for(t)?;
+        Some(LinkRef { id: self.id, slc })
+    }
+
+    /// A copy. It takes no memory.
+    fn copy(&self) -> SetLinks
+        ensures { result ≡ self.now }
+    {
+        SetLinks {
+            id: self.id,
+            carried: self.carried.copy(),
+        }
+    }
+}
+
+fn copy_set_links(set: &Option<SetLinks>) -> Option<SetLinks>
+    ensures { result ≡ set.now }
+{
+    match set {
+        Some(set) => Some(set.copy()),
+        None => None,
+    }
+}
+
+/// The set to the member in a place, 0 or 1.
+fn set_at(sets: &[Option<SetLinks>; 2], place: u8) -> Option<&SetLinks>
+    requires { place < 2 }
+    ensures { option_copied result ≡ slice_index_or sets.now place None }
+{
+    sets[usize::from(place)].as_ref()
+}
+
+/// Whether both are none, or of one set with the same links.
+fn is_same_set(one: &Option<SetLinks>, other: &Option<SetLinks>) -> bool
+    ensures { IsTrue result ↔ (one.now ≡ other.now) }
+{
+    match (one, other) {
+        (None, None) => true,
+        (Some(one), Some(other)) => one.id == other.id && one.carried.equals(&other.carried),
+        _ => false,
+    }
+}
+
+fn are_same_sets(one: &[Option<SetLinks>; 2], other: &[Option<SetLinks>; 2]) -> bool
+    ensures { IsTrue result ↔ (one.now ≡ other.now) }
+{
+    is_same_set(&one[0], &other[0]) && is_same_set(&one[1], &other[1])
+}
+
+fn are_same_uses(one: [bool; 2], other: [bool; 2]) -> bool
+    ensures { IsTrue result ↔ (one ≡ other) }
+{
+    one[0] == other[0] && one[1] == other[1]
+}
+
+/// The link that carries each signalling link selection of a row, where one does (Q.704 clause 2.3).
+///
+/// It holds the sets to the members of the row's class, and works out a link when it is asked for.
+#[derive(Debug, Drop)]
+pub struct RowLinks {
+    size: u8,
+    used: [bool; 2],
+    sets: [Option<SetLinks>; 2],
+}
+
+impl Model for RowLinks {
+    ghost use Rattle.std.specs.Prelude.{List, Option};
+    ghost use Rattle.profile.specs.declared.tables.LinkRef.{LinkRef};
+    ghost use Rattle.profile.specs.Links.{links_at};
+
+    ghost Value = { List (Option LinkRef) };
+
+    ghost view = { λ links. links_at links.size links.used links.sets };
+}
+
+impl RowLinks {
+    /// The links of a class with a configured number of vias, by its members and the sets to them, in their places.
+    pub fn new(size: u8, used: [bool; 2], sets: [Option<SetLinks>; 2]) -> RowLinks
+        ensures { result ≡ links_at size used sets }
+    {
+        RowLinks { size, used, sets }
+    }
+
+    /// No links.
+    pub fn none() -> RowLinks
+        ensures { result ≡ map (λ _. None) (range_with_len 0 16) }
+    {
+        RowLinks {
+            size: 1,
+            used: [false; 2],
+            sets: [None, None],
+        }
+    }
+
+    /// The link that carries signalling link selection `s`, 0 to 15, where one does (Q.704 clause 2.3).
+    pub fn at(&self, s: u8) -> Option<LinkRef>
+        requires { s < 16 }
+        ensures { result ≡ slice_index_or self.now s None }
+    {
+        let (place, t) = member_for(self.size, self.used, s);
+        match set_at(&self.sets, place) {
+            Some(set) => set.link_for(t),
+            None => None,
+        }
+    }
+
+    /// The fact that the type keeps: there are sixteen. It does nothing when it runs.
+    pub fn validity(&self)
+        ensures { length self.now ≡ 16 }
+    {
+        // The proof reads the fields from this.
+        let _size = self.size;
+    }
+
+    /// Whether the links of the sixteen signalling link selections are equal. It takes no memory.
+    pub fn equals(&self, other: &RowLinks) -> bool
+        ensures { IsTrue result ↔ (self.now ≡ other.now) }
+    {
+        if self.size == other.size
+            && are_same_uses(self.used, other.used)
+            && are_same_sets(&self.sets, &other.sets)
+        {
+            return true;
+        }
+        for s in 0..16u8 {
+            if self.at(s) != other.at(s) {
+                return false;
+            }
+        }
+        true
+    }
+
+    /// A copy. It takes no memory.
+    pub fn copy(&self) -> RowLinks
+        ensures { result ≡ self.now }
+    {
+        RowLinks {
+            size: self.size,
+            used: self.used,
+            sets: [copy_set_links(&self.sets[0]), copy_set_links(&self.sets[1])],
+        }
+    }
 }
 
 /// A transfer message in force towards a point (Q.704 clauses 13.2 to 13.4).
@@ -74,7 +236,7 @@ pub struct RowState {
     /// What the row uses, and the status that follows.
     pub choice: Choice,
     /// The link that carries each signalling link selection, where one does (Q.704 clause 2.3).
-    pub links: [Option<LinkRef>; 16],
+    pub links: RowLinks,
     /// The transfer messages in force from the point.
     pub messages: Messages,
 }
@@ -87,7 +249,7 @@ impl RowState {
         Ok(RowState {
             point: self.point,
             choice: self.choice,
-            links: self.links,
+            links: self.links.copy(),
             messages: self.messages.copy(alloc)?,
         })
     }

@@ -1,2 +1,3 @@
 pub mod Sharing
 pub mod Covering
+pub mod Carrying

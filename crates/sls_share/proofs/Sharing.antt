@@ -1,15 +1,14 @@
 -- The link that carries a share number.
-use Rattle.std.proofs.Common.{◌≡◌, ◌≢◌, ℕ, zero, suc, ◌+◌, ◌<◌, List, [], ◌∷◌, Option, Some, None, map, Bool, true, false, refl, sym, ap, ◌∙◌, arith, inl, inr, ◌⊎◌, subst, length, slice_get, get_or, set, zero-add}
+use Rattle.std.proofs.Common.{◌≡◌, ◌≢◌, ℕ, zero, suc, ◌+◌, ◌<◌, List, [], ◌∷◌, Option, Some, None, map, Bool, true, false, refl, sym, ap, ◌∙◌, arith, inl, inr, ◌⊎◌, subst, length, slice_get, set}
 use Rattle.std.specs.Prelude.{find}
 use Rattle.std.specs.List.{range_with_len}
 use Rattle.std.specs.Option.{option_map_or, option_map}
 use Rattle.std.proofs.lemmas.Bool.{cases_eq}
 use Rattle.std.proofs.lemmas.List.{length-set}
-use Rattle.std.proofs.lemmas.Option.{slice_get-get_or}
 use Rattle.net_items.specs.declared.links.Link.{Link}
 use Rattle.link_sets.proofs.Lists.{find_gives, find_weaker, find_weaker_none}
 use Rattle.link_sets.specs.Availability.{link_available, available_at}
-use Rattle.sls_share.specs.Share.{probe, probe_order, position_for, link_for, IsSteady}
+use Rattle.sls_share.specs.Share.{probe_order, position_for, link_for, IsSteady}
 
 -- the first of a range that passes
 pub find_first : (f : ℕ → ℕ) (p : ℕ → Bool) (a n j : ℕ) → ((k : ℕ) → k < j → p (f (a + k)) ≡ false) → j < n → p (f (a + j)) ≡ true → find p (map f (range_with_len a n)) ≡ Some (f (a + j))
@@ -78,29 +77,6 @@ link_for_steady links t k was now at ne down = go (position_for links t) refl
         let same : position_for (set links k now) t ≡ Some i = ap (find (available_at (set links k now))) order ∙ find_weaker (available_at links) (available_at (set links k now)) (probe_order t (length links)) weaker i e kept in
         rw (same, e, unchanged) refl
 
--- the answer where turn j is the first with an available link
-pub link_for_found : (links : List Link) (t j : ℕ) (link : Link) → ((k : ℕ) → k < j → available_at links (probe t (length links) k) ≡ false) → j < length links
-    → slice_get links (probe t (length links) j) ≡ Some link → link_available link ≡ true → link_for links t ≡ Some link.slc
-link_for_found links t j link before low at up =
-    let here : available_at links (probe t (length links) j) ≡ true = rw at up in
-    let found : position_for links t ≡ Some (probe t (length links) j) = find_first (probe t (length links)) (available_at links) 0 (length links) j
-    (λ k lt. subst (λ i. available_at links (probe t (length links) i) ≡ false) (sym (zero-add k)) (before k lt)) low
-    (subst (λ i. available_at links (probe t (length links) i) ≡ true) (sym (zero-add j)) here)
-    ∙ ap (λ i. Some (probe t (length links) i)) (zero-add j) in
-    rw (found, at) refl
-
--- the answer where no turn has one
-pub link_for_nowhere : (links : List Link) (t : ℕ) → ((k : ℕ) → k < length links → available_at links (probe t (length links) k) ≡ false) → link_for links t ≡ None
-link_for_nowhere links t all =
-    let none : position_for links t ≡ None = find_nowhere (probe t (length links)) (available_at links) 0 (length links)
-    (λ k lt. subst (λ i. available_at links (probe t (length links) i) ≡ false) (sym (zero-add k)) (all k lt)) in
-    rw none refl
-
--- the answer at the first turn whose link is available, as a loop finds it
-pub link_for_at : (links : List Link) (t j i : ℕ) (d : Link) → ((k : ℕ) → k < j → available_at links (probe t (length links) k) ≡ false) → j < length links
-    → i ≡ probe t (length links) j → i < length links → link_available (get_or links i d) ≡ true → Some (get_or links i d).slc ≡ link_for links t
-link_for_at links t j i d before low is within up =
-    sym (link_for_found links t j (get_or links i d) before low (ap (slice_get links) (sym is) ∙ slice_get-get_or links i d within) up)
-
+-- an answer that is the definition's is steady
 pub steady_answer : (links : List Link) (t : ℕ) (answer : Option ℕ) → answer ≡ link_for links t → IsSteady links t answer
 steady_answer links t answer e = subst (IsSteady links t) (sym e) (link_for_steady links t)

@@ -9,10 +9,14 @@
 //! 4. The links of a set are tried in an order of positions that depends on the share number and on how many links the
 //!    set has; the first available one carries the share number (probe order own). A link that becomes unavailable
 //!    moves no other link's share numbers.
+//! 5. The links that carry the sixteen share numbers follow from two masks: the signalling link codes of the set, and
+//!    which of its links are available (own).
 #![tactic(auto)]
 
+pub mod carried;
 pub mod share;
 
+pub use carried::Carried;
 pub use share::{link_for, member_for, probe, probe_law};
 
 #[cfg(test)]

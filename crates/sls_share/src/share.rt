@@ -1,8 +1,11 @@
 //! The link that carries a share number, and the via that carries an SLS.
 
 ghost use Rattle.std.specs.Prelude.{◌≡◌, ◌<◌, ◌≤◌, ◌||◌, ◌==◌, IsTrue, length, false, slice_index_or};
+ghost use Rattle.std.specs.Option.{IfSome};
 ghost use Rattle.sls_share.specs.Share.{probe as probe_of, link_for as link_of, IsSteady, via_of, share_of, HasMember, ProbesCover, SetsServe};
+ghost use Rattle.sls_share.specs.Carried.{place_for as place_of};
 
+use link_sets::mask;
 use net_items::LinkSet;
 
 /// The position that is tried at turn `j` for share number `t` among `n` links (own).
@@ -23,6 +26,23 @@ pub fn probe(t: u8, n: usize, j: usize) -> usize
     }
 }
 
+/// The first available position in the probe order of share number `t` (0 to 15) among `n` links, at most 16. Bit i of
+/// `available` stands for position i.
+pub(crate) fn place_for(available: u16, n: usize, t: u8) -> Option<usize>
+    requires share { t < 16 }
+    requires few { n ≤ 16 }
+    ensures place { result ≡ place_of available n t }
+    ensures within { IfSome result (λ i. i < n) }
+{
+    for j in 0..n {
+        let i = probe(t, n, j);
+        if available >> i & 1 == 1 {
+            return Some(i);
+        }
+    }
+    None
+}
+
 /// The signalling link code of the link that carries share number `t` (0 to 15), where one is available (own, after
 /// Q.704 clause 2.3).
 ///
@@ -34,14 +54,8 @@ pub fn link_for(set: &LinkSet, t: u8) -> Option<u8>
     ensures steady { IsSteady set.now.links t result }
 {
     let links = set.links.as_slice();
-    let n = links.len();
-    for j in 0..n {
-        let link = links[probe(t, n, j)];
-        if link.marks.available() {
-            return Some(link.slc);
-        }
-    }
-    None
+    let i = place_for(mask(set), links.len(), t)?;
+    Some(links[i].slc)
 }
 
 /// The number of the via that carries SLS `s` (0 to 15), 0 or 1, and its share number there (own, after Q.704 clause

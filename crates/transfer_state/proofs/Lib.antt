@@ -1,3 +1,4 @@
 pub mod Sweeping
 pub mod Making
 pub mod Matching
+pub mod Membership

@@ -1,31 +1,16 @@
--- Lists that are made one by one: links and rows.
-use Rattle.std.proofs.Common.{◌≡◌, ℕ, zero, suc, ◌+◌, ◌<◌, ◌≤◌, List, [], ◌∷◌, ◌++◌, Option, map, eqb, Bool, true, false, not, refl, sym, ap, ◌∙◌, arith, length, get_or, drop}
+-- Rows and messages that are made one by one.
+use Rattle.std.proofs.Common.{◌≡◌, ℕ, ◌+◌, ◌<◌, ◌≤◌, List, [], ◌∷◌, ◌++◌, Option, map, eqb, Bool, true, false, not, refl, sym, ap, ◌∙◌, length, get_or, drop}
 use Rattle.std.proofs.lemmas.List.Elements.{filter-append}
 use Rattle.std.specs.Prelude.{filter}
-use Rattle.std.specs.List.{range_with_len}
 use Rattle.std.proofs.lemmas.List.{drop_more, drop_all, append_assoc, append-nil}
-use Rattle.route_choice.specs.declared.choices.Far.{Far}
 use Rattle.net_items.specs.declared.lists.Row.{Row}
 use Rattle.profile.specs.declared.tables.LinkRef.{LinkRef}
 use Rattle.profile.specs.declared.tables.Message.{Message}
 use Rattle.profile.specs.Status.{Source}
-use Rattle.transfer_state.specs.Told.{KnowsBelow, AreStatuses}
 use Rattle.route_choice.specs.declared.choices.Choice.{Choice}
 use Rattle.profile.specs.Local.{message}
 use Rattle.link_sets.specs.Neighbours.{neighbours}
 use Rattle.profile.specs.Whole.{messages_of, state_of}
-
--- a list is the map of a range, where each of its places has it
-pub from_each : {X : Type 0} (xs : List X) (d : X) (f : ℕ → X) (a n : ℕ) → length xs ≡ n → ((k : ℕ) → k < n → get_or xs k d ≡ f (a + k)) → xs ≡ map f (range_with_len a n)
-from_each [] d f a zero len each = refl
-from_each [] d f a (suc n) len each = absurd (omega arith)
-from_each (x ∷ xs) d f a zero len each = absurd (omega arith)
-from_each (x ∷ xs) d f a (suc n) len each =
-    let start : a + 0 ≡ a = omega arith in
-    let head : x ≡ f a = each 0 (omega arith) ∙ ap f start in
-    let next : (k : ℕ) → a + suc k ≡ a + 1 + k = λ k. omega arith in
-    let tail : xs ≡ map f (range_with_len (a + 1) n) = from_each xs d f (a + 1) n (omega arith) (λ k low. each (suc k) (omega arith) ∙ ap f (next k)) in
-    cc
 
 -- one row more stands in its place
 pub made_more : {X Y : Type 0} (f : X → Y) (xs : List X) (i : ℕ) (d : X) (ys all : List Y) (y : Y) → i < length xs → y ≡ f (get_or xs i d) → ys ++ map f (drop i xs) ≡ all → (ys ++ y ∷ []) ++ map f (drop (i + 1) xs) ≡ all
@@ -37,9 +22,6 @@ made_more {X} f xs i d ys all y low is so_far =
 
 pub made_all : {X Y : Type 0} (f : X → Y) (xs : List X) (i : ℕ) (ys all : List Y) → length xs ≤ i → ys ++ map f (drop i xs) ≡ all → ys ≡ all
 made_all {X} f xs i ys all high so_far = sym (append-nil ys) ∙ ap (λ (r : List X). ys ++ map f r) (sym (drop_all i xs high)) ∙ so_far
-
-pub all_known : (src : Source) (statuses : List Far) (n : ℕ) → AreStatuses src statuses → KnowsBelow src statuses n
-all_known src statuses n are i row at low = are i row at
 
 pub state_made : (src : Source) (row : Row) (c right : Choice) (links : List (Option LinkRef)) (messages : List Message) → links ≡ (state_of src row c).links → messages ≡ messages_of src row c → c ≡ right
     → record { point = row.point; choice = c; links = links; messages = messages } ≡ state_of src row right

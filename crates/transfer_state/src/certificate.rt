@@ -15,7 +15,7 @@ use excerpts::Excerpt;
 use link_sets::Neighbours;
 use net_items::Row;
 use point_codes::PointCode;
-use profile::tables::{LinkRef, Message, RowState, Table};
+use profile::tables::{Message, RowLinks, RowState, Table};
 use route_choice::{Choice, Far};
 
 /// What can be wrong with a table, in the order in which it is looked for (own).
@@ -92,11 +92,11 @@ fn is_same_status(one: Far, other: Far) -> bool
 }
 
 /// Whether these are the links of a row with this choice.
-fn are_links(e: &Excerpt, row: &Row, choice: &Choice, links: &[Option<LinkRef>; 16]) -> bool
+fn are_links(e: &Excerpt, row: &Row, choice: &Choice, links: &RowLinks) -> bool
     requires { IsSmall row.now }
     ensures { IsTrue result ↔ (links.now ≡ (state_by (source_of e.now) row.now choice.now).links) }
 {
-    *links == links_of(e, row, choice)
+    links.equals(&links_of(e, row, choice))
 }
 
 /// Whether these are the messages in force from a row with this choice, in rising code of the receiver.

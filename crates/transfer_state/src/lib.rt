@@ -2,9 +2,9 @@
 //! row by row.
 //!
 //! 1. The statuses of the vias of a row, and of the vias of its mate, are those of rows of lower rank, so one sweep over
-//!    the ranks in rising order gives every status (own, after Q.704 clauses 13.2 to 13.4).
-//! 2. With the statuses in place each row has its choice, the link of each signalling link selection (Q.704 clause 2.3)
-//!    and, at a transfer point, its messages in force (Q.704 clauses 13.2 to 13.4).
+//!    the ranks in rising order gives every choice with its status (own, after Q.704 clauses 13.2 to 13.4).
+//! 2. With its choice each row has the link of each signalling link selection (Q.704 clause 2.3) and, at a transfer
+//!    point, its messages in force (Q.704 clauses 13.2 to 13.4). The links are held by the sets to the members.
 //! 3. A transfer point tells each neighbour but the destination: prohibited where it leads its own traffic over that
 //!    neighbour, and else its status. An end point tells nothing (Q.704 clauses 13.2 to 13.4).
 //! 4. The table is the one that the definitions of `profile` give from scratch.
@@ -19,7 +19,7 @@ mod sweep;
 pub mod table;
 
 pub use certificate::{Clause, Complaint, check};
-pub use profile::tables::{LinkRef, Message, Messages, RowState, RowStates, Table};
+pub use profile::tables::{LinkRef, Message, Messages, RowLinks, RowState, RowStates, Table};
 pub use table::table_of;
 
 #[cfg(test)]

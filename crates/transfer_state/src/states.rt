@@ -1,18 +1,19 @@
 //! The links and the messages of a row with its choice.
 
-ghost use Rattle.std.specs.Prelude.{◌≡◌, ◌<◌, ◌≤◌, length, All, IfOk};
+ghost use Rattle.std.specs.Prelude.{◌≡◌, ◌<◌, All, IfOk};
 ghost use Rattle.profile.specs.Local.{is_member as is_member_of, message as message_of, is_at as is_at_of};
-ghost use Rattle.profile.specs.Valid.{IsSmall, HasFewLinks};
-ghost use Rattle.profile.specs.Whole.{size_of as size_by, link_between as link_over, link_of as link_by, messages_of as messages_by, state_of as state_by};
+ghost use Rattle.profile.specs.Valid.{IsSmall, HasFewLinks, HasLinksInOrder};
+ghost use Rattle.profile.specs.Whole.{size_of as size_by, member as member_of, messages_of as messages_by, state_of as state_by};
 ghost use Rattle.excerpts.specs.Excerpts.{source_of};
+ghost use Rattle.transfer_state.specs.Members.{set_to};
 
 use excerpts::Excerpt;
 use link_sets::{Neighbours, set_between};
 use net_items::{LinkSet, Row};
 use point_codes::{MsgKind, PointCode};
-use profile::tables::{LinkRef, Message, Messages};
+use profile::tables::{Message, Messages, RowLinks, SetLinks};
 use route_choice::{Choice, Far};
-use sls_share::{link_for, member_for};
+use sls_share::Carried;
 use std::alloc::{AllocError, Global};
 
 /// The configured number of vias of a class; the mate counts as one.
@@ -32,40 +33,40 @@ fn size_of(row: &Row, class: u8) -> u8
     }
 }
 
-/// The link between two points that carries share number `t`.
-fn link_between(sets: &[LinkSet], y: PointCode, z: PointCode, t: u8) -> Option<LinkRef>
-    requires share { t < 16 }
+/// The member in a place of a choice, 0 or 1.
+fn member(choice: &Choice, place: usize) -> Option<PointCode>
+    requires { place < 2 }
+    ensures { result ≡ member_of choice.now place }
+{
+    choice.members[place]
+}
+
+/// The set to a member, with the links that carry its share numbers.
+fn set_over(sets: &[LinkSet], y: PointCode, member: Option<PointCode>) -> Option<SetLinks>
     requires few { All HasFewLinks sets.now }
-    ensures { result ≡ link_over sets.now y z t }
+    requires ordered { All HasLinksInOrder sets.now }
+    ensures { result ≡ set_to sets.now y member }
 {
+    let z = member?;
     let set = set_between(sets, y, z)?;
-    let slc = link_for(set, t)?;
-    Some(LinkRef { id: set.id, slc })
+    Some(SetLinks {
+        id: set.id,
+        carried: Carried::of(set),
+    })
 }
 
-/// The link that carries signalling link selection `s`, 0 to 15 (Q.704 clause 2.3).
-fn link_of(e: &Excerpt, row: &Row, choice: &Choice, s: u8) -> Option<LinkRef>
-    requires sls { s < 16 }
-    requires small { IsSmall row.now }
-    ensures { result ≡ link_by (source_of e.now) row.now choice.now s }
-{
-    e.validity();
-    let used = [choice.members[0].is_some(), choice.members[1].is_some()];
-    let (place, t) = member_for(size_of(row, choice.class), used, s);
-    let z = choice.members[usize::from(place)]?;
-    link_between(e.sets(), row.point, z, t)
-}
-
-/// The links of the sixteen signalling link selections.
-pub(crate) fn links_of(e: &Excerpt, row: &Row, choice: &Choice) -> [Option<LinkRef>; 16]
+/// The links of the sixteen signalling link selections (Q.704 clause 2.3).
+pub(crate) fn links_of(e: &Excerpt, row: &Row, choice: &Choice) -> RowLinks
     requires { IsSmall row.now }
     ensures { result ≡ (state_by (source_of e.now) row.now choice.now).links }
 {
-    let mut links = [None; 16];
-    for s in 0..16u8 {
-        links[usize::from(s)] = link_of(e, row, choice, s);
-    }
-    links
+    e.validity();
+    let first = member(choice, 0);
+    let second = member(choice, 1);
+    let used = [first.is_some(), second.is_some()];
+    let first_set = set_over(e.sets(), row.point, first);
+    let second_set = set_over(e.sets(), row.point, second);
+    RowLinks::new(size_of(row, choice.class), used, [first_set, second_set])
 }
 
 fn is_at(member: Option<PointCode>, z: PointCode) -> bool

@@ -5,7 +5,7 @@ ghost use Rattle.profile.specs.Whole.{scratch};
 ghost use Rattle.excerpts.specs.Excerpts.{source_of};
 
 use crate::states::{links_of, messages_of};
-use crate::sweep::{choice_of, rows_of, statuses};
+use crate::sweep::{choices, rows_of};
 use excerpts::Excerpt;
 use profile::tables::{RowState, RowStates, Table};
 use std::alloc::{AllocError, Global};
@@ -16,11 +16,12 @@ pub fn table_of(alloc: Global, e: &Excerpt) -> Result<Table, AllocError>
     ensures { IfOk result (λ table. table ≡ scratch (source_of e.now)) }
 {
     e.validity();
-    let statuses = statuses(alloc, e)?;
+    let choices = choices(alloc, e)?;
     let rows = rows_of(e);
     let mut list = Vec::with_capacity(alloc, rows.len())?;
-    for row in rows {
-        let choice = choice_of(e, &statuses, row);
+    for i in 0..rows.len() {
+        let row = &rows[i];
+        let choice = choices[i];
         let links = links_of(e, row, &choice);
         let messages = messages_of(alloc, e, row, &choice)?;
         list.push(RowState {

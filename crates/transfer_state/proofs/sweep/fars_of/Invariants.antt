@@ -10,5 +10,5 @@ abbrev pub invariant-loop-i : goal.invariant-loop-i
 invariant-loop-i l = record {
   four : length l.fars ≡ 4;
   each : (k : ℕ) → k < l.i → offered_in (get_or l.classes k []) (get_or l.fars k [])
-      ≡ map (offer (source_of l.e) (told (source_of l.e) l.statuses) l.row.point) (get_or l.classes k []);
+      ≡ map (offer (source_of l.e) (told (source_of l.e) l.choices) l.row.point) (get_or l.classes k []);
 }

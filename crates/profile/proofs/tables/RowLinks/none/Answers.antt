@@ -1,0 +1,5 @@
+use Rattle.profile.proofs.Linking.{links_none}
+use Rattle.profile.proofs.tables.RowLinks.none.Goals as goal
+
+pub returns : goal.returns
+returns c = links_none
