@@ -130,6 +130,7 @@ impl RowLinks {
     }
 
     /// The link that carries signalling link selection `s`, 0 to 15, where one does (Q.704 clause 2.3).
+    #[tactic(auto, using(crate::proofs::Linking::link_found, crate::proofs::Linking::link_missing))]
     pub fn at(&self, s: u8) -> Option<LinkRef>
         requires { s < 16 }
         ensures { result ≡ slice_index_or self.now s None }

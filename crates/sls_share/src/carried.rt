@@ -41,6 +41,7 @@ fn codes_of(set: &LinkSet) -> u16
 }
 
 /// How many codes a mask has.
+#[tactic(auto, using(crate::proofs::Carrying::count_is))]
 fn code_count(codes: u16) -> usize
     ensures count { result ≡ length (codes_in codes) }
     ensures few { result ≤ 16 }
@@ -67,6 +68,7 @@ fn code_at(codes: u16, place: usize) -> Option<u8>
 impl Carried {
     /// The links that carry the sixteen share numbers over a set of at most 16 links, which rise in signalling link code,
     /// each 0 to 15.
+    #[tactic(auto, using(crate::proofs::Carrying::carried_is))]
     pub fn of(set: &LinkSet) -> Carried
         requires few { length set.now.links ≤ 16 }
         requires rising { IsRising (λ link. link.slc) set.now.links }
@@ -80,6 +82,7 @@ impl Carried {
     }
 
     /// The signalling link code of the link that carries share number `t` (0 to 15), where one does.
+    #[tactic(auto, using(crate::proofs::Carrying::code_found, crate::proofs::Carrying::code_missing, crate::proofs::Carrying::code_of_share))]
     pub fn link_for(&self, t: u8) -> Option<u8>
         requires { t < 16 }
         ensures { result ≡ slice_index_or self.now t None }

@@ -47,6 +47,7 @@ pub(crate) fn place_for(available: u16, n: usize, t: u8) -> Option<usize>
 /// Q.704 clause 2.3).
 ///
 /// When another link becomes unavailable, the answer stays.
+#[tactic(auto, using(crate::proofs::Carrying::place_is, crate::proofs::Carrying::link_there_is, crate::proofs::Carrying::link_nowhere_is, crate::proofs::Sharing::steady_answer))]
 pub fn link_for(set: &LinkSet, t: u8) -> Option<u8>
     requires share { t < 16 }
     requires few { length set.now.links ≤ 16 }

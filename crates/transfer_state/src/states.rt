@@ -56,6 +56,7 @@ fn set_over(sets: &[LinkSet], y: PointCode, member: Option<PointCode>) -> Option
 }
 
 /// The links of the sixteen signalling link selections (Q.704 clause 2.3).
+#[tactic(auto, using(crate::proofs::Membership::links_made))]
 pub(crate) fn links_of(e: &Excerpt, row: &Row, choice: &Choice) -> RowLinks
     requires { IsSmall row.now }
     ensures { result ≡ (state_by (source_of e.now) row.now choice.now).links }
