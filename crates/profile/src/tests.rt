@@ -43,7 +43,7 @@ fn reads_a_table(rt: HostRuntime) -> Result<(), Fail> {
     Ok(())
 }
 
-/// A set of the links 0 and 3, of which this is failed, if any.
+/// A set of the links 0 and 3, failed where this says so.
 fn new_set(alloc: Global, end: PointCode, failed: [bool; 2]) -> Result<LinkSet, AllocError>
     ensures few { IfOk result (λ set. length set.links ≡ 2) }
     ensures rising { IfOk result (λ set. IsRising (λ link. link.slc) set.links) }

@@ -11,8 +11,8 @@ use std::marker::Model;
 
 /// Which link of a set carries each share number, by its signalling link code (own, after Q.704 clause 2.3).
 ///
-/// It takes four bytes: a bit for each signalling link code of the set, and a bit for each available position among them in
-/// rising code. Masks that differ can say the same.
+/// It takes four bytes: a bit for each signalling link code of the set, and a bit for each available position among them
+/// in rising code. Masks that differ can say the same.
 #[derive(Debug, Drop)]
 pub struct Carried {
     codes: u16,
@@ -66,8 +66,8 @@ fn code_at(codes: u16, place: usize) -> Option<u8>
 }
 
 impl Carried {
-    /// The links that carry the sixteen share numbers over a set of at most 16 links, which rise in signalling link code,
-    /// each 0 to 15.
+    /// The links that carry the sixteen share numbers over a set of at most 16 links, which rise in signalling link
+    /// code, each 0 to 15.
     #[tactic(auto, using(crate::proofs::Carrying::carried_is))]
     pub fn of(set: &LinkSet) -> Carried
         requires few { length set.now.links ≤ 16 }
