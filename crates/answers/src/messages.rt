@@ -2,8 +2,7 @@
 
 ghost use Rattle.std.specs.Prelude.{◌≡◌, ◌++◌, ◌<◌, IfOk, OnOk, Some, string_bytes};
 ghost use Rattle.std.specs.List.{flat_map};
-ghost use Rattle.std.specs.Option.{option_copied};
-ghost use Rattle.answers.specs.Messages.{kind_text, message_text, messages_text, message_to as the_message_to, octet_text, octets_text, octets_to};
+ghost use Rattle.answers.specs.Messages.{kind_text, message_text, messages_text, octet_text, octets_text, octets_to};
 ghost use Rattle.answers.specs.Text.{line_count};
 
 use point_codes::{MsgKind, PointCode, tfm_octets};
@@ -56,13 +55,6 @@ pub(crate) fn write_messages(alloc: Global, messages: &Messages) -> Result<Strin
     Ok(text)
 }
 
-/// The message to a point.
-fn message_to(messages: &[Message], z: PointCode) -> Option<&Message>
-    ensures { option_copied result ≡ the_message_to messages.now z }
-{
-    messages.iter().find(|m| m.to == z)
-}
-
 /// An octet after a space.
 fn octet_word(alloc: Global, octet: u8) -> Result<String, AllocError>
     ensures { IfOk result (λ word. string_bytes word ≡ octet_text octet) }
@@ -102,7 +94,7 @@ pub(crate) fn write_octets(
     ensures text { IfOk result (λ text. string_bytes text ≡ octets_text (octets_to ni dest state.now z)) }
     ensures plain { IfOk result (λ text. line_count (string_bytes text) ≡ 0) }
 {
-    match message_to(state.messages.as_slice(), z) {
+    match state.messages.to(z) {
         None => String::from_str(alloc, "octets none"),
         Some(message) => {
             let octets = tfm_octets(ni, z, state.point, message.kind, dest);

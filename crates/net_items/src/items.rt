@@ -15,23 +15,32 @@ pub enum Kind {
 /// A signalling point, with its mate where it is one of a mated pair (Q.705).
 #[derive(Clone, Copy, Debug, PartialEq, Eq)]
 pub struct Point {
+    /// The signalling point code.
     pub code: PointCode,
+    /// End point or transfer point.
     pub kind: Kind,
+    /// The code of its mate, if it has one.
     pub mate: Option<PointCode>,
 }
 
 /// The links that directly join two points, in rising signalling link code (Q.704 clause 2.2).
 #[derive(Debug, Drop)]
 pub struct LinkSet {
+    /// The number of the set, 0 to 4,095 in a valid network (own).
     pub id: u16,
+    /// Its first point.
     pub a: PointCode,
+    /// Its second point.
     pub b: PointCode,
+    /// Its links, 1 to 16 in a valid network.
     pub links: Links,
 }
 
 /// How each point of the rows leads its traffic to one destination, rows in rising code.
 #[derive(Debug, Drop)]
 pub struct Plan {
+    /// The destination.
     pub dest: PointCode,
+    /// The rows, one for each point that has routes.
     pub rows: Rows,
 }

@@ -175,9 +175,13 @@ impl Classes {
 /// What a plan says of one point.
 #[derive(Debug, Drop)]
 pub struct Row {
+    /// The point.
     pub point: PointCode,
+    /// Its rank, 1 to 255 in a valid network: each via is the destination or of lower rank (own).
     pub rank: u8,
+    /// Its classes of vias, the first first; at most four in a valid network.
     pub classes: Classes,
+    /// Whether it may use its mate.
     pub mate: bool,
 }
 

@@ -219,6 +219,16 @@ impl Messages {
         self.list.as_slice()
     }
 
+    /// The message to a point, if there is one; the first where there are more.
+    pub fn to(&self, point: PointCode) -> Option<&Message>
+        ensures { option_copied result ≡ find (λ message. message.to == point) self.now }
+    {
+        self.list
+            .as_slice()
+            .iter()
+            .find(|message| message.to == point)
+    }
+
     /// A copy, or want of memory.
     pub fn copy(&self, alloc: Global) -> Result<Messages, AllocError>
         ensures { IfOk result (λ m. m ≡ self.now) }

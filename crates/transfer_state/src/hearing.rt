@@ -18,7 +18,7 @@ use link_sets::are_joined;
 use net_items::Row;
 use net_items::copies::place_of_row;
 use point_codes::{MsgKind, PointCode};
-use profile::tables::{Message, Table};
+use profile::tables::{Messages, Table};
 use route_choice::{Choice, Far};
 
 /// The status that a message tells (Q.704 clauses 13.2 to 13.4).
@@ -32,18 +32,11 @@ fn reading(kind: MsgKind) -> Far
     }
 }
 
-/// The first of these messages that goes to a point.
-fn message_to(messages: &[Message], y: PointCode) -> Option<&Message>
-    ensures { option_copied result ≡ find (λ m. m.to == y) messages.now }
-{
-    messages.iter().find(|m| m.to == y)
-}
-
 /// What a point hears from messages: prohibited where none goes to it.
-fn heard_in(messages: &[Message], y: PointCode) -> Far
+fn heard_in(messages: &Messages, y: PointCode) -> Far
     ensures { result ≡ heard_in_of messages.now y }
 {
-    match message_to(messages, y) {
+    match messages.to(y) {
         Some(m) => reading(m.kind),
         None => Far::Prohibited,
     }
@@ -56,7 +49,7 @@ fn heard_from(e: &Excerpt, table: &Table, y: PointCode, z: PointCode) -> Far
 {
     e.validity();
     match place_of_row(rows_of(e), z) {
-        Ok(at) => heard_in(table.rows.as_slice()[at].messages.as_slice(), y),
+        Ok(at) => heard_in(&table.rows.as_slice()[at].messages, y),
         Err(_) => Far::Prohibited,
     }
 }

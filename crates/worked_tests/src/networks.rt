@@ -18,12 +18,12 @@ plans = ['2-1-2 2-1-1:2:2-10-1+2-10-2 2-10-1:1:2-1-2:m 2-10-2:1:2-1-2:m']
 ";
 
 /// The network that most tests start from.
-pub fn worked(alloc: Global) -> Result<Net, Fail> {
+pub(crate) fn worked(alloc: Global) -> Result<Net, Fail> {
     Ok(load(alloc, WORKED.as_bytes())?)
 }
 
 /// The network of those entries.
-pub fn net_of(
+pub(crate) fn net_of(
     alloc: Global,
     points: &str,
     pairs: &str,
@@ -36,7 +36,8 @@ pub fn net_of(
     Ok(load(alloc, text.as_bytes())?)
 }
 
-pub fn code(text: &str) -> Result<PointCode, Fail> {
+/// The code that a text is.
+pub(crate) fn code(text: &str) -> Result<PointCode, Fail> {
     Ok(PointCode::parse(text.as_bytes())?)
 }
 
@@ -49,7 +50,7 @@ fn read_rows(alloc: Global, words: &[&[u8]]) -> Result<Rows, Fail> {
 }
 
 /// The edit that sets a plan, written as in a network text.
-pub fn set_plan(alloc: Global, text: &str) -> Result<Event, Fail> {
+pub(crate) fn set_plan(alloc: Global, text: &str) -> Result<Event, Fail> {
     let words = split_words(alloc, text.as_bytes())?;
     let (dest, rows) = words.as_slice().split_first().ok_or("no words")?;
     let dest = read_code(*dest).ok_or("no code")?;
@@ -58,7 +59,7 @@ pub fn set_plan(alloc: Global, text: &str) -> Result<Event, Fail> {
 }
 
 /// The edit that adds a set.
-pub fn add_set(
+pub(crate) fn add_set(
     alloc: Global,
     id: u16,
     a: PointCode,
@@ -70,7 +71,7 @@ pub fn add_set(
 }
 
 /// Whether the network refuses an edit with that refusal and stays as it is.
-pub fn refuses(
+pub(crate) fn refuses(
     alloc: Global,
     net: &mut Net,
     event: &Event,
@@ -82,13 +83,13 @@ pub fn refuses(
 }
 
 /// Whether the worked network refuses an edit with that refusal and stays as it is.
-pub fn is_refused(alloc: Global, event: &Event, refusal: Refusal) -> Result<bool, Fail> {
+pub(crate) fn is_refused(alloc: Global, event: &Event, refusal: Refusal) -> Result<bool, Fail> {
     let mut net = worked(alloc)?;
     Ok(refuses(alloc, &mut net, event, refusal)?)
 }
 
 /// Whether the network takes an edit that changes it, and another that turns it back.
-pub fn takes_both(
+pub(crate) fn takes_both(
     alloc: Global,
     net: &mut Net,
     event: &Event,

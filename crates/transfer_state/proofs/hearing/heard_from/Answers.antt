@@ -13,7 +13,7 @@ returns-in-Ok c =
     let found : IsFoundAt (λ (r : Row). r.point) c.args.z c.args.e.now.plan.rows c.in-Ok.at
     = subst (λ (rows : List Row). IsFoundAt (λ (r : Row). r.point) c.args.z rows c.in-Ok.at) c.rows_of.ensures c.in-Ok.ensures.found in
     c.heard_in.ensures
-    ∙ ap (λ (messages : List Message). heard_in messages c.args.y) (c.as_slice-in-Ok.ensures ∙ ap (λ (states : List RowState). (get_or states c.in-Ok.at c.index-as_slice-at.result).messages) c.as_slice.ensures)
+    ∙ ap (λ (messages : List Message). heard_in messages c.args.y) (ap (λ (states : List RowState). (get_or states c.in-Ok.at c.index-as_slice-at.result).messages) c.as_slice.ensures)
     ∙ heard_at (source_of c.args.e.now) c.args.table.now c.requires c.args.y c.args.z c.in-Ok.at c.index-as_slice-at.result c.validity.ensures.rows_rise found
 
 pub returns-in-Err : goal.returns-in-Err
