@@ -11,12 +11,12 @@
 //!    memory comes last and changes nothing; an edit of a link's state takes no memory.
 #![tactic(auto)]
 
-pub mod copies;
 pub mod edits;
 pub mod equals;
 pub mod events;
 pub mod nets;
 pub mod plans;
+pub mod sorting;
 
 pub use events::{Cause, Event, Refusal};
 pub use nets::Net;

@@ -10,11 +10,12 @@ ghost use Rattle.net_data.specs.Edits.{refusal_of as the_refusal, changed, takes
 
 mod first_refusals;
 
-use crate::copies::plan_in_order;
 use crate::edits::{put_point, remove_point, set_mate};
 use crate::events::{Event, Refusal};
 use crate::plans::Plans;
+use crate::sorting::plan_in_order;
 use link_state::LinkChange;
+use net_items::copies::copy_plan;
 use net_items::equals::are_same_points;
 use net_items::items::{Kind, LinkSet, Plan, Point};
 use net_items::lists::Slcs;
@@ -260,13 +261,23 @@ impl Net {
         self.sets.remove_link(id, slc);
     }
 
-    fn set_plan(&mut self, alloc: Global, plan: &Plan) -> Result<(), AllocError>
-        requires { the_refusal self.old (Event.SetPlan plan.now) ≡ None }
-        ensures ok { OnOk result (self.new ≡ changed self.old (Event.SetPlan plan.now)) }
+    fn put_plan(&mut self, alloc: Global, plan: Plan) -> Result<(), AllocError>
+        requires { the_refusal self.old (Event.SetPlan plan) ≡ None }
+        ensures ok { OnOk result (self.new ≡ changed self.old (Event.SetPlan plan)) }
         ensures err { OnErr result (self.new ≡ self.old) }
     {
         let plan = plan_in_order(alloc, plan)?;
         self.plans.put(alloc, plan)?;
+        Ok(())
+    }
+
+    fn put_copy(&mut self, alloc: Global, plan: &Plan) -> Result<(), AllocError>
+        requires { the_refusal self.old (Event.SetPlan plan.now) ≡ None }
+        ensures ok { OnOk result (self.new ≡ changed self.old (Event.SetPlan plan.now)) }
+        ensures err { OnErr result (self.new ≡ self.old) }
+    {
+        let copy = copy_plan(alloc, plan)?;
+        self.put_plan(alloc, copy)?;
         Ok(())
     }
 
@@ -300,7 +311,7 @@ impl Net {
             Event::RemoveSet(id) => self.remove_set(*id),
             Event::AddLink(id, slc) => return self.add_link(*id, *slc),
             Event::RemoveLink(id, slc) => self.remove_link(*id, *slc),
-            Event::SetPlan(plan) => return self.set_plan(alloc, plan),
+            Event::SetPlan(plan) => return self.put_copy(alloc, plan),
             Event::DropPlan(dest) => self.drop_plan(*dest),
             Event::SetTfr(tfr) => self.set_tfr(*tfr),
         }
@@ -318,6 +329,29 @@ impl Net {
         match self.change(alloc, event) {
             Ok(()) => Ok(()),
             Err(_) => Err(Refusal::OutOfMemory),
+        }
+    }
+
+    fn set_plan(&mut self, alloc: Global, plan: Plan) -> Result<(), Refusal>
+        ensures { Answers self.old (Event.SetPlan plan) result self.new }
+    {
+        if let Some(refusal) = self.refusal_of_set_plan(&plan) {
+            return Err(refusal);
+        }
+        if self.put_plan(alloc, plan).is_err() {
+            return Err(Refusal::OutOfMemory);
+        }
+        Ok(())
+    }
+
+    /// One edit as `apply` makes it, of an event that is given away: a plan goes in without a copy.
+    pub fn apply_owned(&mut self, alloc: Global, event: Event) -> Result<(), Refusal>
+        ensures answer { Answers self.old event result self.new }
+        ensures no_memory { takes_none event ≡ true → result ≢ Err Refusal.OutOfMemory }
+    {
+        match event {
+            Event::SetPlan(plan) => self.set_plan(alloc, plan),
+            other => self.apply(alloc, &other),
         }
     }
 }

@@ -18,12 +18,12 @@ use std::alloc::Global;
 use toml::{Table, Value};
 
 /// Applies each event in turn, up to the first refusal.
-fn apply_events(alloc: Global, net: &mut Net, events: &[Event]) -> Result<(), Refusal>
-    ensures ok { OnOk result (apply_all net.old events.now ≡ Ok net.new) }
-    ensures err { IfErr result (λ e. e ≢ Refusal.OutOfMemory → apply_all net.old events.now ≡ Err e) }
+fn apply_events(alloc: Global, net: &mut Net, events: Vec<Event>) -> Result<(), Refusal>
+    ensures ok { OnOk result (apply_all net.old events.items ≡ Ok net.new) }
+    ensures err { IfErr result (λ e. e ≢ Refusal.OutOfMemory → apply_all net.old events.items ≡ Err e) }
 {
     for event in events {
-        net.apply(alloc, event)?;
+        net.apply_owned(alloc, event)?;
     }
     Ok(())
 }
@@ -45,7 +45,7 @@ fn apply_entry(
         Ok(None) => return Err(LoadFault::BadLine(key, place)),
         Err(_) => return Err(LoadFault::OutOfMemory),
     };
-    match apply_events(alloc, net, events.as_slice()) {
+    match apply_events(alloc, net, events) {
         Ok(()) => Ok(()),
         Err(Refusal::OutOfMemory) => Err(LoadFault::OutOfMemory),
         Err(refusal) => Err(LoadFault::Refused(key, place, refusal)),

@@ -33,10 +33,11 @@ fn read_vias(alloc: Global, text: &[u8]) -> Result<Option<Vias>, AllocError>
 fn read_classes(alloc: Global, text: &[u8]) -> Result<Option<Classes>, AllocError>
     ensures { IfOk result (λ classes. classes ≡ classes_of text.now) }
 {
-    let mut classes = Vec::new(alloc);
     if text.is_empty() {
-        return Ok(Some(Classes::from_vec(classes)));
+        return Ok(Some(Classes::from_vec(Vec::new(alloc))));
     }
+    let strokes = text.iter().filter(|byte| **byte == b'/').count();
+    let mut classes = Vec::with_capacity(alloc, strokes.saturating_add(1))?;
     let mut rest = text;
     while let Some((first, after)) = split_at_byte(rest, b'/') {
         match read_vias(alloc, first)? {

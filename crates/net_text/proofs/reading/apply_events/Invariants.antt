@@ -1,7 +1,8 @@
-use Rattle.std.proofs.Common.{◌≡◌, drop}
+use Rattle.std.proofs.Common.{◌≡◌}
+use Rattle.std.specs.Vec.Iter.{into_iter_items}
 use Rattle.net_text.specs.Reading.{apply_all}
 use Rattle.net_text.proofs.reading.apply_events.Given as goal
 
 -- what is left to apply gives what all gives
 abbrev pub invariant-loop-event : goal.invariant-loop-event
-invariant-loop-event l = apply_all l.net (drop l.event-index l.events) ≡ apply_all l.fn.net l.events
+invariant-loop-event l = apply_all l.net (into_iter_items l.event-iterator) ≡ apply_all l.fn.net l.fn.events.items
