@@ -6,7 +6,7 @@ ghost use Rattle.std.specs.Option.{MatchOption};
 ghost use Rattle.all_tables.specs.Tables.{IsSettledIn, IsJudged, IsFirstWrong};
 
 use excerpts::{Excerpt, ExcerptFault};
-use net_data::Net;
+use frozen_nets::Frozen;
 use point_codes::PointCode;
 use profile::tables::Table;
 use rayon::prelude::*;
@@ -24,10 +24,10 @@ pub struct Wrong {
 }
 
 /// The first complaint about a table, if it isn't the settled one of its destination.
-fn judge(alloc: Global, net: &Net, table: &Table) -> Result<Option<Complaint>, AllocError>
+fn judge(alloc: Global, net: &Frozen, table: &Table) -> Result<Option<Complaint>, AllocError>
     ensures { IfOk result (IsJudged net.now table.now) }
 {
-    match Excerpt::of(alloc, net, table.dest) {
+    match Excerpt::of(net, table.dest) {
         Ok(excerpt) => match check(&excerpt, table) {
             Ok(()) => Ok(None),
             Err(complaint) => Ok(Some(complaint)),
@@ -44,7 +44,7 @@ fn judge(alloc: Global, net: &Net, table: &Table) -> Result<Option<Complaint>, A
 fn judge_all(
     rt: &(impl Threads + Sync),
     alloc: Global,
-    net: &Net,
+    net: &Frozen,
     tables: &[Table],
 ) -> Result<Vec<Option<Complaint>>, AllocError>
     ensures { IfOk result (λ v. AllZip (IsJudged net.now) tables.now v.items) }
@@ -66,7 +66,7 @@ fn judge_all(
 pub fn check_tables(
     rt: &(impl Threads + Sync),
     alloc: Global,
-    net: &Net,
+    net: &Frozen,
     tables: &[Table],
 ) -> Result<Option<Wrong>, AllocError>
     ensures { IfOk result (λ wrong. MatchOption wrong (All (IsSettledIn net.now) tables.now) (IsFirstWrong net.now tables.now)) }

@@ -4,7 +4,7 @@ ghost use Rattle.std.specs.Prelude.{◌≡◌, IfOk, All, map};
 ghost use Rattle.all_tables.specs.Tables.{table_at as the_table_at, tables, those_there, IsSettledIn};
 
 use excerpts::{Excerpt, ExcerptFault};
-use net_data::Net;
+use frozen_nets::Frozen;
 use point_codes::PointCode;
 use profile::tables::Table;
 use rayon::prelude::*;
@@ -13,10 +13,10 @@ use std::thread::Threads;
 use transfer_state::table_of;
 
 /// The destinations that have a plan, in rising code.
-fn destinations(alloc: Global, net: &Net) -> Result<Vec<PointCode>, AllocError>
+fn destinations(alloc: Global, net: &Frozen) -> Result<Vec<PointCode>, AllocError>
     ensures { IfOk result (λ dests. dests.items ≡ map (λ p. p.dest) net.now.plans) }
 {
-    let plans = net.plans();
+    let plans = net.net().plans();
     let mut dests = Vec::with_capacity(alloc, plans.len())?;
     for place in 0..plans.len() {
         dests.push(plans.at(place).dest)?;
@@ -25,10 +25,10 @@ fn destinations(alloc: Global, net: &Net) -> Result<Vec<PointCode>, AllocError>
 }
 
 /// The table of a destination, if it has a plan.
-fn table_at(alloc: Global, net: &Net, dest: PointCode) -> Result<Option<Table>, AllocError>
+fn table_at(alloc: Global, net: &Frozen, dest: PointCode) -> Result<Option<Table>, AllocError>
     ensures { IfOk result (λ table. table ≡ the_table_at net.now dest) }
 {
-    match Excerpt::of(alloc, net, dest) {
+    match Excerpt::of(net, dest) {
         Ok(excerpt) => Ok(Some(table_of(alloc, &excerpt)?)),
         Err(ExcerptFault::NoPlan) => Ok(None),
         Err(ExcerptFault::OutOfMemory) => Err(AllocError),
@@ -52,7 +52,7 @@ fn present(alloc: Global, found: Vec<Option<Table>>) -> Result<Vec<Table>, Alloc
 fn tables_at(
     rt: &(impl Threads + Sync),
     alloc: Global,
-    net: &Net,
+    net: &Frozen,
     dests: &[PointCode],
 ) -> Result<Vec<Option<Table>>, AllocError>
     ensures { IfOk result (λ v. v.items ≡ map (the_table_at net.now) dests.now) }
@@ -72,7 +72,7 @@ fn tables_at(
 pub fn tables_of(
     rt: &(impl Threads + Sync),
     alloc: Global,
-    net: &Net,
+    net: &Frozen,
 ) -> Result<Vec<Table>, AllocError>
     ensures each { IfOk result (λ v. v.items ≡ tables net.now) }
     ensures settled { IfOk result (λ v. All (IsSettledIn net.now) v.items) }

@@ -10,7 +10,7 @@ use crate::links::write_links;
 use crate::messages::{write_messages, write_octets};
 use crate::status::write_status;
 use excerpts::{Excerpt, ExcerptFault};
-use net_data::nets::Net;
+use frozen_nets::Frozen;
 use point_codes::PointCode;
 use profile::tables::RowState;
 use std::alloc::{AllocError, Global};
@@ -73,7 +73,7 @@ fn answer_row(
 pub fn answer_about(
     alloc: Global,
     asked: Asked,
-    net: &Net,
+    net: &Frozen,
     point: PointCode,
     dest: PointCode,
 ) -> Result<String, AllocError>
@@ -81,8 +81,8 @@ pub fn answer_about(
     ensures plain { IfOk result (λ text. line_count (string_bytes text) ≡ 0) }
 {
     net.validity();
-    match Excerpt::of(alloc, net, dest) {
-        Ok(excerpt) => answer_row(alloc, asked, net.ni(), &excerpt, point),
+    match Excerpt::of(net, dest) {
+        Ok(excerpt) => answer_row(alloc, asked, net.net().ni(), &excerpt, point),
         Err(ExcerptFault::NoPlan) => String::from_str(alloc, "refused 26 NoPlan"),
         Err(ExcerptFault::OutOfMemory) => Err(AllocError),
     }

@@ -2,7 +2,7 @@
 
 use crate::check_net;
 use all_tables::{Wrong, check_tables, tables_of};
-use net_data::nets::Net;
+use frozen_nets::Frozen;
 use net_text::load;
 use point_codes::PointCode;
 use std::alloc::Global;
@@ -10,7 +10,7 @@ use std::test::Fail;
 use transfer_state::{Clause, Complaint};
 
 /// Two mates lead two end points to each other, and the links of set 4 are those.
-fn mates(alloc: Global, links: &str) -> Result<Net, Fail> {
+fn mates(alloc: Global, links: &str) -> Result<Frozen, Fail> {
     let text = format!(in alloc;
         "format = 1
 ni = 2
@@ -20,7 +20,7 @@ sets = ['1 2-1-1 2-10-1 0', '2 2-1-1 2-10-2 0', '3 2-10-1 2-1-2 0', '4 2-10-2 2-
 plans = ['2-1-1 2-10-1:1:2-1-1 2-10-2:1:2-1-1', '2-1-2 2-1-1:2:2-10-1+2-10-2 2-10-1:1:2-1-2:m 2-10-2:1:2-1-2:m']
 "
     )?;
-    Ok(load(alloc, text.as_bytes())?)
+    Ok(Frozen::new(alloc, load(alloc, text.as_bytes())?)?)
 }
 
 #[test]

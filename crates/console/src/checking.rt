@@ -4,7 +4,7 @@ ghost use Rattle.std.specs.Prelude.{◌≡◌, IfOk, length, string_bytes, true}
 ghost use Rattle.console.specs.Checking.{clause_letter, right_text, wrong_text, verdict_text};
 
 use all_tables::{Wrong, check_tables, tables_of};
-use net_data::nets::Net;
+use frozen_nets::Frozen;
 use std::alloc::{AllocError, Global};
 use std::thread::Threads;
 use transfer_state::Clause;
@@ -57,7 +57,7 @@ fn write_verdict(alloc: Global, count: usize, wrong: Option<Wrong>) -> Result<St
 pub fn check_net(
     rt: &(impl Threads + Sync),
     alloc: Global,
-    net: &Net,
+    net: &Frozen,
 ) -> Result<CheckEnd, AllocError>
     ensures text { IfOk result (λ end. string_bytes end.text ≡ right_text (length net.now.plans)) }
     ensures right { IfOk result (λ end. end.right ≡ true) }

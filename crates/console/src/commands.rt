@@ -5,7 +5,7 @@ ghost use Rattle.console.specs.Commands.{about, answer, asked_by, asked_of, comm
 ghost use Rattle.answers.specs.Text.{line_count};
 
 use answers::{Asked, answer_about};
-use net_data::nets::Net;
+use frozen_nets::Frozen;
 use point_codes::PointCode;
 use std::alloc::{AllocError, Global};
 use tokens::{read_code, split_words};
@@ -69,7 +69,7 @@ fn read_query(words: &[&[u8]]) -> Option<Query>
 }
 
 /// The answer to a query, without a line feed.
-fn answer_query(alloc: Global, net: &Net, query: &Query) -> Result<String, AllocError>
+fn answer_query(alloc: Global, net: &Frozen, query: &Query) -> Result<String, AllocError>
     ensures text { IfOk result (λ text. string_bytes text ≡ (answer net.now (Some query.now)).text) }
     ensures plain { IfOk result (λ text. line_count (string_bytes text) ≡ 0) }
 {
@@ -79,7 +79,7 @@ fn answer_query(alloc: Global, net: &Net, query: &Query) -> Result<String, Alloc
 }
 
 /// What a line within the limit is answered with, without a line feed.
-pub(crate) fn run_command(alloc: Global, net: &Net, line: &[u8]) -> Result<String, AllocError>
+pub(crate) fn run_command(alloc: Global, net: &Frozen, line: &[u8]) -> Result<String, AllocError>
     ensures text { IfOk result (λ text. string_bytes text ≡ (command net.now line.now).text) }
     ensures plain { IfOk result (λ text. line_count (string_bytes text) ≡ 0) }
 {

@@ -10,7 +10,7 @@ use crate::faults::Fault;
 use crate::lines::without_return;
 use crate::script::{CHUNK, READ_LIMIT, ScriptEnd};
 use crate::session::Session;
-use net_data::nets::Net;
+use frozen_nets::Frozen;
 use net_text::{LoadFault, load};
 use std::alloc::{AllocError, Global};
 use std::io::{ErrorKind, Read, Write};
@@ -187,11 +187,14 @@ fn unloaded(fault: Fault) -> ScriptEnd
 }
 
 /// The network that a text says.
-pub fn load_text(alloc: Global, text: &[u8]) -> Result<Net, Fault>
+pub fn load_text(alloc: Global, text: &[u8]) -> Result<Frozen, Fault>
     ensures { MatchResult result (λ net. Says text.now (Ok net)) (IsLoadFault text.now) }
 {
     match load(alloc, text) {
-        Ok(net) => Ok(net),
+        Ok(net) => match Frozen::new(alloc, net) {
+            Ok(net) => Ok(net),
+            Err(_) => Err(Fault::OutOfMemory),
+        },
         Err(LoadFault::OutOfMemory) => Err(Fault::OutOfMemory),
         Err(fault) => Err(Fault::Load(fault)),
     }
@@ -204,7 +207,7 @@ impl Opening {
         alloc: Global,
         reader: &mut R,
         writer: &mut W,
-        net: Net,
+        net: Frozen,
     ) -> ScriptEnd
         requires script { IfSome self.script (λ at. at ≤ length self.bytes.items) }
         requires few { length self.bytes.items ≤ self.reads * 65536 }

@@ -8,7 +8,7 @@ ghost use Rattle.console.specs.Run.{HasAnswered, Ran};
 
 use crate::faults::Fault;
 use crate::session::Session;
-use net_data::nets::Net;
+use frozen_nets::Frozen;
 use std::alloc::Global;
 use std::io::{ErrorKind, Read, Write};
 
@@ -20,7 +20,7 @@ pub struct ScriptEnd {
     /// Why the run ended early, where it did.
     pub fault: Option<Fault>,
     /// The network after the script; none after a fault.
-    pub net: Option<Net>,
+    pub net: Option<Frozen>,
 }
 
 /// How many bytes are asked for in one read.
@@ -111,7 +111,7 @@ pub fn run_script<R: Read, W: Write>(
     alloc: Global,
     reader: &mut R,
     writer: &mut W,
-    net: Net,
+    net: Frozen,
 ) -> ScriptEnd
     ensures { Ran net (R.remaining reader.old) (R.remaining reader.new)
         (W.contents writer.old) (W.contents writer.new) result.fault result.lines result.net }

@@ -12,14 +12,14 @@ ghost use Rattle.console.specs.Answers.{answers};
 use crate::commands::run_command;
 use crate::faults::Fault;
 use crate::lines::{LINE_LIMIT, Line, is_quiet, without_return};
-use net_data::nets::Net;
+use frozen_nets::Frozen;
 use std::alloc::{AllocError, Global};
 use std::io::Write;
 
 /// A network, the line that is being read, the answers that wait to be written, and how many lines were written.
 #[derive(Drop)]
 pub struct Session {
-    pub net: Net,
+    pub net: Frozen,
     pub line: Line,
     pub answers: Vec<u8>,
     pub lines: u64,
@@ -50,7 +50,7 @@ fn count_lines(text: &[u8]) -> usize
 
 impl Session {
     /// A run that has read nothing.
-    pub fn new(alloc: Global, net: Net) -> Session
+    pub fn new(alloc: Global, net: Frozen) -> Session
         ensures net { result.net ≡ net }
         ensures line { IsLine result.line [] }
         ensures answers { result.answers.items ≡ [] }

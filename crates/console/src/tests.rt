@@ -2,8 +2,10 @@
 
 use crate::words::{Order, read_words};
 use crate::{Fault, run_input, run_script, write_fault};
-use net_data::nets::Net;
+use frozen_nets::Frozen;
+use net_data::Net;
 use net_text::{Key, LoadFault};
+use std::alloc::{AllocError, Global};
 use std::io;
 use std::io::{ErrorKind, Read, Write};
 use std::test::Fail;
@@ -61,6 +63,10 @@ impl Write for Narrow {
 
 const SCRIPT: &[u8] = b"what\r\n# note\n\n   \nlast";
 
+fn empty(alloc: Global) -> Result<Frozen, AllocError> {
+    Frozen::new(alloc, Net::empty(alloc, 2))
+}
+
 #[test]
 fn slow_reader(rt: HostRuntime) -> Result<(), Fail> {
     let mut out: Vec<u8> = Vec::new(rt.alloc());
@@ -69,7 +75,7 @@ fn slow_reader(rt: HostRuntime) -> Result<(), Fail> {
         ready: false,
         fails: false,
     };
-    let end = run_script(rt.alloc(), &mut reader, &mut out, Net::empty(rt.alloc(), 2));
+    let end = run_script(rt.alloc(), &mut reader, &mut out, empty(rt.alloc())?);
     assert_eq!(rt;
         out.as_slice(),
         b"refused 62 BadLine\nrefused 62 BadLine\n".as_slice()
@@ -87,7 +93,7 @@ fn failing_reader(rt: HostRuntime) -> Result<(), Fail> {
         ready: false,
         fails: true,
     };
-    let end = run_script(rt.alloc(), &mut reader, &mut out, Net::empty(rt.alloc(), 2));
+    let end = run_script(rt.alloc(), &mut reader, &mut out, empty(rt.alloc())?);
     assert_eq!(rt; out.as_slice(), b"refused 62 BadLine\n".as_slice());
     assert_eq!(rt; end.fault, Some(Fault::Read));
     assert!(rt; end.net.is_none());
@@ -98,12 +104,7 @@ fn failing_reader(rt: HostRuntime) -> Result<(), Fail> {
 fn narrow_writer(rt: HostRuntime) -> Result<(), Fail> {
     let mut writer = Narrow { room: 37 };
     let mut reader = SCRIPT;
-    let end = run_script(
-        rt.alloc(),
-        &mut reader,
-        &mut writer,
-        Net::empty(rt.alloc(), 2),
-    );
+    let end = run_script(rt.alloc(), &mut reader, &mut writer, empty(rt.alloc())?);
     assert_eq!(rt; writer.room, 0);
     assert_eq!(rt; end.fault, Some(Fault::Write));
     assert_eq!(rt; end.lines, 1);

@@ -1,30 +1,32 @@
 //! The excerpt of one destination.
 
-ghost use Rattle.std.specs.Prelude.{◌≡◌, ◌↔◌, IsTrue, IfOk, Some};
+ghost use Rattle.std.specs.Prelude.{◌≡◌, ◌↔◌, IsTrue, Some};
 ghost use Rattle.std.specs.Option.{option_copied, option_map};
-ghost use Rattle.net_items.specs.Lookups.{point_at, mate_of as the_mate, is_stp as stp_is, row_at};
+ghost use Rattle.net_items.specs.Keyed.{IsRising};
+ghost use Rattle.net_items.specs.Lookups.{point_at, mate_of as the_mate, is_stp as stp_is, row_at, set_between as between};
+ghost use Rattle.link_sets.specs.Availability.{are_joined as joined_by};
+ghost use Rattle.link_sets.specs.Neighbours.{neighbours as neighbours_of};
+ghost use Rattle.frozen_nets.specs.Around.{left_of};
 ghost use Rattle.profile.specs.Whole.{scratch};
-ghost use Rattle.excerpts.specs.Excerpts.{excerpt_at, network_source, source_of, IsAnswer, IsRight};
+ghost use Rattle.excerpts.specs.Excerpts.{Extract, content_at, content_in, content_of, content_source, excerpt_at, is_read_by, source_of, IsAnswer, IsRight};
 
 use crate::faults::ExcerptFault;
-use crate::reading::{are_row_points, are_sets_read, row_in, row_points, sets_read};
+use crate::reading::{are_same_reads, are_same_row_points, is_read, row_in};
+use frozen_nets::{Frozen, Neighbours};
 use net_data::Net;
-use net_items::equals::{are_same_points, are_same_sets, is_same_plan};
-use net_items::items::{Kind, LinkSet, Plan, Point};
+use net_items::equals::is_same_plan;
+use net_items::items::{Kind, LinkSet, Plan};
 use net_items::lists::Row;
-use net_items::lookups::{find_point, is_stp, mate_of};
+use net_items::lookups::{find_point, is_stp};
 use point_codes::PointCode;
-use std::alloc::Global;
 use std::marker::Model;
 use std::sync::Arc;
 
 /// What the table of one destination reads of a network (own).
 #[derive(Drop)]
 pub struct Excerpt {
+    net: Frozen,
     plan: Arc<Plan>,
-    points: Vec<Point>,
-    sets: Vec<LinkSet>,
-    tfr: bool,
 }
 
 impl Model for Excerpt {
@@ -33,49 +35,58 @@ impl Model for Excerpt {
 
     ghost Value = { Extract };
 
-    ghost view = { λ e. record { plan = arc_value e.plan; points = e.points.items; sets = e.sets.items; tfr = e.tfr } };
+    ghost view = { λ e. record { network = e.net; plan = arc_value e.plan } };
 
-    ghost invariant = { λ e. IsRight (record { plan = arc_value e.plan; points = e.points.items; sets = e.sets.items; tfr = e.tfr }) };
+    ghost invariant = { λ e. IsRight (record { network = e.net; plan = arc_value e.plan }) };
+}
+
+/// Whether the tables of two plans read the same of their networks.
+fn is_same_content(net: &Net, plan: &Plan, other_net: &Net, other_plan: &Plan) -> bool
+    requires { IsRising (λ r. r.point) plan.now.rows }
+    ensures { IsTrue result ↔ (content_in net.now plan.now ≡ content_in other_net.now other_plan.now) }
+{
+    net.validity();
+    other_net.validity();
+    net.tfr() == other_net.tfr()
+        && is_same_plan(plan, other_plan)
+        && are_same_row_points(plan.rows.as_slice(), net.points(), other_net.points())
+        && are_same_reads(
+            plan,
+            net.points(),
+            net.sets(),
+            other_net.points(),
+            other_net.sets(),
+        )
 }
 
 impl Excerpt {
-    /// The excerpt of a destination. The table of the destination is the same from it as from the network. It is refused where the network has no plan for the destination, and, last,
-    /// where memory is refused.
-    pub fn of(alloc: Global, net: &Net, dest: PointCode) -> Result<Excerpt, ExcerptFault>
-        ensures answer { IsAnswer (excerpt_at net.now dest) result }
-        ensures same_table { IfOk result (λ e. scratch (source_of e) ≡ scratch (network_source net.now e.plan)) }
+    /// The excerpt of a destination. It shares the network and the plan. It is refused where the network has no plan for
+    /// the destination, and, last, where memory is refused.
+    pub fn of(net: &Frozen, dest: PointCode) -> Result<Excerpt, ExcerptFault>
+        ensures { IsAnswer (excerpt_at net.now dest) result }
     {
-        net.validity();
-        let Some(_) = net.plan(dest) else {
+        let network = net.net();
+        network.validity();
+        if network.plan(dest).is_none() {
             return Err(ExcerptFault::NoPlan);
-        };
-        let plan = match net.share_plan(dest) {
+        }
+        let plan = match network.share_plan(dest) {
             Ok(Some(plan)) => plan,
             Ok(None) => return Err(ExcerptFault::NoPlan),
             Err(_) => return Err(ExcerptFault::OutOfMemory),
         };
-        let points = match row_points(alloc, net.points(), plan.rows.as_slice()) {
-            Ok(points) => points,
-            Err(_) => return Err(ExcerptFault::OutOfMemory),
-        };
-        let sets = match sets_read(alloc, net.points(), &plan, net.sets()) {
-            Ok(sets) => sets,
-            Err(_) => return Err(ExcerptFault::OutOfMemory),
-        };
-        Ok(Excerpt {
-            plan,
-            points,
-            sets,
-            tfr: net.tfr(),
-        })
+        match net.share() {
+            Ok(net) => Ok(Excerpt { net, plan }),
+            Err(_) => Err(ExcerptFault::OutOfMemory),
+        }
     }
 
-    /// The facts that the type keeps: the excerpt is the source of a valid plan. It does nothing when it runs.
+    /// The facts that the type keeps: the network is valid and has the plan. It does nothing when it runs.
     pub fn validity(&self)
         ensures { IsRight self.now }
     {
         // The proof reads the type's invariant from this.
-        let _tfr = self.tfr;
+        let _ = &self.net;
     }
 
     /// The destination.
@@ -96,68 +107,94 @@ impl Excerpt {
     pub fn row(&self, point: PointCode) -> Option<&Row>
         ensures { option_copied result ≡ row_at self.now.plan.rows point }
     {
+        self.validity();
         row_in(self.plan.rows.as_slice(), point)
     }
 
-    /// The kind of a row's point.
+    /// The kind of a point.
     pub fn kind_of(&self, code: PointCode) -> Option<Kind>
-        ensures { result ≡ option_map (λ p. p.kind) (point_at self.now.points code) }
+        ensures { result ≡ option_map (λ p. p.kind) (point_at self.now.network.points code) }
     {
-        match find_point(self.points.as_slice(), code) {
+        self.validity();
+        match find_point(self.net.net().points(), code) {
             Some(point) => Some(point.kind),
             None => None,
         }
     }
 
-    /// Whether a row's point is a transfer point.
+    /// Whether a point is a transfer point.
     pub fn is_stp(&self, code: PointCode) -> bool
-        ensures { result ≡ stp_is self.now.points code }
+        ensures { result ≡ stp_is self.now.network.points code }
     {
-        is_stp(self.points.as_slice(), code)
+        self.validity();
+        is_stp(self.net.net().points(), code)
     }
 
-    /// The mate of a row's point, where the row has the mate flag.
+    /// The mate of a point.
     pub fn mate_of(&self, code: PointCode) -> Option<PointCode>
-        ensures { result ≡ the_mate self.now.points code }
+        ensures { result ≡ the_mate self.now.network.points code }
     {
-        mate_of(self.points.as_slice(), code)
+        self.net.net().mate_of(code)
     }
 
-    /// The sets that the table reads, in rising id.
-    pub fn sets(&self) -> &[LinkSet]
-        ensures { result.now ≡ self.now.sets }
+    /// Whether an available set joins two points.
+    pub fn are_joined(&self, y: PointCode, z: PointCode) -> bool
+        ensures { result ≡ joined_by self.now.network.sets y z }
     {
-        self.sets.as_slice()
+        self.net.are_joined(y, z)
+    }
+
+    /// The set that joins two points, in either order.
+    pub fn set_between(&self, y: PointCode, z: PointCode) -> Option<&LinkSet>
+        ensures { option_copied result ≡ between self.now.network.sets y z }
+    {
+        self.net.set_between(y, z)
+    }
+
+    /// The points that available sets join to a point, in rising code.
+    pub fn neighbours(&self, point: PointCode) -> Neighbours<'_>
+        ensures { left_of result ≡ neighbours_of self.entry.now.network.sets point }
+    {
+        self.net.neighbours(point)
+    }
+
+    /// Whether the table reads a set of the network.
+    pub fn reads(&self, set: &LinkSet) -> bool
+        ensures { result ≡ is_read_by self.now.network.points self.now.plan set.now }
+    {
+        self.validity();
+        is_read(self.net.net().points(), &self.plan, set)
     }
 
     /// Whether the network has the transfer-restricted option.
     pub fn tfr(&self) -> bool
-        ensures { result ≡ self.now.tfr }
+        ensures { result ≡ self.now.network.tfr }
     {
-        self.tfr
+        self.net.net().tfr()
     }
 
-    /// Whether all is equal. It takes no memory.
+    /// Whether the tables read the same: the plan, the points of its rows, the sets and the option. It takes no memory.
     pub fn equals(&self, other: &Excerpt) -> bool
-        ensures { IsTrue result ↔ (self.now ≡ other.now) }
+        ensures { IsTrue result ↔ (content_of self.now ≡ content_of other.now) }
     {
-        self.tfr == other.tfr
-            && is_same_plan(&self.plan, &other.plan)
-            && are_same_points(self.points.as_slice(), other.points.as_slice())
-            && are_same_sets(self.sets.as_slice(), other.sets.as_slice())
+        self.validity();
+        is_same_content(self.net.net(), &self.plan, other.net.net(), &other.plan)
     }
 
-    /// Whether this is the excerpt of a destination of a network. It takes no memory.
+    /// Whether the table of a destination of a network reads the same. It takes no memory.
     pub fn is_of(&self, net: &Net, dest: PointCode) -> bool
-        ensures { IsTrue result ↔ (excerpt_at net.now dest ≡ Some self.now) }
+        ensures { IsTrue result ↔ (content_at net.now dest ≡ Some (content_of self.now)) }
     {
-        net.validity();
-        let Some(plan) = net.plan(dest) else {
-            return false;
-        };
-        self.tfr == net.tfr()
-            && is_same_plan(&self.plan, plan)
-            && are_row_points(self.points.as_slice(), net.points(), plan.rows.as_slice())
-            && are_sets_read(self.sets.as_slice(), net.points(), plan, net.sets())
+        self.validity();
+        match net.plan(dest) {
+            Some(plan) => is_same_content(self.net.net(), &self.plan, net, plan),
+            None => false,
+        }
     }
 }
+
+/// The law: the table of an excerpt is the one of what it reads alone. So excerpts that are equal have equal tables.
+pub fn same_table()
+    ensures alone { (x : Extract) → IsRight x → scratch (content_source (content_of x)) ≡ scratch (source_of x) }
+    ensures equal { (x y : Extract) → IsRight x → IsRight y → content_of x ≡ content_of y → scratch (source_of x) ≡ scratch (source_of y) }
+{}

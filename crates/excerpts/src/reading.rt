@@ -1,24 +1,19 @@
-//! Which link sets a table reads, and what an excerpt holds of a row's point.
+//! What a table reads of a network, set by set and point by point.
 
-ghost use Rattle.std.specs.Prelude.{◌≡◌, ◌==◌, ◌++◌, ◌∷◌, [], List, Bool, OnOk, if◌then◌else◌, ◌&&◌, ◌||◌, IfOk, filter, map, is_some, IsTrue, ◌↔◌};
+ghost use Rattle.std.specs.Prelude.{◌≡◌, ◌<◌, ◌∷◌, [], ◌&&◌, ◌||◌, IfSome, filter, length, map, is_some, IsTrue, ◌↔◌};
 ghost use Rattle.std.specs.List.{list_any};
-ghost use Rattle.std.specs.Option.{option_copied, option_map_or};
+ghost use Rattle.std.specs.Option.{option_copied, MatchOption};
 ghost use Rattle.net_items.specs.Keyed.{IsRising};
 ghost use Rattle.net_items.specs.Lookups.{joins, row_at, is_stp as stp_is};
-ghost use Rattle.profile.specs.Status.{source_in};
-ghost use Rattle.profile.specs.Reads.{reads};
-ghost use Rattle.profile.specs.Walk.{is_via as via_is};
-ghost use Rattle.net_items.specs.declared.items.LinkSet.{LinkSet};
-ghost use Rattle.excerpts.specs.Excerpts.{kind_of as the_kind, row_point as the_row_point, leads as row_leads};
+ghost use Rattle.excerpts.specs.Excerpts.{kind_of as the_kind, row_point as the_row_point, leads as row_leads, is_read_by};
 
-use net_items::copies::{copy_set, place_of_row};
+use net_items::copies::place_of_row;
 use net_items::equals::{is_same_point, is_same_set};
 use net_items::items::{Kind, LinkSet, Plan, Point};
-use net_items::lists::{Row, Vias};
+use net_items::lists::Row;
 use net_items::lookups::{find_point, is_stp, mate_of};
 use plan_rows::uses::is_via;
 use point_codes::PointCode;
-use std::alloc::{AllocError, Global};
 
 /// The row of a point, among rows in rising code.
 pub fn row_in(rows: &[Row], y: PointCode) -> Option<&Row>
@@ -72,72 +67,61 @@ fn joins_via(rows: &[Row], set: &LinkSet) -> bool
 pub fn is_read(points: &[Point], plan: &Plan, set: &LinkSet) -> bool
     requires points_rise { IsRising (λ p. p.code) points.now }
     requires rows_rise { IsRising (λ r. r.point) plan.now.rows }
-    ensures { (all : List LinkSet) (tfr : Bool) → result ≡ reads (source_in points.now all plan.now tfr) set.now }
+    ensures { result ≡ is_read_by points.now plan.now set.now }
 {
     let rows = plan.rows.as_slice();
     has_planned_transfer(points, rows, set) || joins_via(rows, set)
 }
 
-/// Adds a copy of a set that the table of a plan reads.
-fn add_read(
-    alloc: Global,
+/// The first set that the table of a plan reads, and the sets after it.
+fn next_read<'a>(
     points: &[Point],
     plan: &Plan,
-    set: &LinkSet,
-    read: &mut Vec<LinkSet>,
-) -> Result<(), AllocError>
+    sets: &'a [LinkSet],
+) -> Option<(&'a LinkSet, &'a [LinkSet])>
     requires points_rise { IsRising (λ p. p.code) points.now }
     requires rows_rise { IsRising (λ r. r.point) plan.now.rows }
-    ensures { OnOk result ((all : List LinkSet) (tfr : Bool) → read.new.items ≡ read.old.items ++ (if reads (source_in points.now all plan.now tfr) set.now then set.now ∷ [] else [])) }
+    ensures read { MatchOption result (filter (is_read_by points.now plan.now) sets.entry.now ≡ []) (λ p. filter (is_read_by points.now plan.now) sets.entry.now ≡ p.0.now ∷ filter (is_read_by points.now plan.now) p.1.now) }
+    ensures fewer { IfSome result (λ p. length p.1.now < length sets.entry.now) }
 {
-    if !is_read(points, plan, set) {
-        return Ok(());
-    }
-    read.push(copy_set(alloc, set)?)?;
-    Ok(())
-}
-
-/// The sets among these that the table of a plan reads, in their order.
-pub fn sets_read(
-    alloc: Global,
-    points: &[Point],
-    plan: &Plan,
-    sets: &[LinkSet],
-) -> Result<Vec<LinkSet>, AllocError>
-    requires points_rise { IsRising (λ p. p.code) points.now }
-    requires rows_rise { IsRising (λ r. r.point) plan.now.rows }
-    ensures { IfOk result (λ read. (all : List LinkSet) (tfr : Bool) → read.items ≡ filter (reads (source_in points.now all plan.now tfr)) sets.now) }
-{
-    let mut read = Vec::new(alloc);
-    for set in sets {
-        add_read(alloc, points, plan, set, &mut read)?;
-    }
-    Ok(read)
-}
-
-/// Whether these are the sets among others that the table of a plan reads.
-pub fn are_sets_read(read: &[LinkSet], points: &[Point], plan: &Plan, sets: &[LinkSet]) -> bool
-    requires points_rise { IsRising (λ p. p.code) points.now }
-    requires rows_rise { IsRising (λ r. r.point) plan.now.rows }
-    ensures { (all : List LinkSet) (tfr : Bool) → IsTrue result ↔ (read.now ≡ filter (reads (source_in points.now all plan.now tfr)) sets.now) }
-{
-    let mut left = read;
     let mut rest = sets;
     while let Some((set, others)) = rest.split_first() {
-        rest = others;
         if is_read(points, plan, set) {
-            match left.split_first() {
-                None => return false,
-                Some((first, more)) => {
-                    if !is_same_set(first, set) {
-                        return false;
-                    }
-                    left = more;
+            return Some((set, others));
+        }
+        rest = others;
+    }
+    None
+}
+
+/// Whether the table of a plan reads the same sets of two networks.
+pub fn are_same_reads(
+    plan: &Plan,
+    points: &[Point],
+    sets: &[LinkSet],
+    other_points: &[Point],
+    other_sets: &[LinkSet],
+) -> bool
+    requires points_rise { IsRising (λ p. p.code) points.now }
+    requires others_rise { IsRising (λ p. p.code) other_points.now }
+    requires rows_rise { IsRising (λ r. r.point) plan.now.rows }
+    ensures { IsTrue result ↔ (filter (is_read_by points.now plan.now) sets.now ≡ filter (is_read_by other_points.now plan.now) other_sets.now) }
+{
+    let mut left = sets;
+    let mut right = other_sets;
+    while let Some((set, more)) = next_read(points, plan, left) {
+        match next_read(other_points, plan, right) {
+            None => return false,
+            Some((other, others)) => {
+                if !is_same_set(set, other) {
+                    return false;
                 }
+                left = more;
+                right = others;
             }
         }
     }
-    left.is_empty()
+    next_read(other_points, plan, right).is_none()
 }
 
 /// The kind of a point that is there.
@@ -151,8 +135,8 @@ fn kind_of(points: &[Point], code: PointCode) -> Kind
     }
 }
 
-/// What an excerpt holds of a row's point.
-pub fn row_point(points: &[Point], row: &Row) -> Point
+/// What a table reads of a row's point.
+fn row_point(points: &[Point], row: &Row) -> Point
     requires { IsRising (λ p. p.code) points.now }
     ensures { result ≡ the_row_point points.now row.now }
 {
@@ -168,36 +152,18 @@ pub fn row_point(points: &[Point], row: &Row) -> Point
     }
 }
 
-/// The points of rows, in their order.
-pub fn row_points(alloc: Global, points: &[Point], rows: &[Row]) -> Result<Vec<Point>, AllocError>
-    requires { IsRising (λ p. p.code) points.now }
-    ensures { IfOk result (λ held. held.items ≡ map (the_row_point points.now) rows.now) }
+/// Whether the table of a plan with these rows reads the same of their points in two networks.
+pub fn are_same_row_points(rows: &[Row], points: &[Point], other_points: &[Point]) -> bool
+    requires points_rise { IsRising (λ p. p.code) points.now }
+    requires others_rise { IsRising (λ p. p.code) other_points.now }
+    ensures { IsTrue result ↔ (map (the_row_point points.now) rows.now ≡ map (the_row_point other_points.now) rows.now) }
 {
-    let mut held = Vec::with_capacity(alloc, rows.len())?;
-    for row in rows {
-        held.push(row_point(points, row))?;
-    }
-    Ok(held)
-}
-
-/// Whether these are the points of rows.
-pub fn are_row_points(held: &[Point], points: &[Point], rows: &[Row]) -> bool
-    requires { IsRising (λ p. p.code) points.now }
-    ensures { IsTrue result ↔ (held.now ≡ map (the_row_point points.now) rows.now) }
-{
-    let mut left = held;
     let mut rest = rows;
     while let Some((row, others)) = rest.split_first() {
-        match left.split_first() {
-            None => return false,
-            Some((first, more)) => {
-                if !is_same_point(first, &row_point(points, row)) {
-                    return false;
-                }
-                left = more;
-                rest = others;
-            }
+        if !is_same_point(&row_point(points, row), &row_point(other_points, row)) {
+            return false;
         }
+        rest = others;
     }
-    left.is_empty()
+    true
 }

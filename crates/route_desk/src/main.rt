@@ -17,7 +17,7 @@ use console::{
     CheckEnd, Fault, Order, WordFault, check_net, read_net, read_words, run_input, run_script,
     write_fault,
 };
-use net_data::Net;
+use frozen_nets::Frozen;
 use std::alloc::{AllocError, Global};
 use std::process::ExitCode;
 use std::thread::Threads;
@@ -54,7 +54,7 @@ fn report(rt: &HostRuntime, fault: Option<Fault>) -> io::Result<ExitCode> {
 }
 
 /// Loads the network of a file.
-fn load_file(rt: &HostRuntime, name: &str) -> Result<Net, Fault> {
+fn load_file(rt: &HostRuntime, name: &str) -> Result<Frozen, Fault> {
     match fs::open(rt, name) {
         Ok(mut file) => read_net(rt.alloc(), &mut file),
         Err(_) => Err(Fault::Read),
@@ -78,7 +78,7 @@ fn run_standard_input(rt: &HostRuntime) -> Option<Fault> {
 fn check_tables(
     rt: &(impl Threads + Sync),
     alloc: Global,
-    net: Result<Net, Fault>,
+    net: Result<Frozen, Fault>,
 ) -> Result<CheckEnd, Fault> {
     match check_net(rt, alloc, &net?) {
         Ok(end) => Ok(end),

@@ -2,3 +2,4 @@ pub mod Sweeping
 pub mod Making
 pub mod Matching
 pub mod Membership
+pub mod Promising

@@ -11,7 +11,7 @@ use Rattle.route_choice.specs.declared.choices.Choice.{Choice}
 use Rattle.std.specs.Prelude.{find, slice_get}
 use Rattle.std.proofs.lemmas.Option.{same_Some, slice_get_within}
 use Rattle.profile.specs.Status.{Source, row_of, rank_of, choice_by, choice, status}
-use Rattle.transfer_state.specs.Told.{told, told_in, KnowsBelow, AreChoices}
+use Rattle.transfer_state.specs.Told.{told, told_in, KnowsBelow}
 use Rattle.profile.specs.Valid.{IsValid, IsValidRow, IsSmall}
 use Rattle.link_sets.proofs.Lists.{find_gives}
 use Rattle.profile.proofs.Unfold.{AgreeBelow, row_valid, rank_is, choice_same, status_is}
@@ -191,8 +191,3 @@ module _ (src : Source) (valid : IsValid src) where
 
   pub nothing_swept : (choices : List Choice) (n : ℕ) → length choices ≡ length src.rows → KnowsBelow src choices n → IsSwept src choices n 0
   nothing_swept choices n together below = record { together = together; below = below; here = λ k r low there same_rank. absurd (omega arith) }
-
-  -- all ranks are below 256
-  pub known_all : (choices : List Choice) (n : ℕ) → 256 ≤ n → KnowsBelow src choices n → AreChoices src choices
-  known_all choices n high knows k r there =
-      let topped = (row_valid src valid r.point r (row_at_place src valid k r there)).1.topped in knows k r there (omega arith)

@@ -1,3 +1,4 @@
 pub mod Members
+pub mod Promises
 pub mod Told
 pub mod Complaints

@@ -12,7 +12,6 @@ use crate::hearing::choice_heard;
 use crate::states::{links_of, message};
 use crate::sweep::rows_of;
 use excerpts::Excerpt;
-use link_sets::Neighbours;
 use net_items::Row;
 use point_codes::PointCode;
 use profile::tables::{Message, RowLinks, RowState, Table};
@@ -105,7 +104,7 @@ fn are_messages(e: &Excerpt, row: &Row, choice: &Choice, messages: &[Message]) -
 {
     let mut left = messages;
     if e.is_stp(row.point) {
-        for z in Neighbours::new(e.sets(), row.point) {
+        for z in e.neighbours(row.point) {
             if z != e.dest() {
                 let Some((first, more)) = left.split_first() else {
                     return false;

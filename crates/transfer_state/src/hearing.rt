@@ -14,7 +14,6 @@ ghost use Rattle.transfer_state.specs.Complaints.{far_from, mate_from, HasPoints
 
 use crate::sweep::rows_of;
 use excerpts::Excerpt;
-use link_sets::are_joined;
 use net_items::Row;
 use net_items::copies::place_of_row;
 use point_codes::{MsgKind, PointCode};
@@ -59,7 +58,7 @@ fn offer_heard(e: &Excerpt, table: &Table, y: PointCode, via: PointCode) -> Far
     requires { HasPoints (source_of e.now) table.now }
     ensures { result ≡ (offer (source_of e.now) (far_from (source_of e.now) table.now y) y via).far }
 {
-    if !are_joined(e.sets(), y, via) {
+    if !e.are_joined(y, via) {
         Far::Prohibited
     } else if via == e.dest() {
         Far::Allowed
@@ -109,7 +108,7 @@ fn mate_heard(e: &Excerpt, table: &Table, row: &Row) -> Option<(PointCode, Far)>
     }
     let point = e.mate_of(row.point)?;
     let mate = e.row(point)?;
-    if are_joined(e.sets(), row.point, mate.point) {
+    if e.are_joined(row.point, mate.point) {
         let far = heard_from(e, table, row.point, mate.point);
         Some((mate.point, far))
     } else {

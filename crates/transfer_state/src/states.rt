@@ -8,8 +8,7 @@ ghost use Rattle.excerpts.specs.Excerpts.{source_of};
 ghost use Rattle.transfer_state.specs.Members.{set_to};
 
 use excerpts::Excerpt;
-use link_sets::{Neighbours, set_between};
-use net_items::{LinkSet, Row};
+use net_items::Row;
 use point_codes::{MsgKind, PointCode};
 use profile::tables::{Message, Messages, RowLinks, SetLinks};
 use route_choice::{Choice, Far};
@@ -42,13 +41,12 @@ fn member(choice: &Choice, place: usize) -> Option<PointCode>
 }
 
 /// The set to a member, with the links that carry its share numbers.
-fn set_over(sets: &[LinkSet], y: PointCode, member: Option<PointCode>) -> Option<SetLinks>
-    requires few { All HasFewLinks sets.now }
-    requires ordered { All HasLinksInOrder sets.now }
-    ensures { result ≡ set_to sets.now y member }
+fn set_over(e: &Excerpt, y: PointCode, member: Option<PointCode>) -> Option<SetLinks>
+    ensures { result ≡ set_to e.now.network.sets y member }
 {
+    e.validity();
     let z = member?;
-    let set = set_between(sets, y, z)?;
+    let set = e.set_between(y, z)?;
     Some(SetLinks {
         id: set.id,
         carried: Carried::of(set),
@@ -65,8 +63,8 @@ pub(crate) fn links_of(e: &Excerpt, row: &Row, choice: &Choice) -> RowLinks
     let first = member(choice, 0);
     let second = member(choice, 1);
     let used = [first.is_some(), second.is_some()];
-    let first_set = set_over(e.sets(), row.point, first);
-    let second_set = set_over(e.sets(), row.point, second);
+    let first_set = set_over(e, row.point, first);
+    let second_set = set_over(e, row.point, second);
     RowLinks::new(size_of(row, choice.class), used, [first_set, second_set])
 }
 
@@ -111,7 +109,7 @@ pub(crate) fn messages_of(
 {
     let mut list = Vec::new(alloc);
     if e.is_stp(row.point) {
-        for z in Neighbours::new(e.sets(), row.point) {
+        for z in e.neighbours(row.point) {
             if z != e.dest() {
                 list.push(Message {
                     kind: message(choice, z),

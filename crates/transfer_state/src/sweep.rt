@@ -1,6 +1,7 @@
 //! The choices of all rows by one sweep over the ranks.
 
-ghost use Rattle.std.specs.Prelude.{◌≡◌, ◌≤◌, ◌+◌, length, All, map, IfOk};
+ghost use Rattle.std.specs.Prelude.{◌≡◌, ◌≤◌, ◌+◌, ℕ, Some, length, slice_get, All, map, IfOk};
+ghost use Rattle.net_items.specs.declared.lists.Row.{Row};
 ghost use Rattle.route_choice.specs.Routes.{offered, offered_in, mate_of_pair};
 ghost use Rattle.profile.specs.Status.{offers, offer, choice_by, mate_offer as mate_offer_by};
 ghost use Rattle.profile.specs.Valid.{IsSmall};
@@ -8,7 +9,6 @@ ghost use Rattle.excerpts.specs.Excerpts.{source_of};
 ghost use Rattle.transfer_state.specs.Told.{told, AreChoices, KnowsBelow};
 
 use excerpts::Excerpt;
-use link_sets::are_joined;
 use net_items::Row;
 use net_items::copies::place_of_row;
 use point_codes::PointCode;
@@ -42,7 +42,7 @@ fn offer_of(e: &Excerpt, choices: &[Choice], point: PointCode, via: PointCode) -
     requires { length choices.now ≡ length e.now.plan.rows }
     ensures { result ≡ (offer (source_of e.now) (told (source_of e.now) choices.now) point via).far }
 {
-    if are_joined(e.sets(), point, via) {
+    if e.are_joined(point, via) {
         far_of(e, choices, via)
     } else {
         Far::Prohibited
@@ -91,7 +91,7 @@ fn mate_offer(e: &Excerpt, choices: &[Choice], row: &Row) -> Option<(PointCode, 
     }
     let point = e.mate_of(row.point)?;
     let mate = e.row(point)?;
-    if are_joined(e.sets(), row.point, mate.point) {
+    if e.are_joined(row.point, mate.point) {
         let status = route_choice::direct(mate, &fars_of(e, choices, mate), e.tfr());
         Some((mate.point, status))
     } else {
@@ -125,14 +125,28 @@ fn sweep_rank(e: &Excerpt, choices: &mut [Choice], rank: u16)
     }
 }
 
+/// The highest rank of rows.
+fn highest_rank(rows: &[Row]) -> u8
+    ensures { (i : ℕ) (row : Row) → slice_get rows.now i ≡ Some row → row.rank ≤ result }
+{
+    let mut highest = 0;
+    for row in rows {
+        if row.rank > highest {
+            highest = row.rank;
+        }
+    }
+    highest
+}
+
 /// The choices of all rows, in their places.
 pub(crate) fn choices(alloc: Global, e: &Excerpt) -> Result<Vec<Choice>, AllocError>
     ensures each { IfOk result (λ choices. AreChoices (source_of e.now) choices.items) }
     ensures together { IfOk result (λ choices. length choices.items ≡ length e.now.plan.rows) }
 {
     e.validity();
-    let mut choices = vec![in alloc; Choice::NONE; rows_of(e).len()]?;
-    for rank in 1..256u16 {
+    let rows = rows_of(e);
+    let mut choices = vec![in alloc; Choice::NONE; rows.len()]?;
+    for rank in 1..u16::from(highest_rank(rows)) + 1 {
         sweep_rank(e, &mut choices, rank);
     }
     Ok(choices)

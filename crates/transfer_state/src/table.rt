@@ -1,8 +1,9 @@
 //! The table of an excerpt.
 
 ghost use Rattle.std.specs.Prelude.{◌≡◌, IfOk};
-ghost use Rattle.profile.specs.Whole.{scratch};
+ghost use Rattle.profile.specs.Whole.{scratch, IsSettledTable};
 ghost use Rattle.excerpts.specs.Excerpts.{source_of};
+ghost use Rattle.transfer_state.specs.Promises.{TellsWalks, KeepsMatesApart};
 
 use crate::states::{links_of, messages_of};
 use crate::sweep::{choices, rows_of};
@@ -12,8 +13,14 @@ use std::alloc::{AllocError, Global};
 
 /// The table of an excerpt, from scratch (own, after Q.704 clauses 2.3 and 13.2 to 13.4). It fails where memory is
 /// refused.
+///
+/// So its statuses are not prohibited exactly where a walk leads to the destination, no two mates use each other, and the
+/// table is what its own messages make of it.
 pub fn table_of(alloc: Global, e: &Excerpt) -> Result<Table, AllocError>
-    ensures { IfOk result (λ table. table ≡ scratch (source_of e.now)) }
+    ensures scratch { IfOk result (λ table. table ≡ scratch (source_of e.now)) }
+    ensures walks { IfOk result (TellsWalks (source_of e.now)) }
+    ensures mates { IfOk result (KeepsMatesApart (source_of e.now)) }
+    ensures settled { IfOk result (IsSettledTable (source_of e.now)) }
 {
     e.validity();
     let choices = choices(alloc, e)?;

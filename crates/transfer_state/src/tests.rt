@@ -5,6 +5,7 @@ use crate::{
     table_of,
 };
 use excerpts::Excerpt;
+use frozen_nets::Frozen;
 use link_state::LinkChange;
 use net_data::{Event, Net};
 use net_items::items::{Kind, Plan};
@@ -65,12 +66,8 @@ fn new_net(alloc: Global) -> Result<Net, Fail> {
 }
 
 fn new_excerpt(alloc: Global) -> Result<Excerpt, Fail> {
-    let net = new_net(alloc)?;
-    Ok(
-        Excerpt::of(alloc, &net, code(4106)?)
-            .ok()
-            .ok_or("no excerpt")?,
-    )
+    let net = Frozen::new(alloc, new_net(alloc)?)?;
+    Ok(Excerpt::of(&net, code(4106)?).ok().ok_or("no excerpt")?)
 }
 
 fn new_table(alloc: Global) -> Result<Table, Fail> {

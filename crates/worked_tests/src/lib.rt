@@ -3,6 +3,8 @@
 #![tactic(auto)]
 
 #[cfg(test)]
+mod certificate_tests;
+#[cfg(test)]
 mod copy_tests;
 #[cfg(test)]
 mod edit_tests;

@@ -1,6 +1,7 @@
 use Rattle.std.proofs.Common.{map, not, eqb}
 use Rattle.std.specs.Prelude.{filter}
-use Rattle.link_sets.specs.Neighbours.{left_of, neighbours}
+use Rattle.link_sets.specs.Neighbours.{neighbours}
+use Rattle.frozen_nets.specs.Around.{left_of}
 use Rattle.profile.specs.Local.{message}
 use Rattle.transfer_state.proofs.Matching.{GoTogether}
 use Rattle.transfer_state.proofs.certificate.are_messages.Given as goal
@@ -8,5 +9,5 @@ use Rattle.transfer_state.proofs.certificate.are_messages.Given as goal
 -- the messages left are those to the neighbours left, exactly where all are right
 abbrev pub invariant-loop-z : goal.invariant-loop-z
 invariant-loop-z l = GoTogether
-    l.messages (map (λ z. record { kind = message l.choice z; to = z }) (filter (λ z. not (eqb z l.e.plan.dest)) (neighbours l.e.sets l.row.point)))
+    l.messages (map (λ z. record { kind = message l.choice z; to = z }) (filter (λ z. not (eqb z l.e.plan.dest)) (neighbours l.e.network.sets l.row.point)))
     l.left (map (λ z. record { kind = message l.choice z; to = z }) (filter (λ z. not (eqb z l.e.plan.dest)) (left_of l.z-iterator)))

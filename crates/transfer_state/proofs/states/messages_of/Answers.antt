@@ -6,8 +6,8 @@ use Rattle.profile.specs.declared.tables.Message.{Message}
 use Rattle.transfer_state.proofs.Making.{filter_past, messages_from}
 use Rattle.profile.proofs.Receiving.{messages_never}
 use Rattle.std.proofs.lemmas.Iterator.Consumers.{YieldsList-from_first, YieldsList-end}
-use Rattle.net_items.specs.declared.items.LinkSet.{LinkSet}
-use Rattle.link_sets.specs.Neighbours.{left_of, neighbours}
+use Rattle.link_sets.specs.Neighbours.{neighbours}
+use Rattle.frozen_nets.specs.Around.{left_of}
 use Rattle.profile.specs.Status.{Source}
 use Rattle.excerpts.specs.Excerpts.{source_of}
 use Rattle.transfer_state.proofs.states.messages_of.Goals as goal
@@ -23,7 +23,7 @@ returns c = elim c.if-is_stp.branch [
   | then-is_stp+in-None w ↦
       let src : Source = source_of c.args.e.now in
       let around : left_of w.into_iter-z-iterator.result ≡ neighbours src.sets c.args.row.now.point
-      = ap left_of w.into_iter-z-iterator.ensures.into_iter_gives ∙ w.new-z-items.ensures ∙ ap (λ (sets : List LinkSet). neighbours sets c.args.row.now.point) w.sets.ensures in
+      = ap left_of w.into_iter-z-iterator.ensures.into_iter_gives ∙ w.neighbours-z-items.ensures in
       let all : map (λ x. x) w.loop-z.yielded ≡ neighbours src.sets c.args.row.now.point
       = (YieldsList-end (YieldsList-from_first (λ x. x) left_of (neighbours src.sets c.args.row.now.point) around) w.loop-z.yielded _ w.loop-z.yielded_by w.next.result w.next.new.self w.in-None.is w.next.ensures.steps).0 in
       c.from_vec.ensures ∙ ap (λ (v : Vec Message Global). v.items) w.list-is ∙ w.loop-z.invariant

@@ -1,11 +1,15 @@
-use Rattle.std.proofs.Common.{◌≡◌, ℕ, ◌∙◌, ap, sym, arith, List, length, Some, ◌++◌, map, drop, ◌+◌, get_or, ◌<◌}
+use Rattle.std.proofs.Common.{◌≡◌, ℕ, ◌∙◌, ap, sym, subst, arith, List, length, Some, ◌++◌, map, drop, ◌+◌, get_or, ◌<◌}
 use Rattle.std.specs.Prelude.{slice_get}
 use Rattle.std.proofs.lemmas.Option.{get_or_from_slice_get, slice_get_within}
 use Rattle.net_items.specs.declared.lists.Row.{Row}
 use Rattle.profile.specs.declared.tables.RowState.{RowState}
 use Rattle.profile.specs.Status.{Source, choice}
 use Rattle.excerpts.specs.Excerpts.{source_of}
-use Rattle.profile.specs.Whole.{state_of, scratch}
+use Rattle.profile.specs.Whole.{state_of, scratch, IsSettledTable}
+use Rattle.profile.specs.declared.tables.Table.{Table}
+use Rattle.profile.proofs.Certificate.{scratch_table}
+use Rattle.transfer_state.specs.Promises.{TellsWalks, KeepsMatesApart}
+use Rattle.transfer_state.proofs.Promising.{tells_walks, keeps_apart}
 use Rattle.transfer_state.proofs.Making.{made_more, made_all, state_made}
 use Rattle.transfer_state.proofs.Matching.{element_read}
 use Rattle.transfer_state.proofs.table.table_of.Goals as goal
@@ -25,10 +29,26 @@ loop-i-preserved c =
     ∙ ap (λ (r : Row). state_of src r (choice src r)) is)
     c.loop-i.invariant
 
-pub returns : goal.returns
-returns c =
+pub returns-clause-scratch : goal.returns-clause-scratch
+returns-clause-scratch c =
     let src : Source = source_of c.args.e.now in
     let count = ap (length {A = Row}) c.rows_of-rows.ensures in
     let rows : c.from_vec.result ≡ (scratch src).rows
     = c.from_vec.ensures ∙ made_all (λ (r : Row). state_of src r (choice src r)) src.rows c.loop-i.i c.loop-i.list.items _ (omega (arith, count, c.loop-i-test.false)) c.loop-i.invariant in
     ap (λ (d : ℕ). record { dest = d; rows = c.from_vec.result }) c.dest.ensures ∙ ap (λ (all : List RowState). record { dest = src.dest; rows = all }) rows
+
+-- what the table from scratch promises
+pub returns-clause-walks : goal.returns-clause-walks
+returns-clause-walks c =
+    let src : Source = source_of c.args.e.now in
+    subst (λ (t : Table). TellsWalks src t) (sym (returns-clause-scratch c)) (tells_walks src c.validity.ensures.valid)
+
+pub returns-clause-mates : goal.returns-clause-mates
+returns-clause-mates c =
+    let src : Source = source_of c.args.e.now in
+    subst (λ (t : Table). KeepsMatesApart src t) (sym (returns-clause-scratch c)) (keeps_apart src c.validity.ensures.valid)
+
+pub returns-clause-settled : goal.returns-clause-settled
+returns-clause-settled c =
+    let src : Source = source_of c.args.e.now in
+    subst (λ (t : Table). IsSettledTable src t) (sym (returns-clause-scratch c)) (scratch_table src c.validity.ensures.valid)

@@ -1,0 +1,89 @@
+//! A network with its index.
+
+ghost use Rattle.std.specs.Prelude.{◌≡◌, IfOk};
+ghost use Rattle.std.specs.Option.{IfSome, option_copied};
+ghost use Rattle.net_items.specs.Lookups.{set_between as between};
+ghost use Rattle.net_data.specs.Valid.{IsValid};
+ghost use Rattle.link_sets.specs.Availability.{are_joined as joined_by};
+ghost use Rattle.link_sets.specs.Neighbours.{next_from, IsCodeFrom};
+
+use crate::index::{Joint, find_joint, index_of, next_up};
+use net_data::Net;
+use net_items::LinkSet;
+use net_items::lookups::place_of_set;
+use point_codes::PointCode;
+use std::alloc::{AllocError, Global};
+use std::marker::Model;
+
+/// A network that doesn't change, with an index of the pairs that its sets join.
+#[derive(Drop)]
+pub struct Indexed {
+    net: Net,
+    joints: Vec<Joint>,
+}
+
+impl Model for Indexed {
+    ghost use Rattle.net_data.specs.Network.{Network};
+    ghost use Rattle.frozen_nets.specs.Index.{IsIndex};
+
+    ghost Value = { Network };
+
+    ghost view = { λ f. f.net };
+
+    ghost invariant = { λ f. IsIndex f.joints.items f.net.sets };
+}
+
+impl Indexed {
+    /// The network with its index. It fails where memory is refused.
+    pub fn new(alloc: Global, net: Net) -> Result<Indexed, AllocError>
+        ensures { IfOk result (λ f. f ≡ net) }
+    {
+        let joints = index_of(alloc, net.sets())?;
+        Ok(Indexed { net, joints })
+    }
+
+    /// The network.
+    pub fn net(&self) -> &Net
+        ensures { result.now ≡ self.now }
+    {
+        &self.net
+    }
+
+    /// The fact that the network keeps: it is valid. It does nothing when it runs.
+    pub fn validity(&self)
+        ensures { IsValid self.now }
+    {
+        self.net.validity();
+    }
+
+    /// Whether an available set joins two points (own, after Q.704 clause 3.2).
+    pub fn are_joined(&self, y: PointCode, z: PointCode) -> bool
+        ensures { result ≡ joined_by self.now.sets y z }
+    {
+        match find_joint(&self.joints, y, z) {
+            Some(joint) => joint.up,
+            None => false,
+        }
+    }
+
+    /// The set that joins two points, in either order.
+    pub fn set_between(&self, y: PointCode, z: PointCode) -> Option<&LinkSet>
+        ensures { option_copied result ≡ between self.now.sets y z }
+    {
+        let joint = find_joint(&self.joints, y, z)?;
+        self.net.validity();
+        let sets = self.net.sets();
+        match place_of_set(sets, joint.id) {
+            Ok(at) => Some(&sets[at]),
+            Err(_) => None,
+        }
+    }
+
+    /// The first point of code `from` or above that an available set joins to `y`.
+    pub fn next_neighbour(&self, y: PointCode, from: u16) -> Option<PointCode>
+        ensures value { result ≡ next_from (joined_by self.now.sets y) from }
+        ensures within { IfSome result (IsCodeFrom from) }
+    {
+        next_up(&self.joints, y, from)
+    }
+}
