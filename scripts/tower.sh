@@ -1,8 +1,8 @@
 #!/bin/bash
 # Times the tower: one destination, and 200 ranks of two transfer points, each leading over both points of the rank below
 # (those of rank 1 straight to the destination). A status that was worked out by recursion would take 2^200 steps.
-# It wants the built program (make demo), and shows the time of `check` and how many points are allowed, once with all
-# links up and once with the link of the first point failed.
+# It wants the built program (make demo), and shows the time of `check`, that of all 400 statuses, and what they are, once
+# with all links up and once with the link of the first point failed.
 set -e
 cd "$(dirname "$0")/.."
 program=crates/route_desk/out/route_desk
@@ -36,6 +36,7 @@ for marks in '' f; do
     tower "$marks" > "$folder/tower"
     echo "link of the first point: 0$marks"
     time $program check "$folder/tower"
-    $program run "$folder/tower" < "$folder/script" | cut -d ' ' -f -4 | sort | uniq -c
-    $program run "$folder/tower" < "$folder/script" | sed -n 3,6p
+    time $program run "$folder/tower" < "$folder/script" > "$folder/answers"
+    cut -d ' ' -f -4 "$folder/answers" | sort | uniq -c
+    sed -n 3,6p "$folder/answers"
 done
