@@ -3,6 +3,5 @@ pub mod Commands
 pub mod Answers
 pub mod Run
 pub mod Input
-pub mod Words
 pub mod Faults
 pub mod Checking

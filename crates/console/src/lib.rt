@@ -1,4 +1,4 @@
-//! The edge of the desk to the people who run it: scripts, answers, faults and the command line (all own).
+//! The edge of the desk to the people who run it: scripts, answers and faults (all own).
 //!
 //! 1. A script is cut into lines at each line feed, a last line without one counts where it has a byte, and one
 //!    carriage return at a line's end is dropped.
@@ -16,9 +16,9 @@
 //! 6. An input starts with the network text, up to the first line that is `%%`, and the script comes after that line;
 //!    without it the input is the network text. A network text has at most 134,217,728 bytes, else it is 63. Nothing is
 //!    written unless the network text was read and loaded.
-//! 7. The command lines are `route_desk run NET` and `route_desk check NET`. The check works out the settled tables of all
-//!    planned destinations, checks each by the local rule, and answers `ok P` for P plans or `bad X Y c`: the destination of
-//!    the first wrong table, and point and letter of the first complaint about it.
+//! 7. The check of a network works out the settled tables of all planned destinations, checks each by the local rule, and
+//!    answers `ok P` for P plans or `bad X Y c`: the destination of the first wrong table, and point and letter of the first
+//!    complaint about it.
 #![tactic(auto)]
 
 pub mod checking;
@@ -30,7 +30,6 @@ mod lines;
 pub mod printed;
 pub mod script;
 mod session;
-pub mod words;
 
 pub use checking::{CheckEnd, check_net};
 pub use faults::Fault;
@@ -38,7 +37,6 @@ pub use files::read_net;
 pub use input::{parts_of_input, run_input};
 pub use printed::write_fault;
 pub use script::{ScriptEnd, run_script};
-pub use words::{Order, WordFault, read_words};
 
 #[cfg(test)]
 mod check_tests;

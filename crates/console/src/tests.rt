@@ -1,6 +1,5 @@
 //! Runs from slow and failing readers and to narrow writers, and inputs that start with a network text.
 
-use crate::words::{Order, read_words};
 use crate::{Fault, run_input, run_script, write_fault};
 use frozen_nets::Frozen;
 use net_data::Net;
@@ -232,13 +231,5 @@ fn text_at_fault(rt: HostRuntime) -> Result<(), Fail> {
 fn fault_texts(rt: HostRuntime) -> Result<(), Fail> {
     let text = write_fault(rt.alloc(), Fault::Load(LoadFault::BadLine(Key::Sets, 3)))?;
     assert_eq!(rt; text.as_str(), "62 BadLine sets 3");
-    Ok(())
-}
-
-#[test]
-fn command_line(rt: HostRuntime) -> Result<(), Fail> {
-    let words = ["route_desk", "run", "n"];
-    let order = read_words(rt.alloc(), words.as_slice()).ok();
-    assert_eq!(rt; order, Some(Order::Run { net: "n" }));
     Ok(())
 }

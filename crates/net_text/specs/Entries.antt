@@ -9,6 +9,7 @@ use Rattle.link_state.specs.declared.marks.LinkChange.TheVariants.{Restore, Bloc
 use Rattle.link_state.specs.declared.marks.Marks.{Marks}
 use Rattle.net_data.specs.declared.events.Event.{Event}
 use Rattle.net_data.specs.declared.events.Event.TheVariants as on
+pub use Rattle.net_building.specs.Building.{is_needed, changes_of, set_events}
 use Rattle.tokens.specs.Words.{words_of}
 use Rattle.tokens.specs.Numbers.{id_of}
 use Rattle.point_codes.specs.Codes.{code_of}
@@ -42,25 +43,6 @@ set_of one _ = None
 abbrev pub plan_of : List (List ℕ) → Option Event
 plan_of (dest ∷ rows) = option_and_then (λ c. option_map (λ rs. on.SetPlan (record { dest = c; rows = rs })) (all_of row_of rows)) (code_of dest)
 plan_of _ = None
-
--- whether a new link, which is failed alone, needs the change to have these marks
-abbrev pub is_needed : LinkChange → Marks → Bool
-is_needed Restore m = not m.failed
-is_needed (Block First) m = m.blocked_a
-is_needed (Block Second) m = m.blocked_b
-is_needed (Inhibit First) m = m.inhibited_a
-is_needed (Inhibit Second) m = m.inhibited_b
-is_needed _ m = false
-
--- the change for each link that needs it
-abbrev pub changes_of : ℕ → List Link → LinkChange → List Event
-changes_of id links change = map (λ (l : Link). on.Link id l.slc change) (filter (λ (l : Link). is_needed change l.marks) links)
-
--- a set is added, then its links get their marks
-abbrev pub set_events : LinkSet → List Event
-set_events s =
-    on.AddSet s.id s.a s.b (map (λ (l : Link). l.slc) s.links)
-    ∷ flat_map (changes_of s.id s.links) (Restore ∷ Block First ∷ Block Second ∷ Inhibit First ∷ Inhibit Second ∷ [])
 
 abbrev pub alone : Event → List Event
 alone e = e ∷ []

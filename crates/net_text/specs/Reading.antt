@@ -7,23 +7,14 @@ use Rattle.net_data.specs.declared.events.Event.{Event}
 use Rattle.net_data.specs.declared.events.Event.TheVariants.{SetTfr}
 use Rattle.net_data.specs.declared.events.Refusal.{Refusal}
 use Rattle.net_data.specs.Network.{Network}
-use Rattle.net_data.specs.Edits.{refusal_of, changed}
+use Rattle.net_data.specs.Edits.{changed}
+pub use Rattle.net_building.specs.Building.{after, apply_all}
 use Rattle.net_text.specs.Faults.{Answer, chain}
 use Rattle.net_text.specs.Keys.{Held, held_by}
 use Rattle.net_text.specs.Entries.{entry_of}
 use Rattle.net_text.specs.declared.faults.Key.{Key}
 use Rattle.net_text.specs.declared.faults.Key.TheVariants.{Points, Pairs, Sets, Plans}
 use Rattle.net_text.specs.declared.faults.LoadFault.TheVariants.{NotToml, BadLine, Refused}
-
--- the refusal, else what comes after
-abbrev pub after : Option Refusal → Result Network Refusal → Result Network Refusal
-after (Some refusal) rest = Err refusal
-after None rest = rest
-
--- each event in turn, or the first refusal
-abbrev pub apply_all : Network → List Event → Result Network Refusal
-apply_all net [] = Ok net
-apply_all net (e ∷ es) = after (refusal_of net e) (apply_all (changed net e) es)
 
 -- a refusal, with the key and the place of its entry
 abbrev pub named : Key → ℕ → Result Network Refusal → Answer Network

@@ -1,7 +1,9 @@
 //! The program `route_desk`: the settled routing state of a Signalling System No. 7 network, asked by a script.
 //!
 //! 1. `route_desk run NET` loads the network of the file NET, reads a script from standard input and answers it on
-//!    standard output. `route_desk run -` reads the network text from standard input too, up to the line `%%`.
+//!    standard output. `route_desk run -` reads the network text from standard input too, up to the line `%%`. With
+//!    `--save FILE` the network is written to that file after a script that ended without a fault; a file that was there
+//!    stays as it was where that fails.
 //! 2. `route_desk check NET` works out the tables of all planned destinations of that network, by as many threads as there
 //!    are processors, checks each by the local rule, and writes `ok P` for P plans, or `bad X Y c` for the first wrong one.
 //! 3. It exits with 0 where the script was answered to its end: a refused line is no fault of a run; or where all tables
@@ -13,11 +15,12 @@
 #![tactic(auto)]
 
 use clap::Error;
+use command_line::{Order, WordFault, read_words};
 use console::{
-    CheckEnd, Fault, Order, WordFault, check_net, read_net, read_words, run_input, run_script,
-    write_fault,
+    CheckEnd, Fault, ScriptEnd, check_net, read_net, run_input, run_script, write_fault,
 };
 use frozen_nets::Frozen;
+use net_saving::save;
 use std::alloc::{AllocError, Global};
 use std::process::ExitCode;
 use std::thread::Threads;
@@ -61,17 +64,75 @@ fn load_file(rt: &HostRuntime, name: &str) -> Result<Frozen, Fault> {
     }
 }
 
-/// Runs the script on standard input from the network of a file, and gives the fault that ended the run.
-fn run_file(rt: &HostRuntime, name: &str) -> Option<Fault> {
-    match load_file(rt, name) {
-        Ok(net) => run_script(rt.alloc(), &mut rt.reader(), &mut io::writer(rt), net).fault,
-        Err(fault) => Some(fault),
+/// Runs the script on standard input from the network of a file.
+fn run_file(rt: &HostRuntime, name: &str) -> Result<ScriptEnd, Fault> {
+    let net = load_file(rt, name)?;
+    Ok(run_script(rt.alloc(), &mut rt.reader(), &mut io::writer(rt), net))
+}
+
+/// Runs the script on standard input, from the network of a file or from that of the text before the script.
+fn run_net(rt: &HostRuntime, net: &str) -> Result<ScriptEnd, Fault> {
+    if net == "-" {
+        return Ok(run_input(rt.alloc(), &mut rt.reader(), &mut io::writer(rt)));
+    }
+    run_file(rt, net)
+}
+
+/// Whether a name is that of something else than a file, as a device is.
+fn is_no_file(rt: &HostRuntime, name: &str) -> bool {
+    match fs::metadata(rt, name) {
+        Ok(found) => !found.is_file(),
+        Err(_) => false,
     }
 }
 
-/// Runs the script that comes after the network text on standard input, and gives the fault that ended the run.
-fn run_standard_input(rt: &HostRuntime) -> Option<Fault> {
-    run_input(rt.alloc(), &mut rt.reader(), &mut io::writer(rt)).fault
+/// Writes a text as a file.
+fn write_file(rt: &HostRuntime, name: &str, text: &str) -> Result<(), Fault> {
+    match fs::write(rt, name, text) {
+        Ok(()) => Ok(()),
+        Err(_) => Err(Fault::Write),
+    }
+}
+
+/// Puts a text in the place of a file. It is written beside the file first, so that a file that was there stays as it was
+/// where writing fails. What is no file, as a device, is written straight away.
+fn replace_file(rt: &HostRuntime, name: &str, text: &str) -> Result<(), Fault> {
+    if is_no_file(rt, name) {
+        return write_file(rt, name, text);
+    }
+    let beside = match format!(in rt.alloc(); "{name}.new") {
+        Ok(beside) => beside,
+        Err(_) => return Err(Fault::OutOfMemory),
+    };
+    if let Err(fault) = write_file(rt, beside.as_str(), text) {
+        let _ = fs::remove_file(rt, beside.as_str());
+        return Err(fault);
+    }
+    if fs::rename(rt, beside.as_str(), name).is_err() {
+        let _ = fs::remove_file(rt, beside.as_str());
+        return Err(Fault::Write);
+    }
+    Ok(())
+}
+
+/// Writes the network to a file.
+fn save_net(rt: &HostRuntime, net: &Frozen, name: &str) -> Result<(), Fault> {
+    match save(rt.alloc(), net.net()) {
+        Ok(text) => replace_file(rt, name, text.as_str()),
+        Err(_) => Err(Fault::OutOfMemory),
+    }
+}
+
+/// Runs a script, and writes the network then where a file is named. The answer is the fault, where there was one.
+fn run(rt: &HostRuntime, net: &str, file: Option<&str>) -> Option<Fault> {
+    let end = match run_net(rt, net) {
+        Ok(end) => end,
+        Err(fault) => return Some(fault),
+    };
+    if let (Some(net), Some(name)) = (&end.net, file) {
+        return save_net(rt, net, name).err();
+    }
+    end.fault
 }
 
 /// Works out and checks all tables of a network.
@@ -102,8 +163,7 @@ fn main(rt: HostRuntime) -> io::Result<ExitCode> {
     let words: Vec<String> = env::args(&rt)?.collect(rt.alloc())?;
     let texts = texts(rt.alloc(), words.as_slice())?;
     match read_words(rt.alloc(), texts.as_slice()) {
-        Ok(Order::Run { net: "-" }) => report(&rt, run_standard_input(&rt)),
-        Ok(Order::Run { net }) => report(&rt, run_file(&rt, net)),
+        Ok(Order::Run { net, save }) => report(&rt, run(&rt, net, save)),
         Ok(Order::Check { net }) => match check_tables(&rt, rt.alloc(), load_file(&rt, net)) {
             Ok(end) => report_check(&rt, &end),
             Err(fault) => report(&rt, Some(fault)),

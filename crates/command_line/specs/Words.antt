@@ -1,19 +1,23 @@
 -- The command line of the desk.
-use Rattle.std.specs.Prelude.{◌≡◌, ◌⊎◌, [], ◌∷◌, List, Option, Some, true, codes}
+use Rattle.std.specs.Prelude.{◌≡◌, ◌⊎◌, [], ◌∷◌, List, Option, Some, true, codes, option_map}
 use Rattle.clap.specs.Words.{App, Rule, Row, Text, new_app, new_rule, with_rule, with_subcommand, first_of, Kinds, HasKind}
 use Rattle.clap.specs.declared.error.kind.ErrorKind.TheVariants.{MissingSubcommand}
-use Rattle.console.specs.declared.words.Order.{Order}
-use Rattle.console.specs.declared.words.Order.TheVariants.{Run, Check}
-use Rattle.console.specs.declared.words.WordFault.{WordFault}
-use Rattle.console.specs.declared.words.WordFault.TheVariants.{Clap}
+use Rattle.command_line.specs.declared.words.Order.{Order}
+use Rattle.command_line.specs.declared.words.Order.TheVariants.{Run, Check}
+use Rattle.command_line.specs.declared.words.WordFault.{WordFault}
+use Rattle.command_line.specs.declared.words.WordFault.TheVariants.{Clap}
 
 -- NET is required
 abbrev pub net_rule : Rule
 net_rule = record (new_rule (codes "net")) { required = true; value_names = 1 }
 
--- `run NET`
+-- `--save FILE`
+abbrev pub save_rule : Rule
+save_rule = record (new_rule (codes "save")) { long = Some (codes "save"); value_names = 1 }
+
+-- `run NET --save FILE`
 abbrev pub run_app : App
-run_app = with_rule (new_app (codes "run")) net_rule
+run_app = with_rule (with_rule (new_app (codes "run")) net_rule) save_rule
 
 -- `check NET`
 abbrev pub check_app : App
@@ -25,7 +29,8 @@ desk_app = with_subcommand (with_subcommand (new_app (codes "route_desk")) run_a
 
 -- the order is what the subcommand's matches say
 abbrev pub IsOrder : Order → Option (Text × List Row) → Type 0
-IsOrder (Run net) found = (rows : List Row) × (found ≡ Some (codes "run", rows)) × (first_of (codes "net") rows ≡ Some net.now)
+IsOrder (Run net save) found =
+    (rows : List Row) × (found ≡ Some (codes "run", rows)) × (first_of (codes "net") rows ≡ Some net.now) × (first_of (codes "save") rows ≡ option_map (λ s. s.now) save)
 IsOrder (Check net) found = (rows : List Row) × (found ≡ Some (codes "check", rows)) × (first_of (codes "net") rows ≡ Some net.now)
 
 -- memory was wanting, the words have one of these faults, or a subcommand is missing

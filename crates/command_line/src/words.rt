@@ -4,7 +4,7 @@ ghost use Rattle.std.specs.Prelude.{◌≡◌, List, Option, ◌∷◌, IfOk, If
 ghost use Rattle.clap.specs.declared.builder.command.Command.TheViews.{out-Command};
 ghost use Rattle.clap.specs.Words.{app_of, first_of, FailsBy, HasKind, fault_of, found_of, rows_of, subcommand_of, subcommand_rows_of};
 ghost use Rattle.clap.specs.declared.error.kind.ErrorKind.TheVariants.{MissingSubcommand};
-ghost use Rattle.console.specs.Words.{check_app, desk_app, run_app, IsOrder, IsWordFault};
+ghost use Rattle.command_line.specs.Words.{check_app, desk_app, run_app, IsOrder, IsWordFault};
 
 use clap::error::ErrorKind;
 use clap::{Arg, ArgMatches, Command, Error};
@@ -14,8 +14,8 @@ use std::alloc::{AllocError, Global};
 #[derive(Clone, Copy, Debug, PartialEq, Eq)]
 pub enum Order<'a> {
     /// To answer the script on standard input from the network of a file, or of standard input itself where the file's
-    /// name is `-`.
-    Run { net: &'a str },
+    /// name is `-`, and to write the network to a file then, where one is named.
+    Run { net: &'a str, save: Option<&'a str> },
     /// To check the settled tables of the network of a file.
     Check { net: &'a str },
 }
@@ -35,9 +35,13 @@ fn run_command<'a>(alloc: Global) -> Result<Command<'a>, AllocError>
     let net = Arg::new(alloc, "net").required(true).value_name("NET").help(
         "File with the network, or - for standard input up to the line %%",
     );
+    let save = Arg::new(alloc, "save").long("save").value_name("FILE").help(
+        "Write the network to this file after a script that ended without a fault",
+    );
     Command::new(alloc, "run")
         .about("Answer a script of commands, read from standard input")
-        .arg(net)
+        .arg(net)?
+        .arg(save)
 }
 
 /// The command `check`.
@@ -101,7 +105,8 @@ fn order_of<'a>(matches: &ArgMatches<'a>) -> Option<Order<'a>>
     let (name, inner) = entered(matches)?;
     let net = value_at(inner, "net")?;
     if name == "run" {
-        return Some(Order::Run { net });
+        let save = value_at(inner, "save");
+        return Some(Order::Run { net, save });
     }
     if name == "check" {
         return Some(Order::Check { net });

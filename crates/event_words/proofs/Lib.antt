@@ -1,0 +1,4 @@
+pub mod ListLemmas
+pub mod FormLemmas
+pub mod ReadLemmas
+pub mod WriteLemmas

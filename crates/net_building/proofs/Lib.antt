@@ -1,0 +1,11 @@
+pub mod Ends
+pub mod Steps
+pub mod Points
+pub mod Mates
+pub mod Pairing
+pub mod Pairs
+pub mod Links
+pub mod Rounds
+pub mod Sets
+pub mod Plans
+pub mod Rebuilding

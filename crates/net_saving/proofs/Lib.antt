@@ -1,0 +1,6 @@
+pub mod JoinLemmas
+pub mod TableLemmas
+pub mod HeldLemmas
+pub mod EntryLemmas
+pub mod WritableLemmas
+pub mod SaveLemmas

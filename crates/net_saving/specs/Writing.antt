@@ -1,0 +1,60 @@
+-- The document that a network is written as, in format 2.
+use Rattle.std.specs.Prelude.{◌≡◌, ℕ, nat_lt, false, List, [], ◌∷◌, map, if◌then◌else◌, pos, codes, Ok}
+use Rattle.std.specs.List.{flat_map, join_with_byte}
+use Rattle.std.specs.Option.{option_map_or}
+use Rattle.std.specs.Fmt.{decimal}
+use Rattle.std.specs.Ordering.{nat_cmp, match_ordering}
+use Rattle.std.specs.Cmp.Lexicographic.{slice_cmp}
+use Rattle.toml.specs.Data.{Data, string, integer, boolean, array, Members, no_members, member}
+use Rattle.toml.specs.View.{items_of}
+use Rattle.net_items.specs.declared.items.Point.{Point}
+use Rattle.net_items.specs.declared.items.LinkSet.{LinkSet}
+use Rattle.net_items.specs.declared.items.Plan.{Plan}
+use Rattle.net_data.specs.Network.{Network}
+use Rattle.point_codes.specs.Codes.{code_text}
+use Rattle.tokens.specs.Kinds.{kind_text}
+use Rattle.tokens.specs.Marked.{marked_text}
+use Rattle.tokens.specs.Rows.{row_text}
+
+-- `CODE KIND`
+abbrev pub point_text : Point → List ℕ
+point_text p = join_with_byte 32 (code_text p.code ∷ kind_text p.kind ∷ [])
+
+-- `CODE CODE`
+abbrev pub pair_text : ℕ → ℕ → List ℕ
+pair_text p q = join_with_byte 32 (code_text p ∷ code_text q ∷ [])
+
+-- a point and its mate, written once: at the one of the lower code
+abbrev pub pair_texts : Point → List (List ℕ)
+pair_texts p = option_map_or (λ m. if nat_lt p.code m then pair_text p.code m ∷ [] else []) p.mate []
+
+-- `ID CODE CODE MARKED MARKED ..`
+abbrev pub set_text : LinkSet → List ℕ
+set_text s = join_with_byte 32 (decimal s.id ∷ code_text s.a ∷ code_text s.b ∷ map (marked_text false) s.links)
+
+-- `CODE ROW ROW ..`
+abbrev pub plan_text : Plan → List ℕ
+plan_text p = join_with_byte 32 (code_text p.dest ∷ map row_text p.rows)
+
+-- a key with its entries before other members; without entries there is no key
+abbrev pub with_entries : List ℕ → List (List ℕ) → Members → Members
+with_entries key [] rest = rest
+with_entries key (text ∷ texts) rest = member key (array (items_of (map string (text ∷ texts)))) rest
+
+-- the document of a network, its keys in rising order
+abbrev pub document_of : Network → Members
+document_of net =
+    member (codes "format") (integer (pos 2)) (member (codes "ni") (integer (pos net.ni))
+    (with_entries (codes "pairs") (flat_map pair_texts net.points) (with_entries (codes "plans") (map plan_text net.plans)
+    (with_entries (codes "points") (map point_text net.points) (with_entries (codes "sets") (map set_text net.sets)
+    (member (codes "tfr") (boolean net.tfr) no_members))))))
+
+-- the members with a key set, the keys in rising order
+abbrev pub insert_member : List ℕ → Data → Members → Members
+insert_member k d no_members = member k d no_members
+insert_member k d (member l e ms) = match_ordering (slice_cmp nat_cmp k l) (member k d (member l e ms)) (member l d ms) (member l e (insert_member k d ms))
+
+-- the members with a key set to an array, where that has elements
+abbrev pub insert_array : List ℕ → List Data → Members → Members
+insert_array k [] ms = ms
+insert_array k (d ∷ ds) ms = insert_member k (array (items_of (d ∷ ds))) ms
