@@ -7,10 +7,21 @@ use net_data::nets::Net;
 use net_items::{Kind, Slcs};
 use net_text::load;
 use point_codes::PointCode;
+use std::alloc::Global;
 use std::test::Fail;
 
 const NET: &str =
     "format = 2\nni = 2\ntfr = false\npoints = [\"2-1-1 sep\", \"2-1-2 sep\", \"2-10-1 stp\", \"2-10-2 stp\"]\npairs = [\"2-10-2 2-10-1\"]\nsets = [\"1 2-1-1 2-10-1 0 1f 2ba 3bb 4ia 15fbabbiaib\", \"2 2-10-2 2-1-1 0ib\", \"3 2-10-1 2-10-2 0\", \"4 2-10-1 2-1-2 0\", \"4095 2-10-2 2-1-2 0\"]\nplans = [\"2-1-2 2-1-1:2:2-10-1+2-10-2 2-10-1:1:2-1-2:m 2-10-2:1::m\", \"2-1-1 2-1-2:255:2-10-2/2-10-1 2-10-1:1:2-1-1 2-10-2:1:2-1-1\"]\n";
+
+const WORKED: &str = "format = 1
+ni = 2
+points = ['2-1-1 sep', '2-1-2 sep', '2-1-3 sep', '2-10-1 stp', '2-10-2 stp']
+pairs = ['2-10-1 2-10-2']
+sets = ['1 2-1-1 2-10-1 0 1', '2 2-1-1 2-10-2 0 1', '3 2-10-1 2-1-2 0 1', '4 2-10-2 2-1-2 0', '5 2-10-1 2-10-2 0', '6 2-10-1 2-1-3 0f']
+plans = ['2-1-2 2-1-1:2:2-10-1+2-10-2 2-10-1:1:2-1-2:m 2-10-2:1:2-1-2:m']
+";
+
+const EMPTY: &str = "format = 1\nni = 2\n";
 
 const SMALL: &str = "format = 2
 ni = 0
@@ -32,14 +43,17 @@ fn code(text: &str) -> Result<PointCode, Fail> {
     Ok(PointCode::parse(text.as_bytes())?)
 }
 
+/// Whether the network of a text is saved as a text that reads as it.
+fn is_read_back(alloc: Global, text: &str) -> Result<bool, Fail> {
+    let net = load(alloc, text.as_bytes())?;
+    let saved = save(alloc, &net)?;
+    Ok(load(alloc, saved.as_bytes())?.equals(&net))
+}
+
 #[test]
 fn reads_back(rt: HostRuntime) -> Result<(), Fail> {
-    let first = load(rt.alloc(), NET.as_bytes());
-    assert!(rt; first.is_ok());
-    if let Ok(net) = first {
-        let text = save(rt.alloc(), &net)?;
-        let again = load(rt.alloc(), text.as_str().as_bytes());
-        assert!(rt; again.is_ok_and(|read| read.equals(&net)));
+    for text in [NET, WORKED, EMPTY] {
+        assert!(rt; is_read_back(rt.alloc(), text)?, "{text}");
     }
     Ok(())
 }
