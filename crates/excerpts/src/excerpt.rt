@@ -1,6 +1,6 @@
 //! The excerpt of one destination.
 
-ghost use Rattle.std.specs.Prelude.{◌≡◌, ◌↔◌, IsTrue, Some};
+ghost use Rattle.std.specs.Prelude.{◌≡◌, ◌↔◌, IsTrue, Some, IfOk};
 ghost use Rattle.std.specs.Option.{option_copied, option_map};
 ghost use Rattle.net_items.specs.Keyed.{IsRising};
 ghost use Rattle.net_items.specs.Lookups.{point_at, mate_of as the_mate, is_stp as stp_is, row_at, set_between as between};
@@ -14,11 +14,12 @@ use crate::faults::ExcerptFault;
 use crate::reading::{are_same_reads, are_same_row_points, is_read, row_in};
 use frozen_nets::{Frozen, Neighbours};
 use net_data::Net;
-use net_items::equals::is_same_plan;
+use net_items::equals::{are_same_points, are_same_sets, is_same_plan};
 use net_items::items::{Kind, LinkSet, Plan};
 use net_items::lists::Row;
 use net_items::lookups::{find_point, is_stp};
 use point_codes::PointCode;
+use std::alloc::AllocError;
 use std::marker::Model;
 use std::sync::Arc;
 
@@ -40,23 +41,40 @@ impl Model for Excerpt {
     ghost invariant = { λ e. IsRight (record { network = e.net; plan = arc_value e.plan }) };
 }
 
+/// Whether the points and the sets of two networks are equal.
+fn are_same_lists(net: &Net, other: &Net) -> bool
+    ensures { IsTrue result ↔ ((net.now.points ≡ other.now.points) × (net.now.sets ≡ other.now.sets)) }
+{
+    are_same_points(net.points(), other.points()) && are_same_sets(net.sets(), other.sets())
+}
+
+/// Whether the tables of a plan read the same points and sets of two networks.
+fn are_same_readings(net: &Net, plan: &Plan, other_net: &Net) -> bool
+    requires { IsRising (λ r. r.point) plan.now.rows }
+    ensures { IsTrue result ↔ (((content_in net.now plan.now).points ≡ (content_in other_net.now plan.now).points) × ((content_in net.now plan.now).sets ≡ (content_in other_net.now plan.now).sets)) }
+{
+    net.validity();
+    other_net.validity();
+    // Mostly the networks are the same, which is seen sooner.
+    are_same_lists(net, other_net)
+        || (are_same_row_points(plan.rows.as_slice(), net.points(), other_net.points())
+            && are_same_reads(
+                plan,
+                net.points(),
+                net.sets(),
+                other_net.points(),
+                other_net.sets(),
+            ))
+}
+
 /// Whether the tables of two plans read the same of their networks.
 fn is_same_content(net: &Net, plan: &Plan, other_net: &Net, other_plan: &Plan) -> bool
     requires { IsRising (λ r. r.point) plan.now.rows }
     ensures { IsTrue result ↔ (content_in net.now plan.now ≡ content_in other_net.now other_plan.now) }
 {
-    net.validity();
-    other_net.validity();
     net.tfr() == other_net.tfr()
         && is_same_plan(plan, other_plan)
-        && are_same_row_points(plan.rows.as_slice(), net.points(), other_net.points())
-        && are_same_reads(
-            plan,
-            net.points(),
-            net.sets(),
-            other_net.points(),
-            other_net.sets(),
-        )
+        && are_same_readings(net, plan, other_net)
 }
 
 impl Excerpt {
@@ -79,6 +97,16 @@ impl Excerpt {
             Ok(net) => Ok(Excerpt { net, plan }),
             Err(_) => Err(ExcerptFault::OutOfMemory),
         }
+    }
+
+    /// The same excerpt once more. It fails only where no further share can be counted.
+    pub fn share(&self) -> Result<Excerpt, AllocError>
+        ensures { IfOk result (λ e. e ≡ self.now) }
+    {
+        Ok(Excerpt {
+            net: self.net.share()?,
+            plan: Arc::try_clone(&self.plan)?,
+        })
     }
 
     /// The facts that the type keeps: the network is valid and has the plan. It does nothing when it runs.

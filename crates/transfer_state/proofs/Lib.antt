@@ -3,3 +3,4 @@ pub mod Making
 pub mod Matching
 pub mod Membership
 pub mod Promising
+pub mod RouteLemmas

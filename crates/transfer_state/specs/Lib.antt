@@ -2,3 +2,4 @@ pub mod Members
 pub mod Promises
 pub mod Told
 pub mod Complaints
+pub mod Routing

@@ -10,16 +10,21 @@
 //! 4. The table is the one that the definitions of `profile` give from scratch.
 //! 5. A table that is at hand is checked by the local rule (own): each row is what it makes of the messages that its
 //!    neighbours hold towards it. Exactly the table from scratch passes.
+//! 6. The routing towards a destination is the choice of each row. It is shared, and what follows from the choices, links and
+//!    messages, is worked out when it is asked for.
 #![tactic(auto)]
 
 pub mod certificate;
 mod hearing;
+mod routes;
+pub mod routing;
 mod states;
 mod sweep;
 pub mod table;
 
 pub use certificate::{Clause, Complaint, check};
 pub use profile::tables::{LinkRef, Message, Messages, RowLinks, RowState, RowStates, Table};
+pub use routing::{Place, Routing};
 pub use table::table_of;
 
 #[cfg(test)]

@@ -16,7 +16,7 @@ use sls_share::Carried;
 use std::alloc::{AllocError, Global};
 
 /// The configured number of vias of a class; the mate counts as one.
-fn size_of(row: &Row, class: u8) -> u8
+pub(crate) fn size_of(row: &Row, class: u8) -> u8
     requires { IsSmall row.now }
     ensures { result ≡ size_by row.now class }
 {
@@ -33,7 +33,7 @@ fn size_of(row: &Row, class: u8) -> u8
 }
 
 /// The member in a place of a choice, 0 or 1.
-fn member(choice: &Choice, place: usize) -> Option<PointCode>
+pub(crate) fn member(choice: &Choice, place: usize) -> Option<PointCode>
     requires { place < 2 }
     ensures { result ≡ member_of choice.now place }
 {

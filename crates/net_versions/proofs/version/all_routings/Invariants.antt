@@ -1,0 +1,7 @@
+use Rattle.std.proofs.Common.{◌≡◌, ◌++◌, map, drop}
+use Rattle.excerpts.specs.Excerpts.{excerpt_in}
+use Rattle.net_versions.proofs.version.all_routings.Given as goal
+
+-- the routings so far and those to come make all
+abbrev pub invariant-loop-place : goal.invariant-loop-place
+invariant-loop-place l = l.routings.items ++ map (excerpt_in l.net) (drop l.place l.net.plans) ≡ map (excerpt_in l.net) l.net.plans

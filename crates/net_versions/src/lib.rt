@@ -1,0 +1,11 @@
+//! Published versions (own).
+//!
+//! 1. A version has a number, the events since the version before, and a network.
+//! 2. It has the settled routing of each planned destination of its network, and of no other; each is the one of its own
+//!    network, from scratch.
+//! 3. Versions share routings that are the same.
+#![tactic(auto)]
+
+pub mod version;
+
+pub use version::Version;

@@ -1,0 +1,7 @@
+use Rattle.std.proofs.Common.{ap, ◌∙◌}
+use Rattle.transfer_state.specs.Routing.{IsChosen}
+use Rattle.transfer_state.proofs.RouteLemmas.{chosen}
+use Rattle.transfer_state.proofs.routing.Routing.of.Goals as goal
+
+pub invariant_of-result : goal.invariant_of-result
+invariant_of-result c = rw c.in-Ok-new.ensures.ok (chosen c.args.excerpt c.in-Ok.list.items c.in-Ok.ensures.each c.in-Ok.ensures.together)

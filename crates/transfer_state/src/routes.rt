@@ -1,0 +1,106 @@
+//! What a row uses, by the choices of all rows.
+
+ghost use Rattle.std.specs.Prelude.{◌≡◌, ◌<◌, None, Some, IfOk};
+ghost use Rattle.std.specs.Option.{MatchOption, option_map};
+ghost use Rattle.net_items.specs.Lookups.{row_at};
+ghost use Rattle.profile.specs.Status.{choice};
+ghost use Rattle.profile.specs.Traces.{hop_of};
+ghost use Rattle.profile.specs.Valid.{IsSmall};
+ghost use Rattle.profile.specs.Whole.{state_of};
+ghost use Rattle.excerpts.specs.Excerpts.{source_of};
+ghost use Rattle.transfer_state.specs.Routing.{state_at, hop_by, IsChosen, IsFoundRow};
+
+use crate::states::{links_of, member, messages_of, size_of};
+use crate::sweep::rows_of;
+use excerpts::Excerpt;
+use net_items::Row;
+use net_items::copies::place_of_row;
+use point_codes::PointCode;
+use profile::hops::Hop;
+use profile::tables::{LinkRef, Messages, RowLinks};
+use route_choice::Choice;
+use sls_share::{link_for, member_for};
+use std::alloc::{AllocError, Global};
+
+/// The row of a point with its choice.
+#[tactic(auto, using(crate::proofs::RouteLemmas::found_row, crate::proofs::RouteLemmas::state_none))]
+fn found<'a>(e: &'a Excerpt, choices: &[Choice], point: PointCode) -> Option<(&'a Row, Choice)>
+    requires { IsChosen e.now choices.now }
+    ensures { MatchOption result (state_at e.now point ≡ None) (λ f. IsFoundRow e.now point f.0.now f.1) }
+{
+    e.validity();
+    let rows = rows_of(e);
+    match place_of_row(rows, point) {
+        Ok(at) => Some((&rows[at], choices[at])),
+        Err(_) => None,
+    }
+}
+
+/// What a point uses, if it has a row.
+pub(crate) fn choice_at(e: &Excerpt, choices: &[Choice], point: PointCode) -> Option<Choice>
+    requires { IsChosen e.now choices.now }
+    ensures { result ≡ option_map (λ s. s.choice) (state_at e.now point) }
+{
+    match found(e, choices, point) {
+        Some((_, choice)) => Some(choice),
+        None => None,
+    }
+}
+
+/// The links of a point, if it has a row.
+pub(crate) fn links_at(e: &Excerpt, choices: &[Choice], point: PointCode) -> Option<RowLinks>
+    requires { IsChosen e.now choices.now }
+    ensures { result ≡ option_map (λ s. s.links) (state_at e.now point) }
+{
+    match found(e, choices, point) {
+        Some((row, choice)) => Some(links_of(e, row, &choice)),
+        None => None,
+    }
+}
+
+/// The messages in force from a point, if it has a row.
+pub(crate) fn messages_at(
+    alloc: Global,
+    e: &Excerpt,
+    choices: &[Choice],
+    point: PointCode,
+) -> Result<Option<Messages>, AllocError>
+    requires { IsChosen e.now choices.now }
+    ensures { IfOk result (λ m. m ≡ option_map (λ s. s.messages) (state_at e.now point)) }
+{
+    match found(e, choices, point) {
+        Some((row, choice)) => Ok(Some(messages_of(alloc, e, row, &choice)?)),
+        None => Ok(None),
+    }
+}
+
+/// The link that a signalling link selection takes from a row's point by a choice, with both its ends.
+fn hop_by_choice(e: &Excerpt, row: &Row, choice: &Choice, s: u8) -> Option<Hop>
+    requires sls { s < 16 }
+    requires small { IsSmall row.now }
+    ensures { result ≡ hop_by (source_of e.now) row.now choice.now s }
+{
+    e.validity();
+    let used = [member(choice, 0).is_some(), member(choice, 1).is_some()];
+    let (place, share) = member_for(size_of(row, choice.class), used, s);
+    let to = member(choice, usize::from(place))?;
+    let set = e.set_between(row.point, to)?;
+    let slc = link_for(set, share)?;
+    Some(Hop {
+        from: row.point,
+        link: LinkRef { id: set.id, slc },
+        to,
+    })
+}
+
+/// The link that a signalling link selection takes from a point, with both its ends, where it takes one.
+pub(crate) fn hop_at(e: &Excerpt, choices: &[Choice], point: PointCode, s: u8) -> Option<Hop>
+    requires chosen { IsChosen e.now choices.now }
+    requires sls { s < 16 }
+    ensures { result ≡ hop_of (source_of e.now) point s }
+{
+    match found(e, choices, point) {
+        Some((row, choice)) => hop_by_choice(e, row, &choice, s),
+        None => None,
+    }
+}

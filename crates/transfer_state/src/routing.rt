@@ -1,0 +1,207 @@
+//! The settled routing towards one destination: what each point of its plan uses.
+
+ghost use Rattle.std.specs.Prelude.{◌≡◌, ◌<◌, true, false, None, Some, IfOk, IfErr, if◌then◌else◌};
+ghost use Rattle.std.specs.Option.{option_map};
+ghost use Rattle.profile.specs.Traces.{hop_of};
+ghost use Rattle.profile.specs.Whole.{scratch};
+ghost use Rattle.excerpts.specs.Excerpts.{content_of, source_of};
+ghost use Rattle.transfer_state.specs.Routing.{state_at};
+
+use crate::routes::{choice_at, hop_at, links_at, messages_at};
+use crate::sweep::choices;
+use crate::table::table_of;
+use excerpts::Excerpt;
+use point_codes::PointCode;
+use profile::hops::Hop;
+use profile::tables::{Messages, RowLinks, Table};
+use route_choice::Choice;
+use std::alloc::{AllocError, Global};
+use std::marker::Model;
+use std::sync::Arc;
+
+/// The settled routing of an excerpt: the choice of each row of its plan.
+///
+/// It is shared, and works out links and messages when they are asked for.
+#[derive(Drop)]
+pub struct Routing {
+    excerpt: Excerpt,
+    choices: Arc<Vec<Choice>>,
+}
+
+impl Model for Routing {
+    ghost use Rattle.std.specs.Arc.{arc_value};
+    ghost use Rattle.excerpts.specs.Excerpts.{Extract};
+    ghost use Rattle.transfer_state.specs.Routing.{IsChosen};
+
+    ghost Value = { Extract };
+
+    ghost view = { λ r. r.excerpt };
+
+    ghost invariant = { λ r. IsChosen r.excerpt (arc_value r.choices).items };
+}
+
+impl Routing {
+    /// The settled routing of an excerpt, from scratch. Where memory is refused it hands the excerpt back.
+    pub fn of(alloc: Global, excerpt: Excerpt) -> Result<Routing, (Excerpt, AllocError)>
+        ensures ok { IfOk result (λ r. r ≡ excerpt) }
+        ensures err { IfErr result (λ e. e.0 ≡ excerpt) }
+    {
+        let list = match choices(alloc, &excerpt) {
+            Ok(list) => list,
+            Err(refused) => return Err((excerpt, refused)),
+        };
+        match Arc::new(alloc, list) {
+            Ok(choices) => Ok(Routing { excerpt, choices }),
+            Err(_) => Err((excerpt, AllocError)),
+        }
+    }
+
+    /// What it is the routing of.
+    pub fn excerpt(&self) -> &Excerpt
+        ensures { result.now ≡ self.now }
+    {
+        &self.excerpt
+    }
+
+    /// The destination.
+    pub fn dest(&self) -> PointCode
+        ensures { result ≡ self.now.plan.dest }
+    {
+        self.excerpt.dest()
+    }
+
+    /// The same routing once more. It fails only where no further share can be counted.
+    pub fn share(&self) -> Result<Routing, AllocError>
+        ensures { IfOk result (λ r. r ≡ self.now) }
+    {
+        Ok(Routing {
+            excerpt: self.excerpt.share()?,
+            choices: Arc::try_clone(&self.choices)?,
+        })
+    }
+
+    /// The same routing of an excerpt whose table reads the same. It fails only where no further share can be counted.
+    pub fn of_same(&self, excerpt: Excerpt) -> Result<Routing, AllocError>
+        requires { content_of excerpt ≡ content_of self.now }
+        ensures { IfOk result (λ r. r ≡ excerpt) }
+    {
+        excerpt.validity();
+        self.excerpt.validity();
+        Ok(Routing {
+            choices: Arc::try_clone(&self.choices)?,
+            excerpt,
+        })
+    }
+
+    /// What a point uses, with its status, if it has a row.
+    pub fn choice(&self, point: PointCode) -> Option<Choice>
+        ensures { result ≡ option_map (λ s. s.choice) (state_at self.now point) }
+    {
+        choice_at(&self.excerpt, &self.choices, point)
+    }
+
+    /// The link of each signalling link selection of a point, if it has a row (Q.704 clause 2.3).
+    pub fn links(&self, point: PointCode) -> Option<RowLinks>
+        ensures { result ≡ option_map (λ s. s.links) (state_at self.now point) }
+    {
+        links_at(&self.excerpt, &self.choices, point)
+    }
+
+    /// The messages in force from a point, if it has a row (Q.704 clauses 13.2 to 13.4).
+    pub fn messages(&self, alloc: Global, point: PointCode) -> Result<Option<Messages>, AllocError>
+        ensures { IfOk result (λ m. m ≡ option_map (λ s. s.messages) (state_at self.now point)) }
+    {
+        messages_at(alloc, &self.excerpt, &self.choices, point)
+    }
+
+    /// The link that a signalling link selection takes from a point, with both its ends, where it takes one (Q.704 clause
+    /// 2.3).
+    pub fn hop(&self, point: PointCode, s: u8) -> Option<Hop>
+        requires { s < 16 }
+        ensures { result ≡ hop_of (source_of self.now) point s }
+    {
+        hop_at(&self.excerpt, &self.choices, point, s)
+    }
+
+    /// The whole table.
+    pub fn table(&self, alloc: Global) -> Result<Table, AllocError>
+        ensures { IfOk result (λ t. t ≡ scratch (source_of self.now)) }
+    {
+        table_of(alloc, &self.excerpt)
+    }
+}
+
+/// A place for the settled routing of an excerpt, which has come or not.
+#[derive(Drop)]
+pub struct Place {
+    excerpt: Excerpt,
+    choices: Option<Arc<Vec<Choice>>>,
+}
+
+impl Model for Place {
+    ghost use Rattle.std.specs.Prelude.{is_some};
+    ghost use Rattle.std.specs.Option.{IfSome};
+    ghost use Rattle.std.specs.Arc.{arc_value};
+    ghost use Rattle.transfer_state.specs.Routing.{Seat, IsChosen};
+
+    ghost Value = { Seat };
+
+    ghost view = { λ p. record { extract = p.excerpt; settled = is_some p.choices } };
+
+    ghost invariant = { λ p. IfSome p.choices (λ c. IsChosen p.excerpt (arc_value c).items) };
+}
+
+impl Place {
+    /// A place for the routing of an excerpt, which has not come.
+    pub fn new(excerpt: Excerpt) -> Place
+        ensures { result ≡ record { extract = excerpt; settled = false } }
+    {
+        Place {
+            excerpt,
+            choices: None,
+        }
+    }
+
+    /// A place for the routing of an excerpt whose table reads the same as that of a routing that is there.
+    pub fn of_same(excerpt: Excerpt, routing: &Routing) -> Result<Place, AllocError>
+        requires { content_of excerpt ≡ content_of routing.now }
+        ensures { IfOk result (λ p. p ≡ record { extract = excerpt; settled = true }) }
+    {
+        excerpt.validity();
+        routing.excerpt.validity();
+        Ok(Place {
+            choices: Some(Arc::try_clone(&routing.choices)?),
+            excerpt,
+        })
+    }
+
+    /// The destination.
+    pub fn dest(&self) -> PointCode
+        ensures { result ≡ self.now.extract.plan.dest }
+    {
+        self.excerpt.dest()
+    }
+
+    /// Takes in a routing whose table reads the same. It takes no memory.
+    pub fn fill(&mut self, routing: Routing)
+        requires { content_of routing ≡ content_of self.old.extract }
+        ensures { self.new ≡ record self.old { settled = true } }
+    {
+        self.excerpt.validity();
+        routing.excerpt.validity();
+        self.choices = Some(routing.choices);
+    }
+
+    /// The routing that has come, shared. It fails only where no further share can be counted.
+    pub fn routing(&self) -> Result<Option<Routing>, AllocError>
+        ensures { IfOk result (λ r. r ≡ (if self.now.settled then Some self.now.extract else None)) }
+    {
+        match &self.choices {
+            Some(choices) => Ok(Some(Routing {
+                excerpt: self.excerpt.share()?,
+                choices: Arc::try_clone(choices)?,
+            })),
+            None => Ok(None),
+        }
+    }
+}

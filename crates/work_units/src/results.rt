@@ -1,0 +1,74 @@
+//! Results of jobs.
+
+ghost use Rattle.std.specs.Prelude.{◌≡◌, IfOk, IfErr};
+
+use crate::jobs::Job;
+use excerpts::Excerpt;
+use point_codes::PointCode;
+use std::alloc::{AllocError, Global};
+use std::marker::Model;
+use transfer_state::Routing;
+
+/// The result of a job: its routing is that of the job's excerpt, from scratch.
+#[derive(Drop)]
+pub struct Settled {
+    version: u64,
+    routing: Routing,
+}
+
+impl Model for Settled {
+    ghost use Rattle.work_units.specs.Work.{Work};
+
+    ghost Value = { Work };
+
+    ghost view = { λ s. record { version = s.version; extract = s.routing } };
+}
+
+impl Settled {
+    /// The number of the version that it is for.
+    pub fn version(&self) -> u64
+        ensures { result ≡ self.now.version }
+    {
+        self.version
+    }
+
+    /// The destination.
+    pub fn dest(&self) -> PointCode
+        ensures { result ≡ self.now.extract.plan.dest }
+    {
+        self.routing.dest()
+    }
+
+    /// What the table of the destination reads.
+    pub fn excerpt(&self) -> &Excerpt
+        ensures { result.now ≡ self.now.extract }
+    {
+        self.routing.excerpt()
+    }
+
+    /// The settled routing of the excerpt.
+    pub fn routing(&self) -> &Routing
+        ensures { result.now ≡ self.now.extract }
+    {
+        &self.routing
+    }
+
+    /// The settled routing, given away.
+    pub fn into_routing(self) -> Routing
+        ensures { result ≡ self.extract }
+    {
+        self.routing
+    }
+}
+
+/// Does a job: the result has its version and its excerpt. Where memory is refused it hands the job back.
+pub fn settle(alloc: Global, job: Job) -> Result<Settled, (Job, AllocError)>
+    ensures ok { IfOk result (λ s. s ≡ job) }
+    ensures err { IfErr result (λ e. e.0 ≡ job) }
+{
+    let (version, excerpt) = job.into_parts();
+    match Routing::of(alloc, excerpt) {
+        Ok(routing) => Ok(Settled { version, routing }),
+        Err((excerpt, refused)) => Err((Job::from_parts(version, excerpt), refused)),
+    }
+}
