@@ -1,0 +1,174 @@
+-- The opening of a target: the destinations that wait, and the places of all.
+use Rattle.std.proofs.Common.{◌≡◌, ℕ, suc, ◌+◌, ◌<◌, Bool, true, false, not, ◌||◌, cond, eqb, List, [], ◌∷◌, Option, Some, None, is_some, Ok, map, refl, sym, ap, ◌∙◌, subst, length, arith}
+use Rattle.std.specs.Prelude.{filter}
+use Rattle.std.specs.List.{AllByRecursion}
+use Rattle.std.specs.Option.{option_map}
+use Rattle.std.proofs.lemmas.Bool.{eq-eqb, eqb-true}
+use Rattle.net_items.specs.declared.items.Plan.{Plan}
+use Rattle.net_items.specs.declared.items.Point.{Point}
+use Rattle.net_items.specs.Keyed.{IsRising, at_key}
+use Rattle.net_items.specs.Lookups.{has_point, plan_at, point_at}
+use Rattle.net_items.proofs.KeyedLemmas.{found_holds, All-then}
+use Rattle.net_data.specs.Network.{Network}
+use Rattle.net_data.specs.Valid.{IsValid, IsRightPlan}
+use Rattle.excerpts.specs.Excerpts.{Extract, excerpt_at, excerpt_in}
+use Rattle.transfer_state.specs.Routing.{Seat}
+use Rattle.dirty_sets.specs.Touch.{is_planned}
+use Rattle.dirty_sets.specs.Marks.{Marked}
+use Rattle.dirty_sets.specs.Waiting.{Task, all_waiting, waiting, waiting_task}
+use Rattle.net_versions.specs.Versions.{excerpts}
+use Rattle.plan_rows.specs.Causes.{when, first}
+use Rattle.desk_core.specs.declared.replies.Opened.{Opened}
+use Rattle.desk_core.specs.declared.replies.Refusal.{Refusal}
+use Rattle.desk_core.specs.declared.replies.Refusal.TheVariants.{Busy, Nothing}
+use Rattle.desk_core.specs.Desk.{State, OpenTarget, accepted, net_now, to_settle, touched_by}
+use Rattle.desk_core.specs.Steps.{IsReply, Opens, with_target}
+use Rattle.desk_core.specs.Inside.{IsInside}
+use Rattle.desk_core.specs.Targets.{AreFilled, IsFilled, IsPlaceOf, is_task, seat_of}
+
+-- ---- lists
+
+All-filter : {X : Type 0} (P : X → Type 0) (p : X → Bool) (xs : List X) → AllByRecursion P xs → AllByRecursion P (filter p xs)
+All-filter P p [] all = tt
+All-filter P p (x ∷ xs) all = go (p x) refl (All-filter P p xs all.1)
+  where
+    go : (b : Bool) → p x ≡ b → AllByRecursion P (filter p xs) → AllByRecursion P (filter p (x ∷ xs))
+    go true e rec = rw e (all.0, rec)
+    go false e rec = rw e rec
+
+IsRising-filter : {X : Type 0} (key : X → ℕ) (p : X → Bool) (xs : List X) → IsRising key xs → IsRising key (filter p xs)
+IsRising-filter key p [] up = tt
+IsRising-filter key p (x ∷ xs) up = go (p x) refl (IsRising-filter key p xs up.1)
+  where
+    go : (b : Bool) → p x ≡ b → IsRising key (filter p xs) → IsRising key (filter p (x ∷ xs))
+    go true e rec = rw e (All-filter (λ y. key x < key y) p xs up.0, rec)
+    go false e rec = rw e rec
+
+All-map : {X Y : Type 0} (P : Y → Type 0) (f : X → Y) (xs : List X) → AllByRecursion (λ x. P (f x)) xs → AllByRecursion P (map f xs)
+All-map P f [] all = tt
+All-map P f (x ∷ xs) all = (all.0, All-map P f xs all.1)
+
+IsRising-map : {X Y : Type 0} (key : Y → ℕ) (f : X → Y) (xs : List X) → IsRising (λ x. key (f x)) xs → IsRising key (map f xs)
+IsRising-map key f [] up = tt
+IsRising-map key f (x ∷ xs) up = (All-map (λ y. key (f x) < key y) f xs up.0, IsRising-map key f xs up.1)
+
+abbrev dests : List Plan → List ℕ
+dests plans = map (λ (p : Plan). p.dest) plans
+
+-- the touched destinations rise
+pub touched_rise : (net : Network) (touched : ℕ → Bool) → IsRising (λ (p : Plan). p.dest) net.plans → IsRising (λ x. x) (filter touched (dests net.plans))
+touched_rise net touched up = IsRising-filter (λ x. x) touched (dests net.plans) (IsRising-map (λ x. x) (λ (p : Plan). p.dest) net.plans up)
+
+-- all that wait are waiting
+pub waiting_all : (xs : List ℕ) → waiting (all_waiting xs) ≡ xs
+waiting_all [] = refl
+waiting_all (x ∷ xs) = ap (λ ys. x ∷ ys) (waiting_all xs)
+
+-- ---- a place
+
+pub seat_is : (net : Network) (plan : Plan) (settled : Bool) (seat : Seat) → plan_at net.plans plan.dest ≡ Some plan → IsPlaceOf net plan.dest settled seat → seat ≡ record { extract = excerpt_in net plan; settled = settled }
+seat_is net plan settled seat at is =
+    let here : Some (excerpt_in net plan) ≡ Some seat.extract = sym (ap (option_map (excerpt_in net)) at) ∙ is.0 in
+    let same : excerpt_in net plan ≡ seat.extract = cc in
+    ap (λ (x : Extract). record { extract = x; settled = seat.settled }) (sym same) ∙ ap (λ b. record { extract = excerpt_in net plan; settled = b }) is.1
+
+pub planned_is : (net : Network) (plan : Plan) (x : ℕ) → plan_at net.plans x ≡ Some plan → is_planned net x ≡ true
+planned_is net plan x at = ap is_some at
+
+-- ---- all places
+
+or_right : (a b : Bool) → b ≡ true → (a || b) ≡ true
+or_right true b e = refl
+or_right false b e = e
+
+-- the touched of some destinations wait
+touched_wait : (touched : ℕ → Bool) (xs : List ℕ) → AllByRecursion (λ x. touched x ≡ true → is_task (all_waiting (filter touched xs)) x ≡ true) xs
+touched_wait touched [] = tt
+touched_wait touched (x ∷ xs) = go (touched x) refl (touched_wait touched xs)
+  where
+    Wait : List ℕ → Type 0
+    Wait fs = AllByRecursion (λ y. touched y ≡ true → is_task (all_waiting fs) y ≡ true) (x ∷ xs)
+
+    go : (b : Bool) → touched x ≡ b → AllByRecursion (λ y. touched y ≡ true → is_task (all_waiting (filter touched xs)) y ≡ true) xs → Wait (filter touched (x ∷ xs))
+    go true e rec =
+        let is : filter touched (x ∷ xs) ≡ x ∷ filter touched xs = rw e refl in
+        subst Wait (sym is) (
+          (λ t. rw (eq-eqb x x refl) refl),
+          All-then (λ (y : ℕ). y) (λ y. touched y ≡ true → is_task (all_waiting (filter touched xs)) y ≡ true) (λ y. touched y ≡ true → (eqb x y || is_task (all_waiting (filter touched xs)) y) ≡ true)
+              (λ y h t. or_right (eqb x y) _ (h t)) xs rec,
+        )
+    go false e rec =
+        let is : filter touched (x ∷ xs) ≡ filter touched xs = rw e refl in
+        subst Wait (sym is) ((λ t. absurd (let f : false ≡ true = sym e ∙ t in cc)), rec)
+
+places_filled : (net : Network) (touched : ℕ → Bool) (tasks : List Task) (plans : List Plan) → AllByRecursion (λ x. touched x ≡ true → is_task tasks x ≡ true) (dests plans) → AllByRecursion (IsFilled tasks) (map (seat_of net touched) plans)
+places_filled net touched tasks [] all = tt
+places_filled net touched tasks (p ∷ ps) all = (go (touched p.dest) refl, places_filled net touched tasks ps all.1)
+  where
+    go : (b : Bool) → touched p.dest ≡ b → IsFilled tasks (seat_of net touched p)
+    go true e = rw e (all.0 e)
+    go false e = rw e refl
+
+-- one more plan in front hides none
+still_found : (p : Plan) (ps : List Plan) (x : ℕ) → is_some (plan_at ps x) ≡ true → is_some (plan_at (p ∷ ps) x) ≡ true
+still_found p ps x there = go (eqb p.dest x) refl
+  where
+    go : (b : Bool) → eqb p.dest x ≡ b → is_some (plan_at (p ∷ ps) x) ≡ true
+    go true e = rw e refl
+    go false e = rw e there
+
+-- each plan of a list is found for its destination
+plans_found : (ps : List Plan) → AllByRecursion (λ (p : Plan). is_some (plan_at ps p.dest) ≡ true) ps
+plans_found [] = tt
+plans_found (p ∷ ps) = (
+  rw (eq-eqb p.dest p.dest refl) refl,
+  All-then (λ (q : Plan). q.dest) (λ q. is_some (plan_at ps q.dest) ≡ true) (λ q. is_some (plan_at (p ∷ ps) q.dest) ≡ true) (λ q h. still_found p ps q.dest h) ps (plans_found ps),
+)
+
+extracts_of : (net : Network) (touched : ℕ → Bool) (plans : List Plan) → map (λ (s : Seat). s.extract) (map (seat_of net touched) plans) ≡ map (excerpt_in net) plans
+extracts_of net touched [] = refl
+extracts_of net touched (p ∷ ps) = ap (λ xs. excerpt_in net p ∷ xs) (extracts_of net touched ps)
+
+-- the places of a target, of which the touched wait
+pub opened_filled : (net : Network) (touched : ℕ → Bool) → AreFilled net (all_waiting (filter touched (dests net.plans))) (map (seat_of net touched) net.plans)
+opened_filled net touched = record {
+  all = extracts_of net touched net.plans;
+  filled = places_filled net touched _ net.plans (touched_wait touched (dests net.plans));
+  planned = All-map (λ (t : Task). is_planned net t.dest ≡ true) waiting_task (filter touched (dests net.plans))
+      (All-filter (λ x. is_planned net x ≡ true) touched (dests net.plans) (All-map (λ x. is_planned net x ≡ true) (λ (p : Plan). p.dest) net.plans (plans_found net.plans)));
+}
+
+-- ---- what waits
+
+coded : (points : List Point) (x : ℕ) → AllByRecursion (λ (p : Point). p.code < 16384) points → has_point points x ≡ true → x < 16384
+coded [] x all there = absurd (cc)
+coded (p ∷ ps) x all there = go (eqb p.code x) refl (coded ps x all.1)
+  where
+    go : (b : Bool) → eqb p.code x ≡ b → (has_point ps x ≡ true → x < 16384) → x < 16384
+    go true e rec = subst (λ y. y < 16384) (eqb-true p.code x e) all.0
+    go false e rec = rec (rw e at there)
+
+filter-same : (p q : ℕ → Bool) (xs : List ℕ) → AllByRecursion (λ x. x < 16384) xs → ((x : ℕ) → x < 16384 → p x ≡ q x) → filter p xs ≡ filter q xs
+filter-same p q [] all same = refl
+filter-same p q (x ∷ xs) all same = ap (λ b. cond b (x ∷ filter p xs) (filter p xs)) (same x all.0) ∙ ap (λ ys. cond (q x) (x ∷ ys) ys) (filter-same p q xs all.1 same)
+
+-- the destinations that were touched are those to settle
+pub to_settle_is : (s : State) (latest : Network) (marked : Marked) → IsInside s latest marked None → IsValid latest → filter marked.touched (dests latest.plans) ≡ to_settle s
+to_settle_is s latest marked i valid =
+    filter-same marked.touched (touched_by s.published.network s.pending) (dests latest.plans)
+    (All-map (λ x. x < 16384) (λ (p : Plan). p.dest) latest.plans (All-then (λ (p : Plan). p.dest) (IsRightPlan latest.points latest.sets) (λ p. p.dest < 16384) (λ p right. coded latest.points p.dest valid.codes_small right.is_there) latest.plans valid.plans_right))
+    (λ x low. i.since x low)
+    ∙ ap (λ (n : Network). filter (touched_by s.published.network s.pending) (dests n.plans)) i.is_now
+
+-- what an opening answers, where it isn't refused
+pub opens_is : (s new : State) (answer : Opened) → s.target ≡ None → eqb (length s.pending) 0 ≡ false → answer ≡ record { target = accepted s; waiting = length (to_settle s) } → new ≡ with_target s → Opens s (Ok answer) new
+opens_is s new answer none some is left =
+    subst (λ (o : Option OpenTarget). IsReply (first (when (is_some o) Busy ∷ when (eqb (length s.pending) 0) Nothing ∷ [])) Change s (Ok answer) new) (sym none)
+    (subst (λ b. IsReply (first (when b Nothing ∷ [])) Change s (Ok answer) new) (sym some) (is, left))
+  where
+    Change : Opened → State → Type 0
+    Change reply after = (reply ≡ record { target = accepted s; waiting = length (to_settle s) }) × (after ≡ with_target s)
+
+pub is_none : {X : Type 0} (o : Option X) → is_some o ≡ false → o ≡ None
+is_none None e = refl
+is_none (Some x) e = absurd (let f : true ≡ false = e in cc)

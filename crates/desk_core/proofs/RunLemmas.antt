@@ -1,0 +1,226 @@
+-- At every point of a run the published version is the one of its number.
+use Rattle.std.proofs.Common.{◌≡◌, ℕ, zero, suc, ◌+◌, ◌-◌, ◌≤◌, Bool, true, false, Option, Some, None, Result, Ok, Err, List, [], ◌∷◌, ◌++◌, refl, sym, ap, ◌∙◌, subst, length, take, drop, arith, length-append, length-drop, append-nil}
+use Rattle.std.specs.Option.{MatchOption, option_map}
+use Rattle.std.proofs.lemmas.List.{take-append-drop, take-append-le, drop-append-le, append_assoc}
+use Rattle.net_data.specs.declared.events.Event.{Event}
+use Rattle.net_data.specs.Network.{Network}
+use Rattle.dirty_sets.specs.Waiting.{Task, taken, put_last, without_task}
+use Rattle.work_units.specs.Work.{Work}
+use Rattle.net_versions.specs.Versions.{Published}
+use Rattle.desk_core.specs.declared.replies.Last.{Last}
+use Rattle.desk_core.specs.declared.replies.Opened.{Opened}
+use Rattle.desk_core.specs.declared.replies.Posted.{Posted}
+use Rattle.desk_core.specs.declared.replies.Posted.TheVariants.{Taken, Again}
+use Rattle.desk_core.specs.declared.replies.Refusal.{Refusal}
+use Rattle.desk_core.specs.declared.replies.Refusal.TheVariants.{Clash}
+use Rattle.desk_core.specs.declared.steps.Step.{Step}
+use Rattle.desk_core.specs.declared.steps.Step.TheVariants as step
+use Rattle.desk_core.specs.declared.steps.Reply.{Reply}
+use Rattle.desk_core.specs.declared.steps.Reply.TheVariants as reply
+use Rattle.desk_core.specs.Desk.{State, OpenTarget, accepted, replay, next_version}
+use Rattle.desk_core.specs.Steps.{IsReply, IsPost, IsJobOf, IsGiven, IsGiveReply, IsAbandonReply, IsNext, Posts, Opens, Takes, Gives, Abandons, Publishes, is_last, last_of, post_refusal, open_refusal, out_refusal, publish_refusal, repeated, first_of, with_post, with_target, with_tasks, with_version}
+use Rattle.desk_core.specs.Runs.{Steps, Runs, event_taken, accepted_by, accepted_in, events_up_to, IsRightVersion, IsRightThroughout, IsSteady}
+use Rattle.desk_core.proofs.Replays.{replay-append}
+
+-- a desk after steps from another: what it has published and what is pending are the accepted events
+record Tracks (start : State) (more : List Event) (s : State) : Type 0 where
+  low : start.published.number ≤ s.published.number
+  within : s.published.number - start.published.number ≤ length (start.pending ++ more)
+  pending : s.pending ≡ drop (s.published.number - start.published.number) (start.pending ++ more)
+  network : s.published.network ≡ replay start.published.network (take (s.published.number - start.published.number) (start.pending ++ more))
+  steady : IsSteady s
+
+drop-add : {X : Type 0} (a b : ℕ) (xs : List X) → drop b (drop a xs) ≡ drop (a + b) xs
+drop-add zero b xs = let e : 0 + b ≡ b = omega arith in sym (rw e refl)
+drop-add (suc a) b [] = let e : suc a + b ≡ suc (a + b) = omega arith in drop-nil b ∙ sym (rw e refl)
+  where
+    drop-nil : {X : Type 0} (n : ℕ) → drop {A = X} n [] ≡ []
+    drop-nil zero = refl
+    drop-nil (suc n) = refl
+drop-add (suc a) b (x ∷ xs) = let e : suc a + b ≡ suc (a + b) = omega arith in drop-add a b xs ∙ sym (rw e refl)
+
+take-add : {X : Type 0} (a b : ℕ) (xs : List X) → take a xs ++ take b (drop a xs) ≡ take (a + b) xs
+take-add zero b xs = let e : 0 + b ≡ b = omega arith in sym (rw e refl)
+take-add (suc a) b [] = let e : suc a + b ≡ suc (a + b) = omega arith in take-nil b ∙ sym (rw e refl)
+  where
+    take-nil : {X : Type 0} (n : ℕ) → take {A = X} n [] ≡ []
+    take-nil zero = refl
+    take-nil (suc n) = refl
+take-add (suc a) b (x ∷ xs) = let e : suc a + b ≡ suc (a + b) = omega arith in ap (λ ys. x ∷ ys) (take-add a b xs) ∙ sym (rw e refl)
+
+module _ (start : State) (more : List Event) (old : State) (t : Tracks start more old) where
+  -- nothing is accepted, and what is published and pending stays
+  stays : (new : State) → new.published ≡ old.published → new.pending ≡ old.pending → IsSteady new → Tracks start (more ++ []) new
+  stays new published pending steady =
+      let number : new.published.number ≡ old.published.number = ap (λ (v : Published). v.number) published in
+      let back : more ++ [] ≡ more = append-nil more in
+      record {
+        low = let l = t.low in omega arith;
+        within = let w = t.within in rw back (omega arith);
+        pending = rw (back, number) (pending ∙ t.pending);
+        network = rw (back, number) (ap (λ (v : Published). v.network) published ∙ t.network);
+        steady = steady;
+      }
+
+  unchanged : (new : State) → new ≡ old → Tracks start (more ++ []) new
+  unchanged new same = subst (λ s. Tracks start (more ++ []) s) (sym same) (stays old refl refl t.steady)
+
+  -- one event more
+  grown : (collector seq : ℕ) (event : Event) → Tracks start (more ++ event ∷ []) (with_post old collector seq event)
+  grown collector seq event =
+      let k : ℕ = old.published.number - start.published.number in
+      let all : start.pending ++ (more ++ event ∷ []) ≡ (start.pending ++ more) ++ event ∷ [] = sym (append_assoc start.pending more (event ∷ [])) in
+      let longer : length ((start.pending ++ more) ++ event ∷ []) ≡ length (start.pending ++ more) + 1 = length-append (start.pending ++ more) (event ∷ []) in
+      record {
+        low = t.low;
+        within = let w = t.within in rw all (omega arith);
+        pending = rw all (ap (λ es. es ++ event ∷ []) t.pending ∙ sym (drop-append-le k (start.pending ++ more) (event ∷ []) t.within));
+        network = rw all (t.network ∙ ap (replay start.published.network) (sym (take-append-le k (start.pending ++ more) (event ∷ []) t.within)));
+        steady = steady_grown old.target t.steady;
+      }
+    where
+      steady_grown : (o : Option OpenTarget) → MatchOption o (Unit {0}) (λ t. (old.published.number ≤ t.number) × (t.number ≤ accepted old))
+          → MatchOption o (Unit {0}) (λ t. (old.published.number ≤ t.number) × (t.number ≤ old.published.number + length (old.pending ++ event ∷ [])))
+      steady_grown None is = tt
+      steady_grown (Some target) is =
+          let longer : length (old.pending ++ event ∷ []) ≡ length old.pending + 1 = length-append old.pending (event ∷ []) in
+          let within = is.1 in (is.0, omega arith)
+
+  -- a change of tasks
+  tasked : (change : List Task → List Task) → Tracks start (more ++ []) (with_tasks old change)
+  tasked change = stays (with_tasks old change) refl refl (steady_tasked old.target t.steady)
+    where
+      steady_tasked : (o : Option OpenTarget) → MatchOption o (Unit {0}) (λ t. (old.published.number ≤ t.number) × (t.number ≤ accepted old))
+          → MatchOption (option_map (λ (t : OpenTarget). record t { tasks = change t.tasks }) o) (Unit {0}) (λ t. (old.published.number ≤ t.number) × (t.number ≤ accepted old))
+      steady_tasked None is = tt
+      steady_tasked (Some target) is = is
+
+  -- a publication
+  published : (o : Option OpenTarget) → MatchOption o (Unit {0}) (λ t. (old.published.number ≤ t.number) × (t.number ≤ accepted old)) → (version : Published)
+      → MatchOption o ⊥ (λ t. version ≡ next_version old t.number) → Tracks start (more ++ []) (with_version old version)
+  published None is version next = absurd next
+  published (Some target) is version next =
+      let back : more ++ [] ≡ more = append-nil more in
+      let a : ℕ = old.published.number - start.published.number in
+      let b : ℕ = version.number - old.published.number in
+      let number : version.number ≡ target.number = ap (λ (v : Published). v.number) next in
+      let network : version.network ≡ replay old.published.network (take (target.number - old.published.number) old.pending) = ap (λ (v : Published). v.network) next in
+      let same : target.number - old.published.number ≡ b = ap (λ n. n - old.published.number) (sym number) in
+      let low = t.low in let first = is.0 in let second = is.1 in
+      let sum : a + b ≡ version.number - start.published.number = omega arith in
+      let len : length old.pending ≡ length (drop a (start.pending ++ more)) = ap (length {A = Event}) t.pending in
+      let cut : length (drop a (start.pending ++ more)) ≡ length (start.pending ++ more) - a = length-drop a (start.pending ++ more) in
+      let w = t.within in
+      record {
+        low = omega arith;
+        within = rw back (omega arith);
+        pending = rw back (ap (drop b) t.pending ∙ drop-add a b (start.pending ++ more) ∙ ap (λ n. drop n (start.pending ++ more)) sum);
+        network = rw back (
+            network ∙ ap (λ n. replay old.published.network (take n old.pending)) same
+            ∙ ap (λ n. replay n (take b old.pending)) t.network
+            ∙ ap (λ es. replay (replay start.published.network (take a (start.pending ++ more))) (take b es)) t.pending
+            ∙ sym (replay-append start.published.network (take a (start.pending ++ more)) (take b (drop a (start.pending ++ more))))
+            ∙ ap (replay start.published.network) (take-add a b (start.pending ++ more) ∙ ap (λ n. take n (start.pending ++ more)) sum));
+        steady = tt;
+      }
+
+  -- ---- the steps
+
+  posted : (collector seq : ℕ) (event : Event) (result : Result Posted Refusal) (new : State) (o : Option Refusal)
+      → IsReply o (λ reply after. (reply ≡ Taken (accepted old + 1)) × (after ≡ with_post old collector seq event)) old result new
+      → Tracks start (more ++ event_taken event (reply.Post result)) new
+  posted collector seq event result new (Some refusal) is = subst (λ r. Tracks start (more ++ event_taken event (reply.Post r)) new) (sym is.0) (unchanged new is.1)
+  posted collector seq event (Ok p) new None is =
+      subst (λ q. Tracks start (more ++ event_taken event (reply.Post (Ok q))) new) (sym is.0) (subst (λ n. Tracks start (more ++ event ∷ []) n) (sym is.1) (grown collector seq event))
+  posted collector seq event (Err e) new None is = unchanged new is.1
+
+  again : (event : Event) (last : Last) (result : Result Posted Refusal) (new : State) (same : Bool) → result ≡ repeated last same → new ≡ old → Tracks start (more ++ event_taken event (reply.Post result)) new
+  again event last result new true is left = subst (λ r. Tracks start (more ++ event_taken event (reply.Post r)) new) (sym is) (unchanged new left)
+  again event last result new false is left = subst (λ r. Tracks start (more ++ event_taken event (reply.Post r)) new) (sym is) (unchanged new left)
+
+  post_step : (collector seq : ℕ) (event : Event) (result : Result Posted Refusal) (new : State) (b : Bool) → IsPost b old collector seq event result new → Tracks start (more ++ event_taken event (reply.Post result)) new
+  post_step collector seq event result new true is = again event (last_of old collector) result new is.0 is.2 is.3
+  post_step collector seq event result new false is = posted collector seq event result new (post_refusal old collector seq event) is
+
+  -- a step that accepts nothing
+  settled : {T : Type 0} (o : Option Refusal) (Changes : T → State → Type 0) (result : Result T Refusal) (new : State) → IsReply o Changes old result new
+      → ((r : T) → Changes r new → Tracks start (more ++ []) new) → Tracks start (more ++ []) new
+  settled (Some refusal) Changes result new is change = unchanged new is.1
+  settled None Changes (Ok r) new is change = change r is
+  settled None Changes (Err e) new is change = unchanged new is.1
+
+  open_step : (result : Result Opened Refusal) (new : State) → Opens old result new → Tracks start (more ++ []) new
+  open_step result new is =
+      settled (open_refusal old) _ result new is
+      (λ r changed. subst (λ s. Tracks start (more ++ []) s) (sym changed.1) (stays (with_target old) refl refl (let l = t.low in (omega arith, omega arith))))
+
+  take_step : (result : Result Work Refusal) (new : State) → Takes old result new → Tracks start (more ++ []) new
+  take_step result new = go (first_of old)
+    where
+      go : (o : Option ℕ) → MatchOption o ((result ≡ Err Refusal.Nothing) × (new ≡ old)) (λ x. IsReply None (λ job after. IsJobOf old x job × (after ≡ with_tasks old taken)) old result new) → Tracks start (more ++ []) new
+      go None is = unchanged new is.1
+      go (Some x) is = settled None (λ job after. IsJobOf old x job × (after ≡ with_tasks old taken)) result new is (λ r changed. subst (λ s. Tracks start (more ++ []) s) (sym changed.1) (tasked taken))
+
+  give_step : (work : Work) (result : Result (Unit {0}) (Work × Refusal)) (new : State) → Gives old work result new → Tracks start (more ++ []) new
+  give_step work result new = go (out_refusal old work.version work.extract.plan.dest)
+    where
+      given : (same : Bool) → IsGiven same old work result new → Tracks start (more ++ []) new
+      given true is = subst (λ s. Tracks start (more ++ []) s) (sym is.1) (tasked (without_task work.extract.plan.dest))
+      given false is = unchanged new is.1
+
+      go : (o : Option Refusal) → IsGiveReply o old work result new → Tracks start (more ++ []) new
+      go (Some refusal) is = unchanged new is.1
+      go None is = given is.0 is.2
+
+  abandon_step : (version dest : ℕ) (result : Result (Unit {0}) Refusal) (new : State) → Abandons old version dest result new → Tracks start (more ++ []) new
+  abandon_step version dest result new = go (out_refusal old version dest)
+    where
+      go : (o : Option Refusal) → IsAbandonReply o old dest result new → Tracks start (more ++ []) new
+      go (Some refusal) is = unchanged new is.1
+      go None is = subst (λ s. Tracks start (more ++ []) s) (sym is.1) (tasked (put_last dest))
+
+  publish_step : (result : Result ℕ Refusal) (new : State) → Publishes old result new → Tracks start (more ++ []) new
+  publish_step result new is =
+      settled (publish_refusal old) _ result new is
+      (λ r changed. subst (λ s. Tracks start (more ++ []) s) (sym changed.3) (published old.target t.steady changed.0 changed.1))
+
+  track_step : (one : Step) (answer : Reply) (new : State) → Steps old one answer new → Tracks start (more ++ accepted_by one answer) new
+  track_step (step.Post collector seq event) answer new is =
+      subst (λ a. Tracks start (more ++ event_taken event a) new) (sym is.1) (post_step collector seq event is.0 new (is_last old collector seq) is.2)
+  track_step step.Open answer new is = open_step is.0 new is.2
+  track_step step.Take answer new is = take_step is.0 new is.2
+  track_step (step.Give work) answer new is = give_step work is.0 new is.2
+  track_step (step.Abandon version dest) answer new is = abandon_step version dest is.0 new is.2
+  track_step step.Publish answer new is = publish_step is.0 new is.2
+
+-- ---- runs
+
+track_run : (start : State) (steps : List Step) (replies : List Reply) (more : List Event) (old new : State) → Tracks start more old → Runs old steps replies new → Tracks start (more ++ accepted_in steps replies) new
+track_run start [] [] more old new t run = unchanged start more old t new run
+track_run start [] (r ∷ rs) more old new t run = absurd run
+track_run start (s ∷ ss) [] more old new t run = absurd run
+track_run start (s ∷ ss) (r ∷ rs) more old new t run =
+    subst (λ es. Tracks start es new) (append_assoc more (accepted_by s r) (accepted_in ss rs))
+    (track_run start ss rs (more ++ accepted_by s r) run.0 new (track_step start more old t s r run.0 run.1) run.2)
+
+begins : (start : State) → IsSteady start → Tracks start [] start
+begins start steady =
+    let none : start.published.number - start.published.number ≡ 0 = omega arith in
+    record {
+      low = omega arith;
+      within = omega arith;
+      pending = sym (ap (λ k. drop k (start.pending ++ [])) none ∙ append-nil start.pending);
+      network = sym (ap (λ k. replay start.published.network (take k (start.pending ++ []))) none);
+      steady = steady;
+    }
+
+-- at every point of a run the published version is the one of its number
+pub right_throughout : (start : State) → IsSteady start → (steps : List Step) (replies : List Reply) → IsRightThroughout start steps replies
+right_throughout start steady steps replies = λ k mid run. (track_run start (take k steps) (take k replies) [] start mid (begins start steady) run).network
+
+-- a run goes on by one step
+pub runs-push : (old mid new : State) (steps : List Step) (replies : List Reply) (one : Step) (answer : Reply) → Runs old steps replies mid → Steps mid one answer new → Runs old (steps ++ one ∷ []) (replies ++ answer ∷ []) new
+runs-push old mid new [] [] one answer run last = (new, subst (λ s. Steps s one answer new) run last, refl)
+runs-push old mid new (s ∷ ss) (r ∷ rs) one answer run last = (run.0, run.1, runs-push run.0 mid new ss rs one answer run.2 last)
+runs-push old mid new [] (r ∷ rs) one answer run last = absurd run
+runs-push old mid new (s ∷ ss) [] one answer run last = absurd run

@@ -1,0 +1,65 @@
+-- What a desk keeps beside its state.
+use Rattle.std.specs.Prelude.{◌≡◌, ℕ, ◌<◌, ◌≤◌, ◌-◌, ◌^◌, Bool, true, false, List, Option, Some, None, drop, length}
+use Rattle.std.specs.Option.{option_map_or}
+use Rattle.net_data.specs.declared.events.Event.{Event}
+use Rattle.net_data.specs.declared.events.Event.TheVariants as on
+use Rattle.net_data.specs.Network.{Network}
+use Rattle.excerpts.specs.Excerpts.{content_at}
+use Rattle.dirty_sets.specs.Touch.{IsIndex}
+use Rattle.dirty_sets.specs.Marks.{Marked}
+use Rattle.desk_core.specs.Desk.{State, accepted, net_at, net_now, touched_by}
+use Rattle.desk_core.specs.Targets.{OpenNet}
+
+-- a change of a link's marks
+abbrev pub is_link : Event → Bool
+is_link (on.Link id slc change) = true
+is_link (on.AddPoint c kind) = false
+is_link (on.RemovePoint c) = false
+is_link (on.Pair p q) = false
+is_link (on.Unpair p) = false
+is_link (on.AddSet id a b slcs) = false
+is_link (on.RemoveSet id) = false
+is_link (on.AddLink id slc) = false
+is_link (on.RemoveLink id slc) = false
+is_link (on.SetPlan plan) = false
+is_link (on.DropPlan dest) = false
+is_link (on.SetTfr tfr) = false
+
+-- the same index and marks, with other room
+pub record IsSameMarked (old new : Marked) : Type 0 where
+  pub planned : new.index.planned ≡ old.index.planned
+  pub reads : new.index.reads ≡ old.index.reads
+  pub touched : new.touched ≡ old.touched
+
+-- the network of the open target, else of the published version
+abbrev pub fixed : State → Option OpenNet → Network
+fixed s opened = option_map_or (λ (t : OpenNet). t.network) opened s.published.network
+
+-- the accepted events that the open target has, else none
+abbrev pub count : State → Option OpenNet → ℕ
+count s opened = option_map_or (λ (t : OpenNet). t.number - s.published.number) opened 0
+
+-- the accepted events after that network
+abbrev pub since : State → Option OpenNet → List Event
+since s opened = drop (count s opened) s.pending
+
+-- an open target has the accepted events up to its number
+pub record IsAhead (s : State) (t : OpenNet) : Type 0 where
+  pub after : s.published.number ≤ t.number
+  pub within : t.number ≤ accepted s
+  pub network : t.network ≡ net_at s t.number
+
+abbrev pub IsOpened : State → Option OpenNet → Type 0
+IsOpened s None = Unit {0}
+IsOpened s (Some t) = IsAhead s t
+
+-- the network now, what events touched since the network that is fixed, and the limits
+pub record IsInside (s : State) (latest : Network) (marked : Marked) (opened : Option OpenNet) : Type 0 where
+  pub is_now : latest ≡ net_now s
+  pub few : length s.pending ≤ 65536
+  pub counted : accepted s ≤ 2 ^ 64 - 1
+  pub collectors : length s.lasts ≡ 256
+  pub ahead : IsOpened s opened
+  pub index : IsIndex latest marked.index
+  pub since : (x : ℕ) → x < 16384 → marked.touched x ≡ touched_by (fixed s opened) (since s opened) x
+  pub kept : (x : ℕ) → x < 16384 → marked.touched x ≡ false → content_at latest x ≡ content_at (fixed s opened) x

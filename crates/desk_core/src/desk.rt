@@ -1,0 +1,420 @@
+//! The desk.
+
+ghost use Rattle.std.specs.Prelude.{◌≡◌, ◌≢◌, ◌↔◌, IsTrue, ◌<◌, ◌≤◌, ◌+◌, ◌-◌, ◌^◌, [], true, None, Some, Err, OnOk, OnErr, IfOk, IfErr, IsOk, length, replicate, take};
+ghost use Rattle.std.specs.Option.{option_map_or, option_and_then};
+ghost use Rattle.std.specs.Arc.{arc_value};
+ghost use Rattle.net_data.specs.Edits.{refusal_of};
+ghost use Rattle.dirty_sets.specs.Waiting.{least, out, waiting};
+ghost use Rattle.desk_core.specs.Desk.{IsStart, accepted, net_now, no_post};
+ghost use Rattle.desk_core.specs.Steps.{Abandons, Gives, IsNext, IsUnready, Opens, Posts, Publishes, Takes, last_of, left_of, out_refusal, publish_refusal, target_number, with_post, with_version};
+ghost use Rattle.desk_core.specs.Inside.{is_link};
+ghost use Rattle.desk_core.specs.Runs.{IsSteady};
+
+use crate::following::{copy_of, drop_front, follow, make_room};
+use crate::opening::new_target;
+use crate::replies::{Last, Opened, Posted, Refusal};
+use crate::targets::Target;
+use dirty_sets::Touched;
+use net_data::{Event, Net};
+use net_versions::Version;
+use point_codes::PointCode;
+use std::alloc::{AllocError, Global};
+use std::marker::Model;
+use std::sync::Arc;
+use work_units::{Job, Settled};
+
+/// How many accepted events may stand unpublished.
+const BACKLOG_LIMIT: usize = 65536;
+
+/// The desk.
+#[derive(Drop)]
+pub struct Desk {
+    published: Arc<Version>,
+    latest: Net,
+    pending: Vec<Event>,
+    lasts: Vec<Last>,
+    spare: u32,
+    touched: Touched,
+    target: Option<Target>,
+}
+
+impl Model for Desk {
+    ghost use Rattle.std.specs.Prelude.{◌≡◌, ◌+◌, ◌≤◌};
+    ghost use Rattle.std.specs.Arc.{arc_value};
+    ghost use Rattle.std.specs.Option.{option_map};
+    ghost use Rattle.std.specs.Vec.{vec_len, vec_capacity};
+    ghost use Rattle.desk_core.specs.Desk.{State};
+    ghost use Rattle.dirty_sets.specs.Noted.{marked_of};
+    ghost use Rattle.desk_core.specs.Inside.{IsInside};
+
+    ghost Value = { State };
+
+    ghost view = { λ d. record { published = arc_value d.published; pending = d.pending.items; lasts = d.lasts.items; target = option_map (λ t. record { number = t.number; tasks = t.tasks }) d.target; spare = d.spare } };
+
+    ghost invariant = { λ d. record {
+      inside : IsInside (record { published = arc_value d.published; pending = d.pending.items; lasts = d.lasts.items; target = option_map (λ t. record { number = t.number; tasks = t.tasks }) d.target; spare = d.spare }) d.latest (marked_of d.touched) d.target;
+      room : vec_len d.pending + d.spare ≤ vec_capacity d.pending;
+    } };
+}
+
+/// The last posts of 256 collectors that have posted nothing.
+fn no_posts(alloc: Global) -> Result<Vec<Last>, AllocError>
+    ensures { IfOk result (λ v. v.items ≡ replicate 256 no_post) }
+{
+    let mut lasts = Vec::with_capacity(alloc, 256)?;
+    for _ in 0..256usize {
+        lasts.push(Last {
+            seq: 0,
+            number: 0,
+            event: None,
+        })?;
+    }
+    Ok(lasts)
+}
+
+/// Whether an event is that of a last post.
+fn is_same(last: &Last, event: &Event) -> bool
+    ensures { IsTrue result ↔ (Some event.now ≡ last.now.event) }
+{
+    match &last.event {
+        Some(before) => event.equals(before),
+        None => false,
+    }
+}
+
+/// Copies of events.
+fn copies(alloc: Global, events: &[Event]) -> Result<Vec<Event>, AllocError>
+    ensures { IfOk result (λ v. v.items ≡ events.now) }
+{
+    let mut list = Vec::with_capacity(alloc, events.len())?;
+    for event in events {
+        list.push(copy_of(alloc, event)?)?;
+    }
+    Ok(list)
+}
+
+/// The version that a target becomes.
+fn new_version(
+    alloc: Global,
+    target: &Target,
+    published: &Version,
+    pending: &[Event],
+) -> Result<Arc<Version>, AllocError>
+    requires none { target.now.tasks ≡ [] }
+    requires after { published.now.number ≤ target.now.number }
+    requires within { target.now.number - published.now.number ≤ length pending.now }
+    ensures { IfOk result (λ v. arc_value v ≡ record { number = target.now.number; batch = take (target.now.number - published.now.number) pending.now; network = target.now.network }) }
+{
+    let count = (target.number() - published.number()) as usize;
+    let batch = copies(alloc, &pending[..count])?;
+    let routings = target.routings(alloc)?;
+    let net = target.net().share()?;
+    Ok(Arc::new(alloc, Version::new(target.number(), batch, net, routings))?)
+}
+
+impl Desk {
+    /// A desk over a network: version 0, and nothing accepted.
+    pub fn start(alloc: Global, net: Net) -> Result<Desk, AllocError>
+        ensures { IfOk result (IsStart net) }
+    {
+        let latest = net.copy(alloc)?;
+        let touched = Touched::new(alloc, &net)?;
+        let lasts = no_posts(alloc)?;
+        let version = Version::opening(alloc, net)?;
+        Ok(Desk {
+            published: Arc::new(alloc, version)?,
+            latest,
+            pending: Vec::new(alloc),
+            lasts,
+            spare: 0,
+            touched,
+            target: None,
+        })
+    }
+
+    /// The fact that the type keeps of an open target. It does nothing when it runs.
+    pub(crate) fn steady(&self)
+        ensures { IsSteady self.now }
+    {
+        // The proof reads the type's invariant from this.
+        let _spare = self.spare;
+    }
+
+    /// How many events are accepted.
+    pub fn accepted(&self) -> u64
+        ensures { result ≡ accepted self.now }
+    {
+        self.published.number() + self.pending.len() as u64
+    }
+
+    /// The published version.
+    pub fn published(&self) -> &Arc<Version>
+        ensures { arc_value result.now ≡ self.now.published }
+    {
+        &self.published
+    }
+
+    /// The number of the open target.
+    pub fn target(&self) -> Option<u64>
+        ensures { result ≡ target_number self.now }
+    {
+        match &self.target {
+            Some(target) => Some(target.number()),
+            None => None,
+        }
+    }
+
+    /// How many destinations wait.
+    pub fn waiting(&self) -> usize
+        ensures { result ≡ option_map_or (λ t. length (waiting t.tasks)) self.now.target 0 }
+    {
+        match &self.target {
+            Some(target) => target.waiting(),
+            None => 0,
+        }
+    }
+
+    /// The least destination that is out.
+    pub fn first_out(&self) -> Option<PointCode>
+        ensures { result ≡ option_and_then (λ t. least (out t.tasks)) self.now.target }
+    {
+        match &self.target {
+            Some(target) => target.first_out(),
+            None => None,
+        }
+    }
+
+    /// The sequence number of a collector's last accepted post, 0 if it has none.
+    pub fn last_seq(&self, collector: u8) -> u64
+        ensures { result ≡ (last_of self.now collector).seq }
+    {
+        self.lasts[usize::from(collector)].seq
+    }
+
+    /// The network after all accepted events.
+    pub fn net_now(&self) -> &Net
+        ensures { result.now ≡ net_now self.now }
+    {
+        &self.latest
+    }
+
+    /// How many more posts of changes of links take no memory.
+    pub fn spare(&self) -> u32
+        ensures { result ≡ self.now.spare }
+    {
+        self.spare
+    }
+
+    /// Makes room for that many posts of changes of links.
+    pub fn reserve(&mut self, n: u32) -> Result<(), AllocError>
+        requires { n ≤ 65536 }
+        ensures ok { OnOk result ((n ≤ self.new.spare) × (self.new ≡ record self.old { spare = self.new.spare })) }
+        ensures err { OnErr result (self.new ≡ self.old) }
+    {
+        if n > self.spare {
+            self.pending.reserve(n as usize)?;
+            self.spare = n;
+        }
+        Ok(())
+    }
+
+    /// One post of a collector.
+    pub fn post(
+        &mut self,
+        alloc: Global,
+        collector: u8,
+        seq: u64,
+        event: Event,
+    ) -> Result<Posted, Refusal>
+        ensures step { Posts self.old collector seq event result self.new }
+        ensures no_memory { is_link event ≡ true → 0 < self.old.spare → result ≢ Err Refusal.OutOfMemory }
+    {
+        let last = &self.lasts[usize::from(collector)];
+        if seq == 0 || seq < last.seq {
+            return Err(Refusal::Old(last.seq));
+        }
+        if seq == last.seq {
+            if is_same(last, &event) {
+                return Ok(Posted::Again(last.number));
+            }
+            return Err(Refusal::Clash);
+        }
+        if seq - 1 > last.seq {
+            return Err(Refusal::Gap(last.seq + 1));
+        }
+        if self.accepted() == u64::MAX {
+            return Err(Refusal::EndOfNumbers);
+        }
+        if self.pending.len() >= BACKLOG_LIMIT {
+            return Err(Refusal::BacklogFull);
+        }
+        if let Some(refusal) = self.latest.refusal_of(&event) {
+            return Err(Refusal::Edit(refusal));
+        }
+        match self.accept(alloc, collector, seq, event) {
+            Ok(number) => Ok(Posted::Taken(number)),
+            Err(_) => Err(Refusal::OutOfMemory),
+        }
+    }
+
+    /// An event goes last, and is its collector's last post. Memory first, so that a refusal leaves all as it was.
+    fn accept(
+        &mut self,
+        alloc: Global,
+        collector: u8,
+        seq: u64,
+        event: Event,
+    ) -> Result<u64, AllocError>
+        requires edit { refusal_of (net_now self.old) event ≡ None }
+        requires few { length self.old.pending < 65536 }
+        requires counted { accepted self.old + 1 < 2 ^ 64 }
+        ensures ok { IfOk result (λ number. (number ≡ accepted self.old + 1) × (self.new ≡ with_post self.old collector seq event)) }
+        ensures err { IfErr result (λ refused. self.new ≡ self.old) }
+        ensures no_memory { is_link event ≡ true → 0 < self.old.spare → IsOk result }
+    {
+        self.latest.validity();
+        let number = self.accepted() + 1;
+        let copy = copy_of(alloc, &event)?;
+        make_room(&mut self.pending, self.spare)?;
+        follow(alloc, &mut self.latest, &mut self.touched, &event)?;
+        match self.pending.push(event) {
+            Ok(()) => {}
+            Err(_) => unreachable!(),
+        }
+        self.lasts[usize::from(collector)] = Last {
+            seq,
+            number,
+            event: Some(copy),
+        };
+        self.spare = self.spare.saturating_sub(1);
+        Ok(number)
+    }
+
+    /// Freezes the accepted events as the target.
+    pub fn open(&mut self, alloc: Global) -> Result<Opened, Refusal>
+        ensures { Opens self.old result self.new }
+    {
+        if self.target.is_some() {
+            return Err(Refusal::Busy);
+        }
+        if self.pending.is_empty() {
+            return Err(Refusal::Nothing);
+        }
+        self.latest.validity();
+        let number = self.accepted();
+        match new_target(alloc, number, &self.latest, &self.touched, &self.published) {
+            Ok(target) => {
+                let opened = Opened {
+                    target: number,
+                    waiting: target.waiting(),
+                };
+                self.touched.clear();
+                self.target = Some(target);
+                Ok(opened)
+            }
+            Err(_) => Err(Refusal::OutOfMemory),
+        }
+    }
+
+    /// A job for the first destination that waits.
+    pub fn take(&mut self) -> Result<Job, Refusal>
+        ensures { Takes self.old result self.new }
+    {
+        match &mut self.target {
+            Some(target) => target.take(),
+            None => Err(Refusal::Nothing),
+        }
+    }
+
+    /// Why a result or an abandonment is refused, but for what it read.
+    fn refusal_out(&self, version: u64, dest: PointCode) -> Option<Refusal>
+        ensures { result ≡ out_refusal self.now version dest }
+    {
+        match &self.target {
+            Some(target) => {
+                if target.number() != version {
+                    Some(Refusal::Stale(Some(target.number())))
+                } else if !target.is_out(dest) {
+                    Some(Refusal::Unasked)
+                } else {
+                    None
+                }
+            }
+            None => Some(Refusal::Stale(None)),
+        }
+    }
+
+    /// Takes in a result, or hands it back. It takes no memory.
+    pub fn give(&mut self, settled: Settled) -> Result<(), (Settled, Refusal)>
+        ensures { Gives self.old settled result self.new }
+    {
+        if let Some(refusal) = self.refusal_out(settled.version(), settled.dest()) {
+            return Err((settled, refusal));
+        }
+        match &mut self.target {
+            Some(target) => {
+                if !target.is_of(&settled) {
+                    return Err((settled, Refusal::Differs));
+                }
+                target.fill(settled);
+                Ok(())
+            }
+            None => Err((settled, Refusal::Stale(None))),
+        }
+    }
+
+    /// A destination that is out waits again, last. It takes no memory.
+    pub fn abandon(&mut self, version: u64, dest: PointCode) -> Result<(), Refusal>
+        ensures { Abandons self.old version dest result self.new }
+    {
+        if let Some(refusal) = self.refusal_out(version, dest) {
+            return Err(refusal);
+        }
+        match &mut self.target {
+            Some(target) => {
+                target.put_back(dest);
+                Ok(())
+            }
+            None => Err(Refusal::Stale(None)),
+        }
+    }
+
+    /// The version that the target becomes, where nothing waits and nothing is out.
+    pub fn ready(&self, alloc: Global) -> Result<Arc<Version>, Refusal>
+        ensures ready { IfOk result (λ version. (publish_refusal self.now ≡ None) × IsNext self.now (arc_value version)) }
+        ensures refused { IfErr result (IsUnready (publish_refusal self.now)) }
+    {
+        let Some(target) = &self.target else {
+            return Err(Refusal::NotOpen);
+        };
+        if target.left() > 0 {
+            return Err(Refusal::NotReady(target.left()));
+        }
+        match new_version(alloc, target, &self.published, &self.pending) {
+            Ok(version) => Ok(version),
+            Err(_) => Err(Refusal::OutOfMemory),
+        }
+    }
+
+    /// A version becomes the published one. It takes no memory.
+    pub fn seal(&mut self, version: Arc<Version>)
+        requires next { IsNext self.old (arc_value version) }
+        requires none { left_of self.old ≡ 0 }
+        ensures { self.new ≡ with_version self.old (arc_value version) }
+    {
+        let count = (version.number() - self.published.number()) as usize;
+        drop_front(&mut self.pending, count);
+        self.published = version;
+        self.target = None;
+    }
+
+    /// Publishes the target.
+    pub fn publish(&mut self, alloc: Global) -> Result<u64, Refusal>
+        ensures { Publishes self.old result self.new }
+    {
+        let version = self.ready(alloc)?;
+        let number = version.number();
+        self.seal(version);
+        Ok(number)
+    }
+}

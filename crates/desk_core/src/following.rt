@@ -1,0 +1,113 @@
+//! The network now, and what events touch, kept together.
+
+ghost use Rattle.std.specs.Prelude.{◌≡◌, ◌<◌, ◌≤◌, ◌+◌, true, None, IfOk, IsOk, OnOk, OnErr, length, drop};
+ghost use Rattle.std.specs.Vec.{vec_len, vec_capacity};
+ghost use Rattle.net_data.specs.Edits.{changed, refusal_of};
+ghost use Rattle.dirty_sets.specs.Touch.{IsIndex};
+ghost use Rattle.dirty_sets.specs.Marks.{IsNoted};
+ghost use Rattle.dirty_sets.specs.Noted.{marked_of};
+ghost use Rattle.desk_core.specs.Inside.{is_link, IsSameMarked};
+
+use dirty_sets::Touched;
+use net_data::{Event, Net};
+use std::alloc::{AllocError, Global};
+
+/// A copy of an event. It takes no memory for a change of a link.
+pub(crate) fn copy_of(alloc: Global, event: &Event) -> Result<Event, AllocError>
+    ensures copy { IfOk result (λ e. e ≡ event.now) }
+    ensures no_memory { is_link event.now ≡ true → IsOk result }
+{
+    match event {
+        Event::Link(id, slc, change) => Ok(Event::Link(*id, *slc, *change)),
+        other => other.copy(alloc),
+    }
+}
+
+/// Applies an accepted change of a link. It takes no memory.
+fn follow_link(alloc: Global, latest: &mut Net, touched: &mut Touched, event: &Event)
+    requires index { IsIndex latest.old (marked_of touched.old).index }
+    requires accepted { refusal_of latest.old event.now ≡ None }
+    requires link { is_link event.now ≡ true }
+    ensures latest { latest.new ≡ changed latest.old event.now }
+    ensures noted { IsNoted latest.old event.now (marked_of touched.old) (marked_of touched.new) }
+{
+    touched.note(latest, event);
+    match latest.apply(alloc, event) {
+        Ok(()) => {}
+        Err(_) => unreachable!(),
+    }
+}
+
+/// Applies an accepted event. Memory first, so that a refusal leaves all as it was.
+fn follow_edit(
+    alloc: Global,
+    latest: &mut Net,
+    touched: &mut Touched,
+    event: &Event,
+) -> Result<(), AllocError>
+    requires index { IsIndex latest.old (marked_of touched.old).index }
+    requires accepted { refusal_of latest.old event.now ≡ None }
+    ensures latest { OnOk result (latest.new ≡ changed latest.old event.now) }
+    ensures noted { OnOk result (IsNoted latest.old event.now (marked_of touched.old) (marked_of touched.new)) }
+    ensures kept { OnErr result (latest.new ≡ latest.old) }
+    ensures same { OnErr result (IsSameMarked (marked_of touched.old) (marked_of touched.new)) }
+{
+    touched.make_room()?;
+    let mut after = latest.copy(alloc)?;
+    if after.apply(alloc, event).is_err() {
+        return Err(AllocError);
+    }
+    touched.note(latest, event);
+    *latest = after;
+    Ok(())
+}
+
+/// Applies an accepted event. A refusal of memory leaves all as it was, and a change of a link meets none.
+pub(crate) fn follow(
+    alloc: Global,
+    latest: &mut Net,
+    touched: &mut Touched,
+    event: &Event,
+) -> Result<(), AllocError>
+    requires index { IsIndex latest.old (marked_of touched.old).index }
+    requires accepted { refusal_of latest.old event.now ≡ None }
+    ensures latest { OnOk result (latest.new ≡ changed latest.old event.now) }
+    ensures noted { OnOk result (IsNoted latest.old event.now (marked_of touched.old) (marked_of touched.new)) }
+    ensures kept { OnErr result (latest.new ≡ latest.old) }
+    ensures same { OnErr result (IsSameMarked (marked_of touched.old) (marked_of touched.new)) }
+    ensures no_memory { is_link event.now ≡ true → IsOk result }
+{
+    match event {
+        Event::Link(_, _, _) => {
+            follow_link(alloc, latest, touched, event);
+            Ok(())
+        }
+        _ => follow_edit(alloc, latest, touched, event),
+    }
+}
+
+/// Room for one more, where none was reserved.
+pub(crate) fn make_room(pending: &mut Vec<Event>, spare: u32) -> Result<(), AllocError>
+    requires { vec_len pending.old + spare ≤ vec_capacity pending.old }
+    ensures items { pending.new.items ≡ pending.old.items }
+    ensures ok { OnOk result (vec_len pending.new < vec_capacity pending.new) }
+    ensures kept { vec_len pending.new + spare ≤ vec_capacity pending.new }
+    ensures succeeds { 0 < spare → IsOk result }
+{
+    if spare == 0 {
+        pending.reserve(1)?;
+    }
+    Ok(())
+}
+
+/// The events without the first ones. The room stays.
+pub(crate) fn drop_front(pending: &mut Vec<Event>, count: usize)
+    requires { count ≤ length pending.old.items }
+    ensures items { pending.new.items ≡ drop count pending.old.items }
+    ensures len { vec_len pending.new + count ≡ vec_len pending.old }
+    ensures room { vec_capacity pending.new ≡ vec_capacity pending.old }
+{
+    pending.rotate_left(count);
+    let left = pending.len() - count;
+    pending.truncate(left);
+}

@@ -1,0 +1,9 @@
+pub mod UntouchedSets
+pub mod UntouchedPoints
+pub mod UntouchedLaw
+pub mod WaitingEntries
+pub mod WaitingPlaces
+pub mod BitLemmas
+pub mod Changes
+pub mod ReaderLemmas
+pub mod IndexLemmas

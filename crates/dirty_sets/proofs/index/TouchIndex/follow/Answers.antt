@@ -1,0 +1,8 @@
+use Rattle.std.proofs.Common.{ap, ◌∙◌, ℕ, Bool}
+use Rattle.dirty_sets.proofs.index.TouchIndex.follow.Goals as goal
+
+pub update-requires-clause-index : goal.update-requires-clause-index
+update-requires-clause-index c = record {
+  planned = c.in_ok-make_room.ensures.planned ∙ c.requires.index.planned;
+  reads = λ x id small. ap (λ (f : ℕ → ℕ → Bool). f x id) c.in_ok-make_room.ensures.reads ∙ c.requires.index.reads x id small;
+}

@@ -1,0 +1,9 @@
+use Rattle.std.proofs.Common.{◌≡◌, ℕ, ◌||◌, eqb, take}
+use Rattle.std.specs.List.{list_any}
+use Rattle.dirty_sets.specs.declared.readers.Reader.{Reader}
+use Rattle.dirty_sets.specs.Bits.{is_marked}
+use Rattle.dirty_sets.proofs.readers.mark_all.Given as goal
+
+-- those of the readers so far are marked
+abbrev pub invariant-loop-reader : goal.invariant-loop-reader
+invariant-loop-reader l = (x : ℕ) → is_marked l.marks x ≡ (is_marked l.initial.marks x || list_any (λ (r : Reader). eqb r.dest x) (take l.reader-index l.readers))

@@ -1,0 +1,8 @@
+use Rattle.std.proofs.Common.{◌≡◌, false, take, drop}
+use Rattle.std.specs.List.{AllZip}
+use Rattle.dirty_sets.specs.Index.{IsWithId}
+use Rattle.dirty_sets.proofs.readers.remove_set.Given as goal
+
+-- the readers so far have the answer, and the others are as they were
+abbrev pub invariant-loop-reader : goal.invariant-loop-reader
+invariant-loop-reader l = record { done : AllZip (IsWithId l.id (λ x. false)) (take l.reader-index l.initial.readers) (take l.reader-index l.readers); rest : drop l.reader-index l.readers ≡ drop l.reader-index l.initial.readers }

@@ -1,0 +1,99 @@
+//! Which sets the table of a plan reads, as marks.
+
+ghost use Rattle.std.specs.Prelude.{◌≡◌, ◌<◌, ◌&&◌, ◌||◌, ℕ, ◌∷◌, [], true, false, is_some, All};
+ghost use Rattle.std.specs.List.{list_any};
+ghost use Rattle.std.specs.Option.{option_map_or};
+ghost use Rattle.net_items.specs.Keyed.{IsRising};
+ghost use Rattle.net_items.specs.Lookups.{joins, row_at, set_at, is_stp as stp_is};
+ghost use Rattle.excerpts.specs.Excerpts.{is_read_by, leads as row_leads};
+ghost use Rattle.dirty_sets.specs.Bits.{is_marked};
+
+use crate::bits::SetIds;
+use excerpts::reading::is_read;
+use net_items::items::{LinkSet, Plan, Point};
+use net_items::lists::Row;
+use net_items::lookups::{find_row, is_stp};
+use plan_rows::uses::is_via;
+use point_codes::PointCode;
+
+/// Whether a row of a point leads to another.
+fn leads(row: &Row, y: PointCode, z: PointCode) -> bool
+    ensures { result ≡ row_leads (row.now ∷ []) y z }
+{
+    row.point == y && is_via(z, row)
+}
+
+/// Whether a set joins a row's point with one of its vias.
+fn row_joins(row: &Row, set: &LinkSet) -> bool
+    ensures { result ≡ list_any (λ vias. list_any (λ via. joins row.now.point via set.now) vias) row.now.classes }
+{
+    leads(row, set.a, set.b) || leads(row, set.b, set.a)
+}
+
+/// Whether a set joins the point of one of the rows with one of its vias.
+fn joins_via(rows: &[Row], set: &LinkSet) -> bool
+    ensures { result ≡ list_any (λ row. list_any (λ vias. list_any (λ via. joins row.point via set.now) vias) row.classes) rows.now }
+{
+    let mut rest = rows;
+    while let Some((row, others)) = rest.split_first() {
+        if row_joins(row, set) {
+            return true;
+        }
+        rest = others;
+    }
+    false
+}
+
+/// Whether a point is a transfer point with a row.
+fn is_planned_transfer(points: &[Point], rows: &[Row], y: PointCode) -> bool
+    requires { IsRising (λ p. p.code) points.now }
+    ensures { result ≡ (stp_is points.now y && is_some (row_at rows.now y)) }
+{
+    is_stp(points, y) && find_row(rows, y).is_some()
+}
+
+/// Whether an end of a set is a transfer point with a row.
+fn has_planned_transfer(points: &[Point], rows: &[Row], set: &LinkSet) -> bool
+    requires { IsRising (λ p. p.code) points.now }
+    ensures { result ≡ ((stp_is points.now set.now.a && is_some (row_at rows.now set.now.a)) || (stp_is points.now set.now.b && is_some (row_at rows.now set.now.b))) }
+{
+    is_planned_transfer(points, rows, set.a) || is_planned_transfer(points, rows, set.b)
+}
+
+/// Whether the table of a plan reads a set, where its rows may stand in any order.
+fn is_read_in_any_order(points: &[Point], plan: &Plan, set: &LinkSet) -> bool
+    requires { IsRising (λ p. p.code) points.now }
+    ensures { result ≡ is_read_by points.now plan.now set.now }
+{
+    let rows = plan.rows.as_slice();
+    has_planned_transfer(points, rows, set) || joins_via(rows, set)
+}
+
+/// Whether the table of a plan reads a set, faster where the rows are told to be in order.
+fn is_read_by_plan(points: &[Point], plan: &Plan, in_order: bool, set: &LinkSet) -> bool
+    requires points_rise { IsRising (λ p. p.code) points.now }
+    requires rows_rise { in_order ≡ true → IsRising (λ r. r.point) plan.now.rows }
+    ensures { result ≡ is_read_by points.now plan.now set.now }
+{
+    if in_order {
+        is_read(points, plan, set)
+    } else {
+        is_read_in_any_order(points, plan, set)
+    }
+}
+
+/// The sets that the table of a plan reads.
+pub fn sets_read(points: &[Point], plan: &Plan, in_order: bool, sets: &[LinkSet]) -> SetIds
+    requires points_rise { IsRising (λ p. p.code) points.now }
+    requires rows_rise { in_order ≡ true → IsRising (λ r. r.point) plan.now.rows }
+    requires sets_rise { IsRising (λ s. s.id) sets.now }
+    requires small { All (λ s. s.id < 4096) sets.now }
+    ensures { (n : ℕ) → is_marked result n ≡ option_map_or (is_read_by points.now plan.now) (set_at sets.now n) false }
+{
+    let mut ids = SetIds::new();
+    for set in sets {
+        let reads = is_read_by_plan(points, plan, in_order, set);
+        ids.put(set.id, reads);
+    }
+    ids
+}

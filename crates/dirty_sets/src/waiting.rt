@@ -1,0 +1,197 @@
+//! What waits for a result, and what is out.
+
+ghost use Rattle.std.specs.Prelude.{◌≡◌, ◌<◌, None, Some, IfOk, MatchOption, if◌then◌else◌, length, slice_get, true, false};
+ghost use Rattle.net_items.specs.Keyed.{IsRising};
+ghost use Rattle.indexmap.specs.IndexMap.{move_index as with_moved};
+ghost use Rattle.dirty_sets.specs.Entries.{task_of, marked, IsAt, IsFirst};
+ghost use Rattle.dirty_sets.specs.Waiting.{all_waiting, first_waiting, is_out as is_task_out, least, lesser, out, put_last as with_last, taken, waiting, without_task};
+
+use indexmap::IndexMap;
+use point_codes::PointCode;
+use std::alloc::{AllocError, Global};
+use std::marker::Model;
+
+/// The destinations that wait for a result, in order, and those that are out (own).
+#[derive(Drop)]
+pub struct Waiting {
+    // The number of each destination, and whether it is out.
+    entries: IndexMap<u16, bool>,
+}
+
+impl Model for Waiting {
+    ghost use Rattle.std.specs.Prelude.{List, ◌<◌};
+    ghost use Rattle.std.specs.List.{AllByRecursion};
+    ghost use Rattle.dirty_sets.specs.Waiting.{Task};
+    ghost use Rattle.dirty_sets.specs.Entries.{tasks_of};
+
+    ghost Value = { List Task };
+
+    ghost view = { λ w. tasks_of w.entries.entries };
+
+    ghost invariant = { λ w. AllByRecursion (λ e. e.0 < 16384) w.entries.entries };
+}
+
+impl Waiting {
+    /// All of these wait, in their order.
+    pub fn fill(alloc: Global, dests: &[PointCode]) -> Result<Waiting, AllocError>
+        requires { IsRising (λ x. x) dests.now }
+        ensures { IfOk result (λ w. w ≡ all_waiting dests.now) }
+    {
+        let mut entries = IndexMap::new(alloc);
+        for dest in dests {
+            entries.insert(dest.number(), false)?;
+        }
+        Ok(Waiting { entries })
+    }
+
+    /// The first that waits.
+    pub fn first(&self) -> Option<PointCode>
+        ensures { result ≡ first_waiting self.now }
+    {
+        let (_, dest) = self.first_place()?;
+        Some(dest)
+    }
+
+    /// The first that waits, which is out from now on.
+    pub fn take_first(&mut self) -> Option<PointCode>
+        ensures first { result ≡ first_waiting self.old }
+        ensures after { self.new ≡ taken self.old }
+    {
+        let (place, dest) = self.first_place()?;
+        self.mark(place, true);
+        Some(dest)
+    }
+
+    /// How many wait.
+    pub fn len(&self) -> usize
+        ensures { result ≡ length (waiting self.now) }
+    {
+        let mut count = 0;
+        for place in 0..self.left() {
+            let (_, is_out) = self.at(place);
+            if !is_out {
+                count += 1;
+            }
+        }
+        count
+    }
+
+    /// How many wait or are out.
+    pub fn left(&self) -> usize
+        ensures { result ≡ length self.now }
+    {
+        self.entries.len()
+    }
+
+    /// The least that is out.
+    pub fn first_out(&self) -> Option<PointCode>
+        ensures { result ≡ least (out self.now) }
+    {
+        let mut first = None;
+        let mut place = self.left();
+        while place > 0 {
+            place -= 1;
+            let (dest, is_out) = self.at(place);
+            if is_out {
+                first = Some(lesser_of(dest, first));
+            }
+        }
+        first
+    }
+
+    /// Whether a destination is out.
+    pub fn is_out(&self, dest: PointCode) -> bool
+        ensures { result ≡ is_task_out self.now dest }
+    {
+        match self.place_of(dest) {
+            Some(place) => self.at(place).1,
+            None => false,
+        }
+    }
+
+    /// A destination that is out waits again, last. It takes no memory.
+    pub fn put_last(&mut self, dest: PointCode)
+        requires { is_task_out self.old dest ≡ true }
+        ensures { self.new ≡ with_last dest self.old }
+    {
+        if let Some(place) = self.place_of(dest) {
+            let last = self.left() - 1;
+            self.move_to(place, last);
+            self.mark(last, false);
+        }
+    }
+
+    /// A destination that is out neither waits nor is out any more. It takes no memory.
+    pub fn done(&mut self, dest: PointCode)
+        requires { is_task_out self.old dest ≡ true }
+        ensures { self.new ≡ without_task dest self.old }
+    {
+        if let Some(place) = self.place_of(dest) {
+            self.entries.shift_remove_index(place);
+        }
+    }
+
+    /// The destination at a place, and whether it is out.
+    fn at(&self, place: usize) -> (PointCode, bool)
+        requires { place < length self.now }
+        ensures { slice_get self.now place ≡ Some (task_of result) }
+    {
+        match self.entries.get_index(place) {
+            Some((number, is_out)) => match PointCode::new(*number) {
+                Some(dest) => (dest, *is_out),
+                None => unreachable!(),
+            },
+            None => unreachable!(),
+        }
+    }
+
+    /// The place of a destination that waits or is out.
+    fn place_of(&self, dest: PointCode) -> Option<usize>
+        ensures { MatchOption result (is_task_out self.now dest ≡ false) (IsAt self.now dest) }
+    {
+        self.entries.get_index_of(&dest.number())
+    }
+
+    /// The place of the first that waits, and its destination.
+    fn first_place(&self) -> Option<(usize, PointCode)>
+        ensures { MatchOption result ((first_waiting self.now ≡ None) × (taken self.now ≡ self.now)) (λ f. IsFirst self.now f.0 f.1) }
+    {
+        for place in 0..self.left() {
+            let (dest, is_out) = self.at(place);
+            if !is_out {
+                return Some((place, dest));
+            }
+        }
+        None
+    }
+
+    /// The one at a place is out, or waits.
+    fn mark(&mut self, place: usize, is_out: bool)
+        requires { place < length self.old }
+        ensures { self.new ≡ marked place is_out self.old }
+    {
+        match self.entries.get_index_mut(place) {
+            Some(out) => *out = is_out,
+            None => unreachable!(),
+        }
+    }
+
+    /// Moves the one at a place to another, and those in between by one place.
+    fn move_to(&mut self, from: usize, to: usize)
+        requires from { from < length self.old }
+        requires to { to < length self.old }
+        ensures { self.new ≡ with_moved self.old from to }
+    {
+        self.entries.move_index(from, to);
+    }
+}
+
+/// The lesser of two destinations, where there is a second.
+fn lesser_of(dest: PointCode, other: Option<PointCode>) -> PointCode
+    ensures { result ≡ lesser dest other }
+{
+    match other {
+        Some(other) if other < dest => other,
+        _ => dest,
+    }
+}
