@@ -1,0 +1,3 @@
+pub mod FormLemmas
+pub mod NumberLemmas
+pub mod PieceLemmas

@@ -1,0 +1,110 @@
+//! The order of a line.
+
+ghost use Rattle.std.specs.Prelude.{◌≡◌, ◌∷◌, map, IfOk};
+ghost use Rattle.orders.specs.Orders.{alone, slot_alone, post_of, order_by, order_of};
+
+use crate::numbers::{read_collector, read_sequence, read_slot};
+use crate::orders::Order;
+use crate::queries::{read_about, read_octets, read_trace};
+use crate::what_ifs::read_events;
+use answers::Asked;
+use event_words::read_event;
+use std::alloc::{AllocError, Global};
+
+/// An order of one word, where no other word comes after it.
+fn only(order: Order, rest: &[&[u8]]) -> Option<Order>
+    ensures { result ≡ alone order (map (λ w. w.now) rest.now) }
+{
+    match rest {
+        [] => Some(order),
+        [_, ..] => None,
+    }
+}
+
+/// `K`.
+fn read_only_slot(words: &[&[u8]]) -> Option<u8>
+    ensures { result ≡ slot_alone (map (λ w. w.now) words.now) }
+{
+    match words {
+        [slot] => read_slot(*slot),
+        [] => None,
+        [_, _, ..] => None,
+    }
+}
+
+/// `C SEQ EVENT`.
+fn read_post(alloc: Global, words: &[&[u8]]) -> Result<Option<Order>, AllocError>
+    ensures { IfOk result (λ order. order ≡ post_of (map (λ w. w.now) words.now)) }
+{
+    match words {
+        [collector, sequence, event @ ..] => {
+            let Some(collector) = read_collector(*collector) else {
+                return Ok(None);
+            };
+            let Some(sequence) = read_sequence(*sequence) else {
+                return Ok(None);
+            };
+            match read_event(alloc, event)? {
+                Some(event) => Ok(Some(Order::Post(collector, sequence, event))),
+                None => Ok(None),
+            }
+        }
+        [] => Ok(None),
+        [_] => Ok(None),
+    }
+}
+
+/// The order of a first word and the words after it.
+fn read_by(
+    alloc: Global,
+    word: &[u8],
+    rest: &[&[u8]],
+    words: &[&[u8]],
+) -> Result<Option<Order>, AllocError>
+    requires { map (λ w. w.now) words.now ≡ word.now ∷ map (λ w. w.now) rest.now }
+    ensures { IfOk result (λ order. order ≡ order_by word.now (map (λ w. w.now) rest.now)) }
+{
+    if word == b"post".as_slice() {
+        read_post(alloc, rest)
+    } else if word == b"open".as_slice() {
+        Ok(only(Order::Open, rest))
+    } else if word == b"take".as_slice() {
+        Ok(read_only_slot(rest).map(Order::Take))
+    } else if word == b"give".as_slice() {
+        Ok(read_only_slot(rest).map(Order::Give))
+    } else if word == b"abandon".as_slice() {
+        Ok(read_only_slot(rest).map(Order::Abandon))
+    } else if word == b"publish".as_slice() {
+        Ok(only(Order::Publish, rest))
+    } else if word == b"sync".as_slice() {
+        Ok(only(Order::Sync, rest))
+    } else if word == b"version".as_slice() {
+        Ok(only(Order::Version, rest))
+    } else if word == b"audit".as_slice() {
+        Ok(only(Order::Audit, rest))
+    } else if word == b"status".as_slice() {
+        Ok(read_about(Asked::Status, rest))
+    } else if word == b"sls".as_slice() {
+        Ok(read_about(Asked::Links, rest))
+    } else if word == b"messages".as_slice() {
+        Ok(read_about(Asked::Messages, rest))
+    } else if word == b"octets".as_slice() {
+        Ok(read_octets(rest))
+    } else if word == b"trace".as_slice() {
+        Ok(read_trace(rest))
+    } else if word == b"whatif".as_slice() {
+        Ok(read_events(alloc, rest)?.map(Order::WhatIf))
+    } else {
+        Ok(read_event(alloc, words)?.map(Order::Event))
+    }
+}
+
+/// The order that the words of a line say. `None` where they are none. It fails where memory is refused.
+pub fn read_order(alloc: Global, words: &[&[u8]]) -> Result<Option<Order>, AllocError>
+    ensures { IfOk result (λ order. order ≡ order_of (map (λ w. w.now) words.now)) }
+{
+    match words {
+        [word, rest @ ..] => read_by(alloc, *word, rest, words),
+        [] => Ok(None),
+    }
+}

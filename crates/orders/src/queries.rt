@@ -1,0 +1,65 @@
+//! Questions about the tables.
+
+ghost use Rattle.std.specs.Prelude.{◌≡◌, map};
+ghost use Rattle.point_codes.specs.Codes.{code_of};
+ghost use Rattle.orders.specs.Orders.{about, about_of, octets_of, trace_of};
+
+use crate::numbers::read_selection;
+use crate::orders::Order;
+use answers::Asked;
+use tokens::read_code;
+
+/// Something of the row of a point in the table of a destination, where both are codes.
+fn ask_about(asked: Asked, y: &[u8], x: &[u8]) -> Option<Order>
+    ensures { result ≡ about asked (code_of y.now) (code_of x.now) }
+{
+    let point = read_code(y)?;
+    let dest = read_code(x)?;
+    Some(Order::About(asked, point, dest))
+}
+
+/// `Y X`.
+pub fn read_about(asked: Asked, words: &[&[u8]]) -> Option<Order>
+    ensures { result ≡ about_of asked (map (λ w. w.now) words.now) }
+{
+    match words {
+        [y, x] => ask_about(asked, *y, *x),
+        [] => None,
+        [_] => None,
+        [_, _, _, ..] => None,
+    }
+}
+
+/// `Y Z X`.
+pub fn read_octets(words: &[&[u8]]) -> Option<Order>
+    ensures { result ≡ octets_of (map (λ w. w.now) words.now) }
+{
+    match words {
+        [y, z, x] => {
+            let to = read_code(*z)?;
+            ask_about(Asked::Octets(to), *y, *x)
+        }
+        [] => None,
+        [_] => None,
+        [_, _] => None,
+        [_, _, _, _, ..] => None,
+    }
+}
+
+/// `Y X S`.
+pub fn read_trace(words: &[&[u8]]) -> Option<Order>
+    ensures { result ≡ trace_of (map (λ w. w.now) words.now) }
+{
+    match words {
+        [y, x, s] => {
+            let point = read_code(*y)?;
+            let dest = read_code(*x)?;
+            let selection = read_selection(*s)?;
+            Some(Order::Trace(point, dest, selection))
+        }
+        [] => None,
+        [_] => None,
+        [_, _] => None,
+        [_, _, _, _, ..] => None,
+    }
+}

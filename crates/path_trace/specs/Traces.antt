@@ -1,0 +1,42 @@
+-- The trace of a signalling link selection through a network, and what an answer tells.
+use Rattle.std.specs.Prelude.{◌≡◌, ◌≢◌, ◌≤◌, ℕ, ◌*◌, List, Option, Some, Result, Ok, Err, MatchResult, length}
+use Rattle.std.specs.Option.{option_map_or}
+use Rattle.route_choice.specs.declared.choices.Far.TheVariants.{Prohibited}
+use Rattle.net_items.specs.declared.items.Plan.{Plan}
+use Rattle.net_items.specs.Lookups.{plan_at, row_at}
+use Rattle.net_data.specs.Network.{Network}
+use Rattle.profile.specs.declared.hops.Hop.{Hop}
+use Rattle.profile.specs.declared.hops.Trace.{Trace}
+use Rattle.profile.specs.Status.{Source, rank_of, status}
+use Rattle.profile.specs.Traces.{trace_of, hops_in, Leads}
+use Rattle.excerpts.specs.Excerpts.{Extract, excerpt_in, network_source, source_of}
+use Rattle.path_trace.specs.declared.faults.TraceFault.{TraceFault}
+use Rattle.path_trace.specs.declared.faults.TraceFault.TheVariants.{OutOfMemory, NoPlan, NoRow}
+
+-- the trace from a point by one plan: refused where it has no row, else its hops, none where it stops
+abbrev pub trace_by : Extract → ℕ → ℕ → Result (Option (List Hop)) TraceFault
+trace_by x y s = option_map_or (λ row. Ok (trace_of (source_of x) y s)) (row_at x.plan.rows y) (Err NoRow)
+
+-- what there is about a trace: refused where the destination has no plan, then where the point has no row; else its hops, none where it stops
+abbrev pub trace_at : Network → ℕ → ℕ → ℕ → Result (Option (List Hop)) TraceFault
+trace_at net y x s = option_map_or (λ plan. trace_by (excerpt_in net plan) y s) (plan_at net.plans x) (Err NoPlan)
+
+-- an answer: the refusal, else the trace, or want of memory
+abbrev pub IsAnswer : Result (Option (List Hop)) TraceFault → Result Trace TraceFault → Type 0
+IsAnswer (Err fault) result = result ≡ Err fault
+IsAnswer (Ok hops) result = MatchResult result (λ trace. hops_in trace ≡ hops) (λ fault. fault ≡ OutOfMemory)
+
+-- hops from a point that isn't prohibited to another, at most twice the rank
+pub record IsWay (src : Source) (y x : ℕ) (hops : List Hop) : Type 0 where
+  pub usable : status src y ≢ Prohibited
+  pub few : length hops ≤ 2 * rank_of src y
+  pub leads : Leads y hops x
+
+-- where a trace stops the status of the point is prohibited, else its hops are a way to the destination
+abbrev pub TellsOf : Source → ℕ → ℕ → Trace → Type 0
+TellsOf src y x (Trace.Reached hops) = IsWay src y x hops
+TellsOf src y x Trace.Stopped = status src y ≡ Prohibited
+
+-- what a trace to a destination tells of a network
+abbrev pub IsTold : Network → ℕ → ℕ → Trace → Type 0
+IsTold net y x trace = (plan : Plan) → plan_at net.plans x ≡ Some plan → TellsOf (network_source net plan) y x trace

@@ -1,0 +1,107 @@
+-- What a list of events would change (own, after Q.704 clause 10).
+use Rattle.std.specs.Prelude.{◌≡◌, ℕ, ◌+◌, Bool, true, false, ◌&&◌, not, List, [], ◌∷◌, Option, Some, None, Result, Ok, Err, if◌then◌else◌, map, ◌⊎◌}
+use Rattle.std.specs.List.{list_any, flat_map}
+use Rattle.std.specs.Option.{option_map, option_map_or, option_and_then}
+use Rattle.link_state.specs.declared.marks.LinkChange.{LinkChange}
+use Rattle.link_state.specs.declared.marks.LinkChange.TheVariants.{Inhibit}
+use Rattle.net_items.specs.declared.items.Plan.{Plan}
+use Rattle.net_items.specs.Keyed.{put}
+use Rattle.net_items.specs.Lookups.{row_at}
+use Rattle.net_data.specs.declared.events.Event.{Event}
+use Rattle.net_data.specs.declared.events.Event.TheVariants as on
+use Rattle.net_data.specs.declared.events.Refusal.TheVariants.{OutOfMemory}
+use Rattle.net_data.specs.Network.{Network}
+use Rattle.net_data.specs.Edits.{refusal_of, changed}
+use Rattle.route_choice.specs.declared.choices.Far.{Far}
+use Rattle.route_choice.specs.declared.choices.Far.TheVariants.{Prohibited}
+use Rattle.route_choice.specs.Routes.{same_far}
+use Rattle.profile.specs.Status.{choice}
+use Rattle.excerpts.specs.Excerpts.{Extract, excerpt_at, source_of}
+use Rattle.what_if.specs.declared.changes.Change.{Change}
+use Rattle.what_if.specs.declared.reports.Refused.{Refused}
+use Rattle.what_if.specs.declared.reports.Report.{Report}
+
+-- the codes of two lists, each once: those of the first put among the second, which rise
+abbrev pub both : List ℕ → List ℕ → List ℕ
+both [] ys = ys
+both (x ∷ xs) ys = both xs (put (λ n. n) x ys)
+
+-- the destinations that are planned
+abbrev pub dests : Network → List ℕ
+dests net = map (λ (p : Plan). p.dest) net.plans
+
+-- the points with a row, where there is a plan
+abbrev pub points : Option Extract → List ℕ
+points x = option_map_or (λ e. map (λ row. row.point) e.plan.rows) x []
+
+-- the status of a point by the table from scratch: none where there is no plan, or no row
+abbrev pub status_of : Option Extract → ℕ → Option Far
+status_of x y = option_and_then (λ e. option_map (λ row. (choice (source_of e) row).status) (row_at e.plan.rows y)) x
+
+-- whether two statuses are the same
+abbrev pub is_same : Option Far → Option Far → Bool
+is_same None None = true
+is_same None (Some g) = false
+is_same (Some f) None = false
+is_same (Some f) (Some g) = same_far f g
+
+-- the change of a point towards a destination, where its status before and after differs
+abbrev pub change_between : Option Extract → Option Extract → ℕ → ℕ → List Change
+change_between old new x y =
+    if is_same (status_of old y) (status_of new y) then []
+    else record { point = y; dest = x; before = status_of old y; after = status_of new y } ∷ []
+
+-- the changes towards a destination, of each point that has a row before or after
+abbrev pub changes_between : Option Extract → Option Extract → ℕ → List Change
+changes_between old new x = flat_map (change_between old new x) (both (points old) (points new))
+
+-- the changes from a network to another, towards each destination that is planned before or after
+abbrev pub changes : Network → Network → List Change
+changes old new = flat_map (λ x. changes_between (excerpt_at old x) (excerpt_at new x) x) (both (dests old) (dests new))
+
+-- allowed or restricted
+abbrev pub is_usable : Option Far → Bool
+is_usable None = false
+is_usable (Some f) = not (same_far f Prohibited)
+
+-- prohibited
+abbrev pub is_prohibited : Option Far → Bool
+is_prohibited None = false
+is_prohibited (Some f) = same_far f Prohibited
+
+-- from allowed or restricted to prohibited
+abbrev pub is_loss : Change → Bool
+is_loss change = is_usable change.before && is_prohibited change.after
+
+-- the inhibition of a link, by either end
+abbrev pub inhibits : LinkChange → Bool
+inhibits (Inhibit end) = true
+inhibits change = false
+
+-- an event that inhibits a link
+abbrev pub is_inhibit : Event → Bool
+is_inhibit (on.Link id slc change) = inhibits change
+is_inhibit event = false
+
+-- the network after the events, one after the other from this place; or the first that is refused, with its place
+abbrev pub after : ℕ → Network → List Event → Result Network Refused
+after place net [] = Ok net
+after place net (event ∷ events) =
+    option_map_or (λ refusal. Err (record { place = place; refusal = refusal })) (refusal_of net event) (after (place + 1) (changed net event) events)
+
+-- what changes from a network to another; denied where an event inhibits a link and something is lost
+abbrev pub report_between : Network → Network → List Event → Report
+report_between old new events = record { changes = changes old new; denied = list_any is_inhibit events && list_any is_loss (changes old new) }
+
+-- what is reported of a network that the events make, or the refusal
+abbrev pub report_after : Network → List Event → Result Network Refused → Result Report Refused
+report_after old events (Ok new) = Ok (report_between old new events)
+report_after old events (Err refused) = Err refused
+
+-- what is reported of the events, made one after the other on the network
+abbrev pub report_of : Network → List Event → Result Report Refused
+report_of net events = report_after net events (after 1 net events)
+
+-- the answer: the report or the refusal; want of memory may be told in the place of either
+abbrev pub IsReported : Network → List Event → Result Report Refused → Type 0
+IsReported net events result = (result ≡ report_of net events) ⊎ (result ≡ Err (record { place = 0; refusal = OutOfMemory }))

@@ -1,0 +1,132 @@
+//! The changes from a network to another.
+
+ghost use Rattle.std.specs.Prelude.{◌≡◌, ◌++◌, IfOk, OnOk, map};
+ghost use Rattle.std.specs.Option.{option_copied};
+ghost use Rattle.excerpts.specs.Excerpts.{excerpt_at};
+ghost use Rattle.what_if.specs.Reports.{changes as the_changes, change_between, changes_between, status_of as the_status};
+
+use crate::changes::{Change, is_same};
+use crate::codes::{dests_of, merged, points_of};
+use excerpts::{Excerpt, ExcerptFault};
+use frozen_nets::Frozen;
+use net_versions::Version;
+use point_codes::PointCode;
+use route_choice::Far;
+use std::alloc::{AllocError, Global};
+use transfer_state::Routing;
+
+/// The status of a point, none where there is no plan or no row.
+fn status_of(routing: Option<&Routing>, point: PointCode) -> Option<Far>
+    ensures { result ≡ the_status (option_copied routing.entry) point }
+{
+    match routing {
+        Some(routing) => match routing.choice(point) {
+            Some(choice) => Some(choice.status),
+            None => None,
+        },
+        None => None,
+    }
+}
+
+/// Adds the change of a point towards a destination, where its status before and after differs.
+fn add_change(
+    before: Option<&Routing>,
+    after: Option<&Routing>,
+    dest: PointCode,
+    point: PointCode,
+    changes: &mut Vec<Change>,
+) -> Result<(), AllocError>
+    ensures { OnOk result (changes.new.items ≡ changes.old.items ++ change_between (option_copied before.entry) (option_copied after.entry) dest point) }
+{
+    let (old, new) = (status_of(before, point), status_of(after, point));
+    if !is_same(old, new) {
+        changes.push(Change {
+            point,
+            dest,
+            before: old,
+            after: new,
+        })?;
+    }
+    Ok(())
+}
+
+/// Adds the changes towards a destination.
+fn add_changes_between(
+    alloc: Global,
+    before: Option<&Routing>,
+    after: Option<&Routing>,
+    dest: PointCode,
+    changes: &mut Vec<Change>,
+) -> Result<(), AllocError>
+    ensures { OnOk result (changes.new.items ≡ changes.old.items ++ changes_between (option_copied before.entry) (option_copied after.entry) dest) }
+{
+    let old_points = points_of(alloc, before)?;
+    let points = merged(old_points.as_slice(), points_of(alloc, after)?)?;
+    for point in points.as_slice() {
+        add_change(before, after, dest, *point, changes)?;
+    }
+    Ok(())
+}
+
+/// The settled routing of an excerpt: the one at hand where it reads the same, else from scratch.
+fn settled(alloc: Global, excerpt: Excerpt, before: Option<&Routing>) -> Result<Routing, AllocError>
+    ensures { IfOk result (λ r. r ≡ excerpt) }
+{
+    if let Some(routing) = before {
+        if excerpt.equals(routing.excerpt()) {
+            return routing.of_same(excerpt);
+        }
+    }
+    match Routing::of(alloc, excerpt) {
+        Ok(routing) => Ok(routing),
+        Err((_, refused)) => Err(refused),
+    }
+}
+
+/// The settled routing towards a destination of a network, where it is planned.
+fn routing_in(
+    alloc: Global,
+    net: &Frozen,
+    dest: PointCode,
+    before: Option<&Routing>,
+) -> Result<Option<Routing>, AllocError>
+    ensures { IfOk result (λ r. r ≡ excerpt_at net.now dest) }
+{
+    match Excerpt::of(net, dest) {
+        Ok(excerpt) => Ok(Some(settled(alloc, excerpt, before)?)),
+        Err(ExcerptFault::NoPlan) => Ok(None),
+        Err(ExcerptFault::OutOfMemory) => Err(AllocError),
+    }
+}
+
+/// Adds the changes towards a destination from a version to a network.
+fn add_changes(
+    alloc: Global,
+    version: &Version,
+    net: &Frozen,
+    dest: PointCode,
+    changes: &mut Vec<Change>,
+) -> Result<(), AllocError>
+    ensures { OnOk result (changes.new.items ≡ changes.old.items ++ changes_between (excerpt_at version.now.network dest) (excerpt_at net.now dest) dest) }
+{
+    let before = version.routing(dest);
+    let after = routing_in(alloc, net, dest, before)?;
+    add_changes_between(alloc, before, after.as_ref(), dest, changes)
+}
+
+/// The changes from a version to a network.
+pub(crate) fn changes_of(
+    alloc: Global,
+    version: &Version,
+    net: &Frozen,
+) -> Result<Vec<Change>, AllocError>
+    ensures { IfOk result (λ v. v.items ≡ the_changes version.now.network net.now) }
+{
+    let old_dests = dests_of(alloc, version.net().net())?;
+    let dests = merged(old_dests.as_slice(), dests_of(alloc, net.net())?)?;
+    let mut changes = Vec::new(alloc);
+    for dest in dests.as_slice() {
+        add_changes(alloc, version, net, *dest, &mut changes)?;
+    }
+    Ok(changes)
+}
