@@ -7,6 +7,8 @@ mod certificate_tests;
 #[cfg(test)]
 mod copy_tests;
 #[cfg(test)]
+mod desk_tests;
+#[cfg(test)]
 mod edit_tests;
 #[cfg(test)]
 mod excerpt_tests;
