@@ -49,6 +49,7 @@ pub record IsAhead (s : State) (t : OpenNet) : Type 0 where
   pub within : t.number ≤ accepted s
   pub network : t.network ≡ net_at s t.number
 
+-- an open target, if there is one, is ahead
 abbrev pub IsOpened : State → Option OpenNet → Type 0
 IsOpened s None = Unit {0}
 IsOpened s (Some t) = IsAhead s t

@@ -27,7 +27,7 @@ IsReply None Changes old result new = MatchResult result (λ reply. Changes repl
 abbrev pub last_of : State → ℕ → Last
 last_of s collector = slice_index_or s.lasts collector no_post
 
--- the sequence number of the last accepted post
+-- whether a sequence number is that of the last accepted post
 abbrev pub is_last : State → ℕ → ℕ → Bool
 is_last s collector seq = not (seq == 0) && seq == (last_of s collector).seq
 
@@ -70,6 +70,7 @@ Posts s collector seq event result new = IsPost (is_last s collector seq) s coll
 
 -- ---- open
 
+-- the refusals of an opening, in their order
 abbrev pub open_refusal : State → Option Refusal
 open_refusal s = first (when (is_some s.target) Busy ∷ when (length s.pending == 0) Nothing ∷ [])
 
@@ -77,6 +78,7 @@ open_refusal s = first (when (is_some s.target) Busy ∷ when (length s.pending 
 abbrev pub with_target : State → State
 with_target s = record s { target = Some (record { number = accepted s; tasks = all_waiting (to_settle s) }) }
 
+-- an opening tells the number of the target, and how many destinations wait
 abbrev pub Opens : State → Result Opened Refusal → State → Type 0
 Opens s result new =
     IsReply (open_refusal s) (λ reply after. (reply ≡ record { target = accepted s; waiting = length (to_settle s) }) × (after ≡ with_target s)) s result new
@@ -95,6 +97,7 @@ with_tasks s change = record s { target = option_map (λ (t : OpenTarget). recor
 abbrev pub IsJobOf : State → ℕ → Work → Type 0
 IsJobOf s x job = MatchOption s.target ⊥ (λ t. (job.version ≡ t.number) × (excerpt_at (net_at s t.number) x ≡ Some job.extract))
 
+-- a job for the first destination that waits, which is out from then on; none where nothing waits
 abbrev pub Takes : State → Result Work Refusal → State → Type 0
 Takes s result new =
     MatchOption (first_of s) ((result ≡ Err Nothing) × (new ≡ s))
@@ -127,6 +130,7 @@ abbrev pub IsGiveReply : Option Refusal → State → Work → Result (Unit {0})
 IsGiveReply (Some refusal) s work result new = (result ≡ Err (work, refusal)) × (new ≡ s)
 IsGiveReply None s work result new = (same : Bool) × (IsTrue same ↔ IsOfTarget s work) × IsGiven same s work result new
 
+-- a result comes in for the version and the destination that it names
 abbrev pub Gives : State → Work → Result (Unit {0}) (Work × Refusal) → State → Type 0
 Gives s work result new = IsGiveReply (out_refusal s work.version work.extract.plan.dest) s work result new
 
@@ -135,6 +139,7 @@ abbrev pub IsAbandonReply : Option Refusal → State → ℕ → Result (Unit {0
 IsAbandonReply (Some refusal) s dest result new = (result ≡ Err refusal) × (new ≡ s)
 IsAbandonReply None s dest result new = (result ≡ Ok tt) × (new ≡ with_tasks s (put_last dest))
 
+-- a destination of a version is abandoned
 abbrev pub Abandons : State → ℕ → ℕ → Result (Unit {0}) Refusal → State → Type 0
 Abandons s version dest result new = IsAbandonReply (out_refusal s version dest) s dest result new
 
@@ -144,6 +149,7 @@ Abandons s version dest result new = IsAbandonReply (out_refusal s version dest)
 abbrev pub left_of : State → ℕ
 left_of s = option_map_or (λ (t : OpenTarget). length t.tasks) s.target 0
 
+-- the refusals of a publication, in their order
 abbrev pub publish_refusal : State → Option Refusal
 publish_refusal s = first (when (not (is_some s.target)) NotOpen ∷ when (not (left_of s == 0)) (NotReady (left_of s)) ∷ [])
 
@@ -160,6 +166,7 @@ abbrev pub IsUnready : Option Refusal → Refusal → Type 0
 IsUnready (Some cause) refusal = refusal ≡ cause
 IsUnready None refusal = refusal ≡ OutOfMemory
 
+-- a publication tells the number of the version
 abbrev pub Publishes : State → Result ℕ Refusal → State → Type 0
 Publishes s result new =
     IsReply (publish_refusal s) (λ number after. (version : Published) × IsNext s version × (number ≡ version.number) × (after ≡ with_version s version)) s result new
