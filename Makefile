@@ -12,6 +12,9 @@ demo: build
 	@echo '$$ route_desk run examples/national.toml < examples/national.script'
 	@$(PROGRAM) run examples/national.toml < examples/national.script
 	@echo
+	@echo '$$ route_desk play examples/national.toml examples/failures.script'
+	@$(PROGRAM) play examples/national.toml examples/failures.script
+	@echo
 	@echo '$$ route_desk check examples/national.toml'
 	@$(PROGRAM) check examples/national.toml
 

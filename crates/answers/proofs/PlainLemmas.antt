@@ -1,5 +1,5 @@
 -- Answers have no line feed before their end.
-use Rattle.std.proofs.Common.{◌≡◌, ℕ, ◌+◌, ◌/◌, ◌%◌, ◌^◌, ◌<◌, ◌==◌, true, cond, List, [], ◌∷◌, ◌++◌, Option, Some, ap, refl, ◌∙◌, arith, codes}
+use Rattle.std.proofs.Common.{◌≡◌, ℕ, ◌+◌, ◌/◌, ◌%◌, ◌^◌, ◌<◌, ◌==◌, true, cond, List, [], ◌∷◌, ◌++◌, Option, Some, None, Result, Ok, Err, IfOk, ap, refl, ◌∙◌, arith, codes}
 use Rattle.std.proofs.lemmas.Bool.{and_parts}
 use Rattle.std.proofs.lemmas.Bool.Decides.{nat_tests}
 use Rattle.std.proofs.lemmas.List.Sums.{sum_by-append}
@@ -14,8 +14,21 @@ use Rattle.point_codes.specs.declared.kinds.MsgKind.{MsgKind}
 use Rattle.profile.specs.declared.tables.Message.{Message}
 use Rattle.route_choice.specs.declared.choices.Far.{Far}
 use Rattle.route_choice.specs.declared.choices.Far.TheVariants.{Allowed, Restricted, Prohibited}
+use Rattle.net_data.specs.declared.events.Refusal.{Refusal}
+use Rattle.net_data.specs.declared.events.Refusal.TheVariants as refusal
+use Rattle.plan_rows.specs.declared.causes.Cause.{Cause}
+use Rattle.plan_rows.specs.declared.causes.Cause.TheVariants as cause
+use Rattle.profile.specs.declared.hops.Hop.{Hop}
+use Rattle.transfer_state.specs.declared.certificate.Clause.{Clause}
+use Rattle.transfer_state.specs.declared.certificate.Clause.TheVariants as clause
+use Rattle.transfer_state.specs.declared.certificate.Complaint.{Complaint}
+use Rattle.what_if.specs.declared.changes.Change.{Change}
 use Rattle.answers.specs.Text.{line_count}
+use Rattle.answers.specs.Audits.{audit_right, clause_letter, complaint_text}
+use Rattle.answers.specs.Refusals.{cause_letter, refusal_name, refusal_values}
 use Rattle.answers.specs.Status.{far_text, member_text}
+use Rattle.answers.specs.Traces.{hop_text}
+use Rattle.answers.specs.WhatIfs.{change_text, status_word}
 use Rattle.answers.specs.Links.{link_text}
 use Rattle.answers.specs.Messages.{kind_text, message_text, octet_text}
 
@@ -94,3 +107,90 @@ plain_head word class plain small =
     let rest = plain_both (codes " class ") (decimal class ++ codes " by") refl number in
     plain_both (codes "status ") (word ++ (codes " class " ++ (decimal class ++ codes " by"))) refl
     (plain_both word (codes " class " ++ (decimal class ++ codes " by")) plain rest)
+
+-- a hop
+pub plain_hop : (hop : Hop) → hop.link.id < 2 ^ 64 → hop.link.slc < 2 ^ 64 → hop.to < 16384 → line_count (hop_text hop) ≡ 0
+plain_hop hop small_id small_slc small_to =
+    let last = plain_both (decimal hop.link.slc) (62 ∷ code_text hop.to) (plain_decimal hop.link.slc small_slc) (plain_code hop.to small_to) in
+    plain_both (decimal hop.link.id) (58 ∷ (decimal hop.link.slc ++ 62 ∷ code_text hop.to)) (plain_decimal hop.link.id small_id) last
+
+-- a status, or none
+pub plain_status : (status : Option Far) → line_count (status_word status) ≡ 0
+plain_status None = refl
+plain_status (Some far) = plain_far far
+
+-- a change
+pub plain_change : (c : Change) → c.point < 16384 → c.dest < 16384 → line_count (change_text c) ≡ 0
+plain_change c small_point small_dest =
+    let statuses = plain_both (status_word c.before) (62 ∷ status_word c.after) (plain_status c.before) (plain_status c.after) in
+    let rest = plain_both (code_text c.dest) (32 ∷ (status_word c.before ++ 62 ∷ status_word c.after)) (plain_code c.dest small_dest) statuses in
+    plain_both (code_text c.point) (47 ∷ (code_text c.dest ++ 32 ∷ (status_word c.before ++ 62 ∷ status_word c.after))) (plain_code c.point small_point) rest
+
+-- the letter of a clause
+pub plain_letter : (c : Clause) → line_count (clause_letter c) ≡ 0
+plain_letter clause.Points = refl
+plain_letter clause.Route = refl
+plain_letter clause.Status = refl
+plain_letter clause.Links = refl
+plain_letter clause.Messages = refl
+
+-- a complaint
+pub plain_complaint : (dest : ℕ) (c : Complaint) → dest < 16384 → c.point < 16384 → line_count (complaint_text dest c) ≡ 0
+plain_complaint dest c small_dest small_point =
+    let rest = plain_both (code_text c.point) (32 ∷ clause_letter c.clause) (plain_code c.point small_point) (plain_letter c.clause) in
+    plain_both (code_text dest) (32 ∷ (code_text c.point ++ 32 ∷ clause_letter c.clause)) (plain_code dest small_dest) rest
+
+-- the name of a refusal
+pub plain_name : (r : Refusal) → line_count (refusal_name r) ≡ 0
+plain_name refusal.OutOfMemory = refl
+plain_name refusal.NoPoint = refl
+plain_name refusal.PointThere = refl
+plain_name refusal.PointUsed = refl
+plain_name refusal.NotStp = refl
+plain_name refusal.Paired = refl
+plain_name refusal.NotPaired = refl
+plain_name refusal.PairUsed = refl
+plain_name refusal.NoSet = refl
+plain_name refusal.SetThere = refl
+plain_name (refusal.Joined id) = refl
+plain_name refusal.SameEnds = refl
+plain_name refusal.BadLinks = refl
+plain_name refusal.NoLink = refl
+plain_name refusal.LinkThere = refl
+plain_name refusal.LastLink = refl
+plain_name refusal.SetUsed = refl
+plain_name refusal.NoPlan = refl
+plain_name (refusal.BadRow point why) = refl
+plain_name refusal.Limit = refl
+
+-- the letter of a cause
+plain_cause : (why : Cause) → line_count (cause_letter why) ≡ 0
+plain_cause cause.IsDest = refl
+plain_cause cause.Twice = refl
+plain_cause cause.NotJoined = refl
+plain_cause cause.ViaTwice = refl
+plain_cause cause.NotLower = refl
+plain_cause cause.ViaMate = refl
+plain_cause cause.BadMate = refl
+plain_cause cause.NoRoute = refl
+
+-- the values of a wrong row
+pub plain_bad_row : (point : ℕ) (why : Cause) → point < 16384 → line_count (refusal_values (refusal.BadRow point why)) ≡ 0
+plain_bad_row point why small = plain_both (code_text point) (32 ∷ cause_letter why) (plain_code point small) (plain_cause why)
+
+-- the value of a set that joins the points
+pub plain_joined : (id : ℕ) → id < 2 ^ 64 → line_count (refusal_values (refusal.Joined id)) ≡ 0
+plain_joined id small = plain_decimal id small
+
+-- the place of a refused event
+pub plain_place : (place : ℕ) → place < 2 ^ 64 → line_count (codes " at " ++ decimal place) ≡ 0
+plain_place place small = plain_both (codes " at ") (decimal place) refl (plain_decimal place small)
+
+-- a number of right tables
+pub plain_audit : (count : ℕ) → count < 2 ^ 64 → line_count (audit_right count) ≡ 0
+plain_audit count small = plain_both (codes "audit ok ") (decimal count) refl (plain_decimal count small)
+
+-- a text that is made, by its bytes
+pub plain_made : {T E : Type 0} (bytes_of : T → List ℕ) (bytes : List ℕ) (made : Result T E) → line_count bytes ≡ 0 → IfOk made (λ t. bytes_of t ≡ bytes) → IfOk made (λ t. line_count (bytes_of t) ≡ 0)
+plain_made bytes_of bytes (Ok t) plain is = ap line_count is ∙ plain
+plain_made bytes_of bytes (Err e) plain is = tt

@@ -1,22 +1,29 @@
--- The answer from an excerpt is the answer from the network.
-use Rattle.std.proofs.Common.{◌≡◌, ℕ, Option, Some, None, Ok, Err, ap, refl, codes}
-use Rattle.std.specs.Option.{option_map}
-use Rattle.net_items.specs.declared.items.Plan.{Plan}
-use Rattle.net_data.specs.Network.{Network}
-use Rattle.profile.specs.Whole.{scratch}
-use Rattle.excerpts.specs.Excerpts.{Extract, IsAnswer, excerpt_in, source_of}
-use Rattle.excerpts.specs.declared.faults.ExcerptFault.TheVariants.{NoPlan}
-use Rattle.answers.specs.declared.rows.Asked.{Asked}
-use Rattle.answers.specs.Rows.{row_in, row_answer, plan_answer}
+-- The octets of a message from the row that is found are those of one from the point.
+use Rattle.std.proofs.Common.{◌≡◌, ◌∙◌, ℕ, ◌==◌, Bool, true, false, eqb, List, [], ◌∷◌, Option, Some, None, option_map, find, ap, sym, refl}
+use Rattle.std.specs.Option.{option_map_or}
+use Rattle.std.proofs.lemmas.Bool.{eqb-true}
+use Rattle.point_codes.specs.Octets.{octets_of}
+use Rattle.profile.specs.declared.tables.Message.{Message}
+use Rattle.profile.specs.declared.tables.RowState.{RowState}
+use Rattle.answers.specs.Messages.{message_to, octets_text, octets_to}
 
--- the plan of the excerpt is the one that was found
-pub with_plan : (asked : Asked) (net : Network) (y : ℕ) (found : Option Plan) (x : Extract) → IsAnswer (option_map (excerpt_in net) found) (Ok x)
-    → row_answer asked net.ni x.plan.dest (row_in (scratch (source_of x)) y) ≡ plan_answer asked net y found
-with_plan asked net y None x is = cc
-with_plan asked net y (Some plan) x is = ap (λ (e : Extract). row_answer asked net.ni e.plan.dest (row_in (scratch (source_of e)) y)) is
+-- a row that is found is of the point
+found_of : (states : List RowState) (y : ℕ) (state : RowState) → find (λ (s : RowState). s.point == y) states ≡ Some state → state.point ≡ y
+found_of [] y state at = cc
+found_of (s ∷ states) y state at = go (eqb s.point y) refl (found_of states y state)
+  where
+    go : (b : Bool) → eqb s.point y ≡ b → (find (λ (s : RowState). s.point == y) states ≡ Some state → state.point ≡ y) → state.point ≡ y
+    go true t rec = let here : Some s ≡ Some state = rw t at at in let same : s ≡ state = cc in ap (λ (q : RowState). q.point) (sym same) ∙ eqb-true s.point y t
+    go false t rec = rec (rw t at at)
 
--- no plan was found
-pub without_plan : (asked : Asked) (net : Network) (y : ℕ) (found : Option Plan) → IsAnswer (option_map (excerpt_in net) found) (Err NoPlan)
-    → codes "refused 26 NoPlan" ≡ plan_answer asked net y found
-without_plan asked net y None is = refl
-without_plan asked net y (Some plan) is = cc
+-- the octets that are said of a point, by its messages
+abbrev pub octets_by : ℕ → ℕ → ℕ → ℕ → List Message → List ℕ
+octets_by ni dest y z messages = octets_text (option_map (λ (m : Message). octets_of ni z y m.kind dest) (message_to messages z))
+
+-- the octets by the messages of the row that is found
+pub octets_found : (ni dest y z : ℕ) (messages : List Message) (no_row : List ℕ) (states : List RowState) (o : Option RowState) → find (λ (s : RowState). s.point == y) states ≡ o → Some messages ≡ option_map (λ (s : RowState). s.messages) o
+    → octets_by ni dest y z messages ≡ option_map_or (λ (s : RowState). octets_text (octets_to ni dest s z)) o no_row
+octets_found ni dest y z messages no_row states None at is = absurd (cc)
+octets_found ni dest y z messages no_row states (Some state) at is =
+    let same : messages ≡ state.messages = cc in
+    ap (octets_by ni dest y z) same ∙ ap (λ k. octets_by ni dest k z state.messages) (sym (found_of states y state at))

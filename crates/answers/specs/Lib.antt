@@ -4,3 +4,6 @@ pub mod Status
 pub mod Links
 pub mod Messages
 pub mod Rows
+pub mod Traces
+pub mod WhatIfs
+pub mod Audits

@@ -1,19 +1,34 @@
-//! What is answered about the settled tables of a network, in text, and how refusals are printed (all own).
+//! What is answered about a published version, in text, and how refusals are printed (all own).
 //!
-//! 1. A question about the row of the point Y in the settled table of the destination X is refused 26 NoPlan where X has no
-//!    plan, then 29 NoRow where Y has no row.
+//! 1. A question about the row of the point Y in the settled table of the destination X is refused 26 NoPlan where X
+//!    has no plan, then 29 NoRow where Y has no row. It is answered by search, with no table made.
 //! 2. What the row uses: `status STATUS class N by CODE CODE`, or `status prohibited` for class 0; class 5 is the mate.
 //! 3. The link of each signalling link selection: `sls` and sixteen times `ID:SLC`, or `sls none` for class 0.
 //! 4. The transfer messages in force from Y: `messages` and `TFA>CODE` for each, in rising code of the receiver.
 //! 5. The octets of the message in force from Y to a point: `octets` and eight times `HH`, or `octets none`.
-//! 6. A refusal is its number, its name and its values. No answer has a line feed.
+//! 6. The trace of a signalling link selection from Y to X: `trace reached` and `ID:SLC>CODE` for each hop, or `trace
+//!    stopped`. It is refused as a question about a row is.
+//! 7. What events would change: `whatif granted` or `whatif denied`, and `Y/X BEFORE>AFTER` for each change, where
+//!    `none` stands for no row; or `refused`, the refusal of the first event that is refused, and `at PLACE`.
+//! 8. A check of every table by the local rule: `audit ok P` for P tables, or `audit bad X Y c` for the first wrong
+//!    one: its destination, and the point and the letter of the first complaint.
+//! 9. A refusal is its number, its name and its values. No answer has a line feed.
 #![tactic(auto)]
 
+pub mod audits;
 mod links;
 mod messages;
 pub mod refusals;
 pub mod rows;
 mod status;
+pub mod traces;
+pub mod what_ifs;
 
+pub use audits::{answer_audit, clause_word, put_complaint};
 pub use refusals::put_refusal;
 pub use rows::{Asked, answer_about};
+pub use traces::answer_trace;
+pub use what_ifs::answer_what_if;
+
+#[cfg(test)]
+mod tests;

@@ -1,11 +1,11 @@
 //! The answer to `sls`.
 
-ghost use Rattle.std.specs.Prelude.{◌≡◌, ◌++◌, IfOk, OnOk, Some, string_bytes};
+ghost use Rattle.std.specs.Prelude.{◌≡◌, ◌==◌, ◌++◌, if◌then◌else◌, IfOk, OnOk, Some, codes, string_bytes};
 ghost use Rattle.std.specs.List.{flat_map};
-ghost use Rattle.answers.specs.Links.{link_text, links_text};
+ghost use Rattle.answers.specs.Links.{link_text};
 ghost use Rattle.answers.specs.Text.{line_count};
 
-use profile::tables::{LinkRef, RowLinks, RowState};
+use profile::tables::{LinkRef, RowLinks};
 use std::alloc::{AllocError, Global};
 
 /// A link after a space, by its set and its signalling link code.
@@ -40,15 +40,16 @@ fn put_links(alloc: Global, text: &mut String, links: &RowLinks) -> Result<(), A
     Ok(())
 }
 
-/// The links of a row in text, in rising signalling link selection.
-pub(crate) fn write_links(alloc: Global, state: &RowState) -> Result<String, AllocError>
-    ensures text { IfOk result (λ text. string_bytes text ≡ links_text state.now) }
+/// The links of a row of a class in text, in rising signalling link selection.
+pub(crate) fn write_links(alloc: Global, class: u8, links: &RowLinks) -> Result<String, AllocError>
+    ensures text { IfOk result (λ text. string_bytes text ≡
+        (if class == 0 then codes "sls none" else codes "sls" ++ flat_map link_text links.now)) }
     ensures plain { IfOk result (λ text. line_count (string_bytes text) ≡ 0) }
 {
-    if state.choice.class == 0 {
+    if class == 0 {
         return String::from_str(alloc, "sls none");
     }
     let mut text = String::from_str(alloc, "sls")?;
-    put_links(alloc, &mut text, &state.links)?;
+    put_links(alloc, &mut text, links)?;
     Ok(text)
 }

@@ -1,12 +1,13 @@
 //! The answers to `messages` and `octets`.
 
-ghost use Rattle.std.specs.Prelude.{◌≡◌, ◌++◌, ◌<◌, IfOk, OnOk, Some, string_bytes};
+ghost use Rattle.std.specs.Prelude.{◌≡◌, ◌++◌, ◌<◌, IfOk, OnOk, Some, option_map, string_bytes};
 ghost use Rattle.std.specs.List.{flat_map};
-ghost use Rattle.answers.specs.Messages.{kind_text, message_text, messages_text, octet_text, octets_text, octets_to};
+ghost use Rattle.point_codes.specs.Octets.{octets_of};
+ghost use Rattle.answers.specs.Messages.{kind_text, message_text, messages_text, octet_text, octets_text, message_to};
 ghost use Rattle.answers.specs.Text.{line_count};
 
 use point_codes::{MsgKind, PointCode, tfm_octets};
-use profile::tables::{Message, Messages, RowState};
+use profile::tables::{Message, Messages};
 use std::alloc::{AllocError, Global};
 
 /// The kind of a message.
@@ -82,22 +83,24 @@ fn put_octets(alloc: Global, text: &mut String, octets: &[u8]) -> Result<(), All
     Ok(())
 }
 
-/// The octets of the message in force from a row's point to another about a destination, in text.
+/// The octets of the message from a point to another about a destination, among the messages in force, in text.
 pub(crate) fn write_octets(
     alloc: Global,
     ni: u8,
     dest: PointCode,
-    state: &RowState,
+    point: PointCode,
+    messages: &Messages,
     z: PointCode,
 ) -> Result<String, AllocError>
     requires { ni < 4 }
-    ensures text { IfOk result (λ text. string_bytes text ≡ octets_text (octets_to ni dest state.now z)) }
+    ensures text { IfOk result (λ text. string_bytes text ≡
+        octets_text (option_map (λ m. octets_of ni z point m.kind dest) (message_to messages.now z))) }
     ensures plain { IfOk result (λ text. line_count (string_bytes text) ≡ 0) }
 {
-    match state.messages.to(z) {
+    match messages.to(z) {
         None => String::from_str(alloc, "octets none"),
         Some(message) => {
-            let octets = tfm_octets(ni, z, state.point, message.kind, dest);
+            let octets = tfm_octets(ni, z, point, message.kind, dest);
             let mut text = String::from_str(alloc, "octets")?;
             put_octets(alloc, &mut text, &octets)?;
             Ok(text)

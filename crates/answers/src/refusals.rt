@@ -2,6 +2,7 @@
 
 ghost use Rattle.std.specs.Prelude.{◌≡◌, ◌++◌, OnOk, string_bytes};
 ghost use Rattle.answers.specs.Refusals.{refusal_name, refusal_values, refusal_text, cause_letter};
+ghost use Rattle.answers.specs.Text.{line_count};
 
 use net_data::events::{Cause, Refusal};
 use point_codes::PointCode;
@@ -80,10 +81,28 @@ fn put_bad_row(
     text.push_str(cause_word(cause))
 }
 
+/// The values of a refusal have no line feed. It does nothing when it runs.
+fn values_are_plain(refusal: &Refusal)
+    ensures { line_count (refusal_values refusal.now) ≡ 0 }
+{
+    // The proof reads the ranges of the values from this.
+    match refusal {
+        Refusal::Joined(id) => {
+            let _id = *id;
+        }
+        Refusal::BadRow(point, _) => {
+            let _number = point.number();
+        }
+        _ => {}
+    }
+}
+
 /// Adds a refusal: its number, its name and its values.
 pub fn put_refusal(alloc: Global, text: &mut String, refusal: &Refusal) -> Result<(), AllocError>
-    ensures { OnOk result (string_bytes text.new ≡ string_bytes text.old ++ refusal_text refusal.now) }
+    ensures text { OnOk result (string_bytes text.new ≡ string_bytes text.old ++ refusal_text refusal.now) }
+    ensures plain { line_count (refusal_text refusal.now) ≡ 0 }
 {
+    values_are_plain(refusal);
     text.push_str(refusal_words(refusal))?;
     put_values(alloc, text, refusal)
 }

@@ -1,20 +1,23 @@
 //! What is asked of the row of a point, in the settled table of a destination.
 
-ghost use Rattle.std.specs.Prelude.{◌≡◌, ◌<◌, IfOk, string_bytes};
-ghost use Rattle.answers.specs.Rows.{row_in, row_text, row_answer, answer_about as the_answer};
+ghost use Rattle.std.specs.Prelude.{◌≡◌, ◌<◌, IfOk, codes, string_bytes};
+ghost use Rattle.std.specs.Option.{option_map_or};
+ghost use Rattle.answers.specs.Rows.{row_in, row_answer, answer_about as the_answer};
+ghost use Rattle.answers.specs.Status.{status_text};
+ghost use Rattle.answers.specs.Links.{links_text};
+ghost use Rattle.answers.specs.Messages.{messages_text, octets_text, octets_to};
 ghost use Rattle.profile.specs.Whole.{scratch};
 ghost use Rattle.excerpts.specs.Excerpts.{source_of};
+ghost use Rattle.transfer_state.specs.Routing.{state_at};
 ghost use Rattle.answers.specs.Text.{line_count};
 
 use crate::links::write_links;
 use crate::messages::{write_messages, write_octets};
 use crate::status::write_status;
-use excerpts::{Excerpt, ExcerptFault};
-use frozen_nets::Frozen;
+use net_versions::Version;
 use point_codes::PointCode;
-use profile::tables::RowState;
 use std::alloc::{AllocError, Global};
-use transfer_state::table_of;
+use transfer_state::Routing;
 
 /// What is asked of a row.
 #[derive(Clone, Copy, Debug, PartialEq, Eq)]
@@ -29,61 +32,107 @@ pub enum Asked {
     Octets(PointCode),
 }
 
-/// What is asked of a row, in text, with the network indicator and the destination.
-fn write_row(
-    alloc: Global,
-    asked: Asked,
-    ni: u8,
-    dest: PointCode,
-    state: &RowState,
-) -> Result<String, AllocError>
-    requires { ni < 4 }
-    ensures text { IfOk result (λ text. string_bytes text ≡ row_text asked ni dest state.now) }
+/// That a point has no row.
+fn write_no_row(alloc: Global) -> Result<String, AllocError>
+    ensures text { IfOk result (λ text. string_bytes text ≡ codes "refused 29 NoRow") }
     ensures plain { IfOk result (λ text. line_count (string_bytes text) ≡ 0) }
 {
-    match asked {
-        Asked::Status => write_status(alloc, &state.choice),
-        Asked::Links => write_links(alloc, state),
-        Asked::Messages => write_messages(alloc, &state.messages),
-        Asked::Octets(z) => write_octets(alloc, ni, dest, state, z),
+    String::from_str(alloc, "refused 29 NoRow")
+}
+
+/// What a point uses by a routing.
+fn answer_status(alloc: Global, routing: &Routing, point: PointCode) -> Result<String, AllocError>
+    ensures text { IfOk result (λ text. string_bytes text ≡
+        option_map_or (λ state. status_text state.choice) (state_at routing.now point) (codes "refused 29 NoRow")) }
+    ensures plain { IfOk result (λ text. line_count (string_bytes text) ≡ 0) }
+{
+    match routing.choice(point) {
+        Some(choice) => write_status(alloc, &choice),
+        None => write_no_row(alloc),
     }
 }
 
-/// The answer from the row of a point, without a line feed.
+/// The links of a point by a routing.
+fn answer_links(alloc: Global, routing: &Routing, point: PointCode) -> Result<String, AllocError>
+    ensures text { IfOk result (λ text. string_bytes text ≡
+        option_map_or links_text (state_at routing.now point) (codes "refused 29 NoRow")) }
+    ensures plain { IfOk result (λ text. line_count (string_bytes text) ≡ 0) }
+{
+    match (routing.choice(point), routing.links(point)) {
+        (Some(choice), Some(links)) => write_links(alloc, choice.class, &links),
+        _ => write_no_row(alloc),
+    }
+}
+
+/// The messages in force from a point by a routing.
+fn answer_messages(alloc: Global, routing: &Routing, point: PointCode) -> Result<String, AllocError>
+    ensures text { IfOk result (λ text. string_bytes text ≡
+        option_map_or (λ state. messages_text state.messages) (state_at routing.now point) (codes "refused 29 NoRow")) }
+    ensures plain { IfOk result (λ text. line_count (string_bytes text) ≡ 0) }
+{
+    match routing.messages(alloc, point)? {
+        Some(messages) => write_messages(alloc, &messages),
+        None => write_no_row(alloc),
+    }
+}
+
+/// The octets of the message in force from a point to another by a routing, with the network indicator.
+fn answer_octets(
+    alloc: Global,
+    ni: u8,
+    routing: &Routing,
+    point: PointCode,
+    z: PointCode,
+) -> Result<String, AllocError>
+    requires { ni < 4 }
+    ensures text { IfOk result (λ text. string_bytes text ≡
+        option_map_or (λ state. octets_text (octets_to ni routing.now.plan.dest state z))
+        (state_at routing.now point) (codes "refused 29 NoRow")) }
+    ensures plain { IfOk result (λ text. line_count (string_bytes text) ≡ 0) }
+{
+    match routing.messages(alloc, point)? {
+        Some(messages) => write_octets(alloc, ni, routing.dest(), point, &messages, z),
+        None => write_no_row(alloc),
+    }
+}
+
+/// The answer about the row of a point by a routing.
 fn answer_row(
     alloc: Global,
     asked: Asked,
     ni: u8,
-    excerpt: &Excerpt,
+    routing: &Routing,
     point: PointCode,
 ) -> Result<String, AllocError>
     requires { ni < 4 }
-    ensures text { IfOk result (λ text. string_bytes text ≡ row_answer asked ni excerpt.now.plan.dest (row_in (scratch (source_of excerpt.now)) point)) }
+    ensures text { IfOk result (λ text. string_bytes text ≡
+        row_answer asked ni routing.now.plan.dest (row_in (scratch (source_of routing.now)) point)) }
     ensures plain { IfOk result (λ text. line_count (string_bytes text) ≡ 0) }
 {
-    let table = table_of(alloc, excerpt)?;
-    match table.row(point) {
-        Some(state) => write_row(alloc, asked, ni, excerpt.dest(), state),
-        None => String::from_str(alloc, "refused 29 NoRow"),
+    match asked {
+        Asked::Status => answer_status(alloc, routing, point),
+        Asked::Links => answer_links(alloc, routing, point),
+        Asked::Messages => answer_messages(alloc, routing, point),
+        Asked::Octets(z) => answer_octets(alloc, ni, routing, point, z),
     }
 }
 
-/// The answer about the row of a point in the table of a destination, without a line feed. It is refused 26 NoPlan where
-/// the destination has no plan, then 29 NoRow where the point has no row.
+/// The answer about the row of a point in the table of a destination, without a line feed. It is refused 26 NoPlan
+/// where the destination has no plan, then 29 NoRow where the point has no row.
 pub fn answer_about(
     alloc: Global,
     asked: Asked,
-    net: &Frozen,
+    version: &Version,
     point: PointCode,
     dest: PointCode,
 ) -> Result<String, AllocError>
-    ensures text { IfOk result (λ text. string_bytes text ≡ the_answer asked net.now point dest) }
+    ensures text { IfOk result (λ text. string_bytes text ≡ the_answer asked version.now.network point dest) }
     ensures plain { IfOk result (λ text. line_count (string_bytes text) ≡ 0) }
 {
+    let net = version.net();
     net.validity();
-    match Excerpt::of(net, dest) {
-        Ok(excerpt) => answer_row(alloc, asked, net.net().ni(), &excerpt, point),
-        Err(ExcerptFault::NoPlan) => String::from_str(alloc, "refused 26 NoPlan"),
-        Err(ExcerptFault::OutOfMemory) => Err(AllocError),
+    match version.routing(dest) {
+        Some(routing) => answer_row(alloc, asked, net.net().ni(), routing, point),
+        None => String::from_str(alloc, "refused 26 NoPlan"),
     }
 }

@@ -10,7 +10,7 @@ use route_choice::{Choice, Far};
 use std::alloc::{AllocError, Global};
 
 /// A status.
-fn far_word(far: Far) -> &'static str
+pub(crate) fn far_word(far: Far) -> &'static str
     ensures { result.now ≡ far_text far }
 {
     match far {

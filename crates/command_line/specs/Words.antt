@@ -3,7 +3,7 @@ use Rattle.std.specs.Prelude.{◌≡◌, ◌⊎◌, [], ◌∷◌, List, Option,
 use Rattle.clap.specs.Words.{App, Rule, Row, Text, new_app, new_rule, with_rule, with_subcommand, first_of, Kinds, HasKind}
 use Rattle.clap.specs.declared.error.kind.ErrorKind.TheVariants.{MissingSubcommand}
 use Rattle.command_line.specs.declared.words.Order.{Order}
-use Rattle.command_line.specs.declared.words.Order.TheVariants.{Run, Check}
+use Rattle.command_line.specs.declared.words.Order.TheVariants.{Run, Play, Check}
 use Rattle.command_line.specs.declared.words.WordFault.{WordFault}
 use Rattle.command_line.specs.declared.words.WordFault.TheVariants.{Clap}
 
@@ -19,18 +19,29 @@ save_rule = record (new_rule (codes "save")) { long = Some (codes "save"); value
 abbrev pub run_app : App
 run_app = with_rule (with_rule (new_app (codes "run")) net_rule) save_rule
 
+-- STEPS is required
+abbrev pub steps_rule : Rule
+steps_rule = record (new_rule (codes "steps")) { required = true; value_names = 1 }
+
+-- `play NET STEPS --save FILE`
+abbrev pub play_app : App
+play_app = with_rule (with_rule (with_rule (new_app (codes "play")) net_rule) steps_rule) save_rule
+
 -- `check NET`
 abbrev pub check_app : App
 check_app = with_rule (new_app (codes "check")) net_rule
 
 -- `route_desk`
 abbrev pub desk_app : App
-desk_app = with_subcommand (with_subcommand (new_app (codes "route_desk")) run_app.top) check_app.top
+desk_app = with_subcommand (with_subcommand (with_subcommand (new_app (codes "route_desk")) run_app.top) play_app.top) check_app.top
 
 -- the order is what the subcommand's matches say
 abbrev pub IsOrder : Order → Option (Text × List Row) → Type 0
 IsOrder (Run net save) found =
     (rows : List Row) × (found ≡ Some (codes "run", rows)) × (first_of (codes "net") rows ≡ Some net.now) × (first_of (codes "save") rows ≡ option_map (λ s. s.now) save)
+IsOrder (Play net steps save) found =
+    (rows : List Row) × (found ≡ Some (codes "play", rows)) × (first_of (codes "net") rows ≡ Some net.now)
+    × (first_of (codes "steps") rows ≡ Some steps.now) × (first_of (codes "save") rows ≡ option_map (λ s. s.now) save)
 IsOrder (Check net) found = (rows : List Row) × (found ≡ Some (codes "check", rows)) × (first_of (codes "net") rows ≡ Some net.now)
 
 -- memory was wanting, the words have one of these faults, or a subcommand is missing

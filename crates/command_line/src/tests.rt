@@ -40,6 +40,25 @@ fn runs_and_saves(rt: HostRuntime) -> Result<(), Fail> {
 }
 
 #[test]
+fn plays(rt: HostRuntime) -> Result<(), Fail> {
+    let alloc = rt.alloc();
+    let order = Order::Play {
+        net: "n",
+        steps: "s",
+        save: Some("f"),
+    };
+    assert!(rt;
+        orders(
+            alloc,
+            ["route_desk", "play", "n", "s", "--save", "f"].as_slice(),
+            order
+        )
+    );
+    assert!(rt; read_words(alloc, ["route_desk", "play", "n"].as_slice()).is_err());
+    Ok(())
+}
+
+#[test]
 fn checks(rt: HostRuntime) -> Result<(), Fail> {
     let order = Order::Check { net: "n" };
     assert!(rt; orders(rt.alloc(), ["route_desk", "check", "n"].as_slice(), order));

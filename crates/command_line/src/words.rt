@@ -4,7 +4,7 @@ ghost use Rattle.std.specs.Prelude.{◌≡◌, List, Option, ◌∷◌, IfOk, If
 ghost use Rattle.clap.specs.declared.builder.command.Command.TheViews.{out-Command};
 ghost use Rattle.clap.specs.Words.{app_of, first_of, FailsBy, HasKind, fault_of, found_of, rows_of, subcommand_of, subcommand_rows_of};
 ghost use Rattle.clap.specs.declared.error.kind.ErrorKind.TheVariants.{MissingSubcommand};
-ghost use Rattle.command_line.specs.Words.{check_app, desk_app, run_app, IsOrder, IsWordFault};
+ghost use Rattle.command_line.specs.Words.{check_app, desk_app, play_app, run_app, IsOrder, IsWordFault};
 
 use clap::error::ErrorKind;
 use clap::{Arg, ArgMatches, Command, Error};
@@ -15,9 +15,21 @@ use std::alloc::{AllocError, Global};
 pub enum Order<'a> {
     /// To answer the script on standard input from the network of a file, or of standard input itself where the file's
     /// name is `-`, and to write the network to a file then, where one is named.
-    Run { net: &'a str, save: Option<&'a str> },
+    Run {
+        net: &'a str,
+        save: Option<&'a str>,
+    },
+    /// To answer the script of the file STEPS from the network of a file, and to write the network to a file then, where one is
+    /// named.
+    Play {
+        net: &'a str,
+        steps: &'a str,
+        save: Option<&'a str>,
+    },
     /// To check the settled tables of the network of a file.
-    Check { net: &'a str },
+    Check {
+        net: &'a str,
+    },
 }
 
 /// Why a command line isn't read.
@@ -44,6 +56,29 @@ fn run_command<'a>(alloc: Global) -> Result<Command<'a>, AllocError>
         .arg(save)
 }
 
+/// The command `play`.
+fn play_command<'a>(alloc: Global) -> Result<Command<'a>, AllocError>
+    ensures app { IfOk result (λ c. app_of c ≡ play_app) }
+    ensures local { IfOk result (λ c. (out-Command c).has_globals ≡ false) }
+{
+    let net = Arg::new(alloc, "net")
+        .required(true)
+        .value_name("NET")
+        .help("File with the network");
+    let steps = Arg::new(alloc, "steps")
+        .required(true)
+        .value_name("STEPS")
+        .help("File with the script");
+    let save = Arg::new(alloc, "save").long("save").value_name("FILE").help(
+        "Write the network to this file after a script that ended without a fault",
+    );
+    Command::new(alloc, "play")
+        .about("Answer a script of commands, read from a file")
+        .arg(net)?
+        .arg(steps)?
+        .arg(save)
+}
+
 /// The command `check`.
 fn check_command<'a>(alloc: Global) -> Result<Command<'a>, AllocError>
     ensures app { IfOk result (λ c. app_of c ≡ check_app) }
@@ -63,12 +98,14 @@ fn desk_command<'a>(alloc: Global) -> Result<Command<'a>, AllocError>
     ensures app { IfOk result (λ c. app_of c ≡ desk_app) }
 {
     let run = run_command(alloc)?;
+    let play = play_command(alloc)?;
     let check = check_command(alloc)?;
     Command::new(alloc, "route_desk")
         .about(
             "Settled routing state of a Signalling System No. 7 network (ITU-T Q.704, MTP level 3)",
         )
         .subcommand(run)?
+        .subcommand(play)?
         .subcommand(check)
 }
 
@@ -107,6 +144,11 @@ fn order_of<'a>(matches: &ArgMatches<'a>) -> Option<Order<'a>>
     if name == "run" {
         let save = value_at(inner, "save");
         return Some(Order::Run { net, save });
+    }
+    if name == "play" {
+        let steps = value_at(inner, "steps")?;
+        let save = value_at(inner, "save");
+        return Some(Order::Play { net, steps, save });
     }
     if name == "check" {
         return Some(Order::Check { net });

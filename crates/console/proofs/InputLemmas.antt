@@ -9,12 +9,13 @@ use Rattle.std.specs.Io.KnownBytes.{Consumes, prepend_known}
 use Rattle.std.proofs.KnownBytes.{Appends-nil}
 use Rattle.net_data.specs.Network.{Network}
 use Rattle.net_text.specs.Reading.{Says}
-use Rattle.console.specs.Answers.{answers, after_lines}
-use Rattle.console.specs.Run.{IsWritten, IsDone, Ran}
+use Rattle.desk_console.specs.Console.{Standing, opening as console_opening, net_of}
+use Rattle.console.specs.Answers.{Answered}
+use Rattle.console.specs.Run.{IsOutcome, Ran}
 use Rattle.console.specs.declared.faults.Fault.{Fault}
 use Rattle.console.specs.declared.faults.Fault.TheVariants.{OutOfMemory, Read, Write, Load}
 use Rattle.console.specs.declared.input.Opening.{Opening}
-use Rattle.console.specs.Input.{is_mark, has_mark, before_mark, after_mark, joined, text_part, script_part, HasText, IsWithin, IsLoadFault, IsUnloaded, IsUnopened, IsSplit, IsOpening, IsOpenAt, IsMarkAt, RanInput}
+use Rattle.console.specs.Input.{is_mark, has_mark, before_mark, after_mark, joined, text_part, script_part, HasText, IsWithin, IsLoadFault, IsOpened, IsUnloaded, IsUnopened, IsSplit, IsOpening, IsOpenAt, IsMarkAt, RanInput}
 use Rattle.console.proofs.LineLemmas.{cut_joined, cut_ended, cut_grown}
 
 -- the lines and the rest are the text
@@ -249,10 +250,10 @@ ran_unloaded unread left held o text cause fault lines net opening same is zero 
     }
 
 -- the input ended with the network text
-pub ran_ended : (unread left held : Option (List ℕ)) (o : Opening) (start : Network) (fault : Option Fault) (lines : ℕ) (net : Option Network)
-    → IsOpening unread left o → o.script ≡ None → Says (take o.text o.bytes.items) (Ok start) → lines ≡ 0 → fault ≡ None → net ≡ Some start
+pub ran_ended : (unread left held : Option (List ℕ)) (o : Opening) (c : Standing) (fault : Option Fault) (lines : ℕ) (net : Option Network)
+    → IsOpening unread left o → o.script ≡ None → IsOpened (take o.text o.bytes.items) c → lines ≡ 0 → fault ≡ None → net ≡ Some (net_of c)
     → RanInput unread left held held fault lines net
-ran_ended unread left held o start fault lines net opening no_script says zero none some =
+ran_ended unread left held o c fault lines net opening no_script opened zero none some =
     let split : IsSplit None left o.bytes.items o.text = subst (λ s. IsSplit s left o.bytes.items o.text) no_script opening.split in
     let size = text_length o.bytes.items o.text split.1 opening.text in
     let within = opening.within in
@@ -263,12 +264,16 @@ ran_ended unread left held o start fault lines net opening no_script says zero n
       appended = Appends-nil held;
       counted = zero;
       outcome = inl (record {
-        start = start;
+        start = opened.0;
         whole = inr split.0;
         within = omega arith;
-        says = subst (λ t. Says t (Ok start)) (sym split.1) says;
-        answered = subst (λ f. IsWritten f start (script_part o.bytes.items) []) (sym none) (ap (λ t. answers start (lines_of t)) (sym split.2));
-        done = subst (λ f. IsDone f start left (script_part o.bytes.items) net) (sym none) (split.0, some ∙ ap (λ t. Some (after_lines start (lines_of t))) (sym split.2));
+        says = subst (λ t. Says t (Ok opened.0)) (sym split.1) opened.1;
+        outcome = subst (λ f. IsOutcome f (console_opening opened.0) left (script_part o.bytes.items) [] net) (sym none) (record {
+          at_end = split.0;
+          after = c;
+          answered = subst (λ t. Answered (console_opening opened.0) (lines_of t) [] c) (sym split.2) (refl, opened.2);
+          comes_back = some;
+        });
       });
     }
 
@@ -285,11 +290,11 @@ consumes_first None rest = tt
 consumes_first (Some y) rest = refl
 
 -- the script was run
-pub ran_script : (unread middle left held holds : Option (List ℕ)) (o : Opening) (script : ℕ) (start : Network) (rest : List ℕ) (fault : Option Fault) (lines : ℕ) (net : Option Network)
-    → IsOpening unread middle o → o.script ≡ Some script → Says (take o.text o.bytes.items) (Ok start) → rest ≡ drop script o.bytes.items
-    → Ran start (prepend_known rest middle) left held holds fault lines net
+pub ran_script : (unread middle left held holds : Option (List ℕ)) (o : Opening) (script : ℕ) (c : Standing) (rest : List ℕ) (fault : Option Fault) (lines : ℕ) (net : Option Network)
+    → IsOpening unread middle o → o.script ≡ Some script → IsOpened (take o.text o.bytes.items) c → rest ≡ drop script o.bytes.items
+    → Ran c (prepend_known rest middle) left held holds fault lines net
     → RanInput unread left held holds fault lines net
-ran_script unread middle left held holds o script start rest fault lines net opening some says from ran =
+ran_script unread middle left held holds o script c rest fault lines net opening some opened from ran =
     let bytes = o.bytes.items in
     let split : IsSplit (Some script) middle bytes o.text = subst (λ s. IsSplit s middle bytes o.text) some opening.split in
     let at = split.0 in
@@ -305,12 +310,12 @@ ran_script unread middle left held holds o script start rest fault lines net ope
       appended = ran.appended;
       counted = ran.counted;
       outcome = inl (record {
-        start = start;
+        start = opened.0;
         whole = inl parts.0;
         within = omega arith;
-        says = subst (λ t. Says t (Ok start)) (sym parts.1) says;
-        answered = subst (λ t. IsWritten fault start t ran.written) (sym parts.2) ran.answered;
-        done = subst (λ t. IsDone fault start left t net) (sym parts.2) ran.done;
+        says = subst (λ t. Says t (Ok opened.0)) (sym parts.1) opened.1;
+        outcome = subst (λ t. IsOutcome fault (console_opening opened.0) left t ran.written net) (sym parts.2)
+            (subst (λ d. IsOutcome fault d left ran.read ran.written net) opened.2 ran.outcome);
       });
     }
 

@@ -1,30 +1,22 @@
 -- What the lines of a script do.
-use Rattle.std.specs.Prelude.{ℕ, if◌then◌else◌, List, [], ◌∷◌, ◌++◌}
-use Rattle.net_data.specs.Network.{Network}
+use Rattle.std.specs.Prelude.{◌≡◌, ℕ, Bool, true, false, List, [], ◌∷◌, ◌++◌}
+use Rattle.desk_console.specs.Console.{Standing}
+use Rattle.desk_console.specs.Does.{bad_line}
+use Rattle.desk_console.specs.Commands.{Commands}
 use Rattle.console.specs.Lines.{trimmed, is_too_long, is_silent}
-use Rattle.console.specs.Commands.{Reply, bad_line, command}
 
--- no answer
-abbrev pub silent : Network → Reply
-silent net = record { after = net; text = [] }
+-- a line that is too long, one that gets no answer, and any other; a line feed ends an answer
+abbrev pub IsReply : Bool → Bool → List ℕ → Standing → List ℕ → Standing → Type 0
+IsReply true silent line c text new = (text ≡ bad_line ++ 10 ∷ []) × (new ≡ c)
+IsReply false true line c text new = (text ≡ []) × (new ≡ c)
+IsReply false false line c text new = (answer : List ℕ) × Commands line c answer new × (text ≡ answer ++ 10 ∷ [])
 
--- an answer that a line feed ends
-abbrev pub ended : Reply → Reply
-ended reply = record { after = reply.after; text = reply.text ++ 10 ∷ [] }
+-- what a line does: the text of its answer, and what stands after it
+abbrev pub Replies : List ℕ → Standing → List ℕ → Standing → Type 0
+Replies line = IsReply (is_too_long (trimmed line)) (is_silent (trimmed line)) (trimmed line)
 
--- what a line does
-abbrev pub reply : Network → List ℕ → Reply
-reply net line =
-    if is_too_long (trimmed line) then ended (bad_line net)
-    else if is_silent (trimmed line) then silent net
-    else ended (command net (trimmed line))
-
--- the network after some lines
-abbrev pub after_lines : Network → List (List ℕ) → Network
-after_lines net [] = net
-after_lines net (line ∷ lines) = after_lines (reply net line).after lines
-
--- the answers to some lines, one after the other
-abbrev pub answers : Network → List (List ℕ) → List ℕ
-answers net [] = []
-answers net (line ∷ lines) = (reply net line).text ++ answers (reply net line).after lines
+-- what some lines do, one after the other: the text of all their answers, and what stands after them
+abbrev pub Answered : Standing → List (List ℕ) → List ℕ → Standing → Type 0
+Answered c [] text new = (text ≡ []) × (new ≡ c)
+Answered c (line ∷ lines) text new =
+    (first : List ℕ) × (mid : Standing) × (rest : List ℕ) × Replies line c first mid × Answered mid lines rest new × (text ≡ first ++ rest)

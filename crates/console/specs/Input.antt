@@ -7,7 +7,8 @@ use Rattle.net_text.specs.Reading.{Says}
 use Rattle.net_text.specs.declared.faults.LoadFault.{LoadFault}
 use Rattle.console.specs.Lines.{trimmed, whole_lines, rest_of}
 use Rattle.answers.specs.Text.{line_count}
-use Rattle.console.specs.Run.{IsWritten, IsDone}
+use Rattle.desk_console.specs.Console.{Standing, opening}
+use Rattle.console.specs.Run.{IsOutcome}
 use Rattle.console.specs.declared.faults.Fault.{Fault}
 use Rattle.console.specs.declared.faults.Fault.TheVariants.{OutOfMemory, Read, Write, Load}
 use Rattle.console.specs.declared.input.Opening.{Opening}
@@ -54,14 +55,13 @@ HasText read left = (has_mark (whole_lines read) ≡ true) ⊎ IsAtEnd left
 abbrev pub IsWithin : List ℕ → Type 0
 IsWithin text = length text ≤ 134217728
 
--- the network text says a network, and the script was answered from that
+-- the network text says a network, and the script was answered from a new desk over that
 pub record IsScriptWritten (fault : Option Fault) (read : List ℕ) (left : Option (List ℕ)) (written : List ℕ) (net : Option Network) : Type 0 where
   pub start : Network
   pub whole : HasText read left
   pub within : IsWithin (text_part read)
   pub says : Says (text_part read) (Ok start)
-  pub answered : IsWritten fault start (script_part read) written
-  pub done : IsDone fault start left (script_part read) net
+  pub outcome : IsOutcome fault (opening start) left (script_part read) written net
 
 -- a fault of the text itself: want of memory and of reading are faults of the run
 abbrev pub IsOfText : LoadFault → Type 0
@@ -73,6 +73,10 @@ IsLoadFault text OutOfMemory = Unit {0}
 IsLoadFault text Read = ⊥
 IsLoadFault text Write = ⊥
 IsLoadFault text (Load e) = IsOfText e × Says text (Err e)
+
+-- a text says a network, and a new desk stands over it
+abbrev pub IsOpened : List ℕ → Standing → Type 0
+IsOpened text c = (net : Network) × Says text (Ok net) × (c ≡ opening net)
 
 -- why no network came of what was read
 abbrev pub IsUnloaded : Option Fault → List ℕ → Option (List ℕ) → Type 0

@@ -1,5 +1,4 @@
 pub mod Lines
-pub mod Commands
 pub mod Answers
 pub mod Run
 pub mod Input

@@ -3,8 +3,9 @@ use Rattle.std.specs.Prelude.{◌≡◌, ℕ, ◌<◌, ◌≤◌, Bool, true, fa
 use Rattle.std.specs.Io.KnownBytes.{Consumes, Appends, IsAtEnd}
 use Rattle.net_data.specs.Network.{Network}
 use Rattle.answers.specs.Text.{line_count}
+use Rattle.desk_console.specs.Console.{Standing, net_of}
 use Rattle.console.specs.Lines.{whole_lines, rest_of, lines_of}
-use Rattle.console.specs.Answers.{answers, after_lines}
+use Rattle.console.specs.Answers.{Answered}
 use Rattle.console.specs.declared.faults.Fault.{Fault}
 use Rattle.console.specs.declared.faults.Fault.TheVariants.{OutOfMemory, Read, Write, Load}
 use Rattle.console.specs.declared.lines.Line.{Line}
@@ -24,21 +25,21 @@ abbrev pub IsLine : Line → List ℕ → Type 0
 IsLine line rest = IsKept line.bytes.items line.too_long rest
 
 -- between two bytes: what was written, and then what waits to be written, are the answers to all whole lines of what was read
-pub record IsTaken (start : Network) (read written : List ℕ) (s : Session) : Type 0 where
-  pub answered : written ++ s.answers.items ≡ answers start (whole_lines read)
-  pub state : s.net ≡ after_lines start (whole_lines read)
+pub record IsTaken (start : Standing) (read written : List ℕ) (s : Session) : Type 0 where
+  pub answered : Answered start (whole_lines read) (written ++ s.answers.items) s.state
   pub rest : IsLine s.line (rest_of read)
 
 -- between two reads: the answers to all whole lines of what was read are written
-pub record IsAt (start : Network) (read : List ℕ) (held holds : Option (List ℕ)) (s : Session) : Type 0 where
-  pub appended : Appends held holds (answers start (whole_lines read))
-  pub counted : s.lines ≡ line_count (answers start (whole_lines read))
+pub record IsAt (start : Standing) (read : List ℕ) (held holds : Option (List ℕ)) (s : Session) : Type 0 where
+  pub written : List ℕ
+  pub answered : Answered start (whole_lines read) written s.state
+  pub appended : Appends held holds written
+  pub counted : s.lines ≡ line_count written
   pub none : s.answers.items ≡ []
-  pub state : s.net ≡ after_lines start (whole_lines read)
   pub rest : IsLine s.line (rest_of read)
 
 -- some bytes were read, and the answers to their whole lines are written
-pub record HasAnswered (start : Network) (unread left held holds : Option (List ℕ)) (s : Session) : Type 0 where
+pub record HasAnswered (start : Standing) (unread left held holds : Option (List ℕ)) (s : Session) : Type 0 where
   pub read : List ℕ
   pub consumed : Consumes unread left read
   pub at : IsAt start read held holds s
@@ -50,32 +51,43 @@ CutsOff Read = ⊥
 CutsOff Write = Unit {0}
 CutsOff (Load e) = ⊥
 
+-- the first of some lines were answered, and this is a front of their answers
+pub record IsAnsweredInPart (start : Standing) (asked : List (List ℕ)) (written : List ℕ) : Type 0 where
+  pub done : List (List ℕ)
+  pub left : List (List ℕ)
+  pub whole : asked ≡ done ++ left
+  pub text : List ℕ
+  pub after : Standing
+  pub answered : Answered start done text after
+  pub front : IsFrontOf written text
+
 -- a run that ended within the answers to some lines
-pub record IsCutOff (start : Network) (asked : List (List ℕ)) (held holds : Option (List ℕ)) (lines : ℕ) : Type 0 where
+pub record IsCutOff (start : Standing) (asked : List (List ℕ)) (held holds : Option (List ℕ)) (lines : ℕ) : Type 0 where
   pub written : List ℕ
   pub appended : Appends held holds written
-  pub front : IsFrontOf written (answers start asked)
+  pub part : IsAnsweredInPart start asked written
   pub counted : lines ≡ line_count written
 
--- what was written after these bytes were read, by the fault that ended the run
-abbrev pub IsWritten : Option Fault → Network → List ℕ → List ℕ → Type 0
-IsWritten None start read written = written ≡ answers start (lines_of read)
-IsWritten (Some Read) start read written = written ≡ answers start (whole_lines read)
-IsWritten (Some Write) start read written = IsFrontOf written (answers start (lines_of read))
-IsWritten (Some OutOfMemory) start read written = IsFrontOf written (answers start (lines_of read))
-IsWritten (Some (Load e)) start read written = ⊥
+-- all lines were answered to the end, and the network that comes back is the one after their events
+pub record IsWhole (start : Standing) (left : Option (List ℕ)) (read written : List ℕ) (net : Option Network) : Type 0 where
+  pub at_end : IsAtEnd left
+  pub after : Standing
+  pub answered : Answered start (lines_of read) written after
+  pub comes_back : net ≡ Some (net_of after)
 
--- without a fault all was read, and the network that comes back is the one after all lines
-abbrev pub IsDone : Option Fault → Network → Option (List ℕ) → List ℕ → Option Network → Type 0
-IsDone None start left read net = IsAtEnd left × (net ≡ Some (after_lines start (lines_of read)))
-IsDone (Some fault) start left read net = net ≡ None
+-- what was written after these bytes were read, by the fault that ended the run, and the network that comes back
+abbrev pub IsOutcome : Option Fault → Standing → Option (List ℕ) → List ℕ → List ℕ → Option Network → Type 0
+IsOutcome None start left read written net = IsWhole start left read written net
+IsOutcome (Some Read) start left read written net = ((after : Standing) × Answered start (whole_lines read) written after) × (net ≡ None)
+IsOutcome (Some Write) start left read written net = IsAnsweredInPart start (lines_of read) written × (net ≡ None)
+IsOutcome (Some OutOfMemory) start left read written net = IsAnsweredInPart start (lines_of read) written × (net ≡ None)
+IsOutcome (Some (Load e)) start left read written net = ⊥
 
--- a run from a network: some bytes were read, and the answers to them were written
-pub record Ran (start : Network) (unread left held holds : Option (List ℕ)) (fault : Option Fault) (lines : ℕ) (net : Option Network) : Type 0 where
+-- a run from a start: some bytes were read, and the answers to them were written
+pub record Ran (start : Standing) (unread left held holds : Option (List ℕ)) (fault : Option Fault) (lines : ℕ) (net : Option Network) : Type 0 where
   pub read : List ℕ
   pub consumed : Consumes unread left read
   pub written : List ℕ
   pub appended : Appends held holds written
-  pub answered : IsWritten fault start read written
   pub counted : lines ≡ line_count written
-  pub done : IsDone fault start left read net
+  pub outcome : IsOutcome fault start left read written net

@@ -1,13 +1,13 @@
 //! The check of all tables of a network.
 
 ghost use Rattle.std.specs.Prelude.{◌≡◌, IfOk, length, string_bytes, true};
-ghost use Rattle.console.specs.Checking.{clause_letter, right_text, wrong_text, verdict_text};
+ghost use Rattle.console.specs.Checking.{right_text, wrong_text, verdict_text};
 
 use all_tables::{Wrong, check_tables, tables_of};
+use answers::put_complaint;
 use frozen_nets::Frozen;
 use std::alloc::{AllocError, Global};
 use std::thread::Threads;
-use transfer_state::Clause;
 
 /// A check of all tables, as it is answered.
 #[derive(Debug, Drop)]
@@ -18,27 +18,13 @@ pub struct CheckEnd {
     pub right: bool,
 }
 
-/// The letter of what is wrong.
-fn clause_word(clause: Clause) -> &'static str
-    ensures { result.now ≡ clause_letter clause }
-{
-    match clause {
-        Clause::Points => "a",
-        Clause::Route => "b",
-        Clause::Status => "c",
-        Clause::Links => "d",
-        Clause::Messages => "e",
-    }
-}
-
 /// The first wrong table in text.
 fn write_wrong(alloc: Global, wrong: Wrong) -> Result<String, AllocError>
     ensures { IfOk result (λ text. string_bytes text ≡ wrong_text wrong) }
 {
-    let Wrong { dest, complaint } = wrong;
-    let point = complaint.point;
-    let word = clause_word(complaint.clause);
-    format!(in alloc; "bad {dest} {point} {word}")
+    let mut text = String::from_str(alloc, "bad ")?;
+    put_complaint(alloc, &mut text, wrong.dest, wrong.complaint)?;
+    Ok(text)
 }
 
 /// What is said of that many tables, in text.

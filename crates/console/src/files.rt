@@ -6,7 +6,7 @@ ghost use Rattle.console.specs.Input.{HasReadAll, HasNotReadAll, HasLoaded, HasN
 use crate::faults::Fault;
 use crate::input::{TEXT_LIMIT, load_text};
 use crate::script::{CHUNK, READ_LIMIT};
-use frozen_nets::Frozen;
+use net_data::Net;
 use std::alloc::Global;
 use std::io::{ErrorKind, Read};
 
@@ -38,7 +38,7 @@ fn read_all<R: Read>(alloc: Global, reader: &mut R) -> Result<Vec<u8>, Fault>
 }
 
 /// Reads a network text to its end, and loads it. A text of more than 134,217,728 bytes is refused as `Read`.
-pub fn read_net<R: Read>(alloc: Global, reader: &mut R) -> Result<Frozen, Fault>
+pub fn read_net<R: Read>(alloc: Global, reader: &mut R) -> Result<Net, Fault>
     ensures { MatchResult result (HasLoaded (R.remaining reader.old) (R.remaining reader.new)) (HasNotLoaded (R.remaining reader.old) (R.remaining reader.new)) }
 {
     let bytes = match read_all(alloc, reader) {

@@ -2,15 +2,18 @@
 
 ghost use Rattle.std.specs.Prelude.{◌≡◌, ℕ, ◌*◌, ◌≤◌, ◌++◌, List, length, take, [], IfOk, OnOk, MatchResult, IfSome, Option, None, Some, Ok, ◌∷◌, codes, false};
 ghost use Rattle.std.specs.Io.KnownBytes.{Consumes, IsAtEnd};
+ghost use Rattle.net_data.specs.Network.{Network};
 ghost use Rattle.net_text.specs.Reading.{Says};
+ghost use Rattle.desk_console.specs.Console.{opening};
 ghost use Rattle.console.specs.Lines.{whole_lines, rest_of};
-ghost use Rattle.console.specs.Input.{is_mark, has_mark, IsOpenAt, IsMarkAt, IsOpening, IsUnopened, IsLoadFault, RanInput, text_part, script_part};
+ghost use Rattle.console.specs.Input.{is_mark, has_mark, IsOpenAt, IsMarkAt, IsOpening, IsUnopened, IsLoadFault, IsOpened, RanInput, text_part, script_part};
 
 use crate::faults::Fault;
 use crate::lines::without_return;
-use crate::script::{CHUNK, READ_LIMIT, ScriptEnd};
+use crate::script::{CHUNK, READ_LIMIT, ScriptEnd, ended_by};
 use crate::session::Session;
-use frozen_nets::Frozen;
+use desk_console::Console;
+use net_data::Net;
 use net_text::{LoadFault, load};
 use std::alloc::{AllocError, Global};
 use std::io::{ErrorKind, Read, Write};
@@ -173,49 +176,47 @@ fn read_text<R: Read>(alloc: Global, reader: &mut R) -> Result<Opening, Fault>
     Err(Fault::Read)
 }
 
-/// The end of a run without a network.
-fn unloaded(fault: Fault) -> ScriptEnd
-    ensures lines { result.lines ≡ 0 }
-    ensures fault { result.fault ≡ Some fault }
-    ensures net { result.net ≡ None }
-{
-    ScriptEnd {
-        lines: 0,
-        fault: Some(fault),
-        net: None,
-    }
-}
-
 /// The network that a text says.
-pub fn load_text(alloc: Global, text: &[u8]) -> Result<Frozen, Fault>
+pub fn load_text(alloc: Global, text: &[u8]) -> Result<Net, Fault>
     ensures { MatchResult result (λ net. Says text.now (Ok net)) (IsLoadFault text.now) }
 {
     match load(alloc, text) {
-        Ok(net) => match Frozen::new(alloc, net) {
-            Ok(net) => Ok(net),
-            Err(_) => Err(Fault::OutOfMemory),
-        },
+        Ok(net) => Ok(net),
         Err(LoadFault::OutOfMemory) => Err(Fault::OutOfMemory),
         Err(fault) => Err(Fault::Load(fault)),
     }
 }
 
+/// A console with a new desk over the network that a text says.
+fn open_text(alloc: Global, text: &[u8]) -> Result<Console, Fault>
+    ensures { MatchResult result (IsOpened text.now) (IsLoadFault text.now) }
+{
+    let net = match load_text(alloc, text) {
+        Ok(net) => net,
+        Err(fault) => return Err(fault),
+    };
+    match Console::start(alloc, net) {
+        Ok(console) => Ok(console),
+        Err(_) => Err(Fault::OutOfMemory),
+    }
+}
+
 impl Opening {
-    /// Runs the script that comes after the network text, from the network that the text says.
+    /// Runs the script that comes after the network text, from a new desk over the network that the text says.
     fn run<R: Read, W: Write>(
         self,
         alloc: Global,
         reader: &mut R,
         writer: &mut W,
-        net: Frozen,
+        console: Console,
     ) -> ScriptEnd
         requires script { IfSome self.script (λ at. at ≤ length self.bytes.items) }
         requires few { length self.bytes.items ≤ self.reads * 65536 }
         ensures { (unread : Option (List ℕ)) → IsOpening unread (R.remaining reader.old) self
-            → Says (take self.text self.bytes.items) (Ok net)
+            → IsOpened (take self.text self.bytes.items) console
             → RanInput unread (R.remaining reader.new) (W.contents writer.old) (W.contents writer.new) result.fault result.lines result.net }
     {
-        let mut session = Session::new(alloc, net);
+        let mut session = Session::new(alloc, console);
         let at = match self.script {
             Some(at) => at,
             None => return session.done(),
@@ -228,8 +229,8 @@ impl Opening {
     }
 }
 
-/// Reads a network text up to the line `%%`, and then a script to its end, whose lines are answered from that network
-/// before more is read. Without that line the whole input is the network text. Nothing is written unless the network
+/// Reads a network text up to the line `%%`, and then a script to its end, whose lines are answered from a new desk over
+/// that network before more is read. Without that line the whole input is the network text. Nothing is written unless the network
 /// text was read and loaded.
 pub fn run_input<R: Read, W: Write>(alloc: Global, reader: &mut R, writer: &mut W) -> ScriptEnd
     ensures { RanInput (R.remaining reader.old) (R.remaining reader.new)
@@ -237,11 +238,11 @@ pub fn run_input<R: Read, W: Write>(alloc: Global, reader: &mut R, writer: &mut 
 {
     let opening = match read_text(alloc, reader) {
         Ok(opening) => opening,
-        Err(fault) => return unloaded(fault),
+        Err(fault) => return ended_by(fault, 0),
     };
-    match load_text(alloc, &opening.bytes[..opening.text]) {
-        Ok(net) => opening.run(alloc, reader, writer, net),
-        Err(fault) => unloaded(fault),
+    match open_text(alloc, &opening.bytes[..opening.text]) {
+        Ok(console) => opening.run(alloc, reader, writer, console),
+        Err(fault) => ended_by(fault, 0),
     }
 }
 

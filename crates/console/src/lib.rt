@@ -4,12 +4,8 @@
 //!    carriage return at a line's end is dropped.
 //! 2. A line of more than 131,072 bytes is answered `refused 62 BadLine`, whatever it holds. Of the others, an empty
 //!    line, a line of spaces alone and a comment, whose first byte is `#`, get no answer.
-//! 3. Every other line gets one line for an answer. Questions about the row of the point Y in the settled table of the
-//!    destination X are refused 26 NoPlan, then 29 NoRow. `status Y X` is answered with what Y uses: `status STATUS class
-//!    N by CODE CODE`, or `status prohibited` for class 0; `sls Y X` with the link of each signalling link selection, as
-//!    `ID:SLC`, or `sls none` for class 0; `messages Y X` with the transfer messages in force from Y, as `TFA>CODE`, in
-//!    rising code of the receiver; `octets Y Z X` with the octets of the message in force from Y to Z, or `octets none`.
-//!    A line that is no command is answered `refused 62 BadLine`.
+//! 3. Every other line gets one line for an answer: what `desk_console` does with it, from a new desk over the network. A run
+//!    without a fault gives back the network after all accepted events.
 //! 4. The answers to the lines of one read are written before more is read.
 //! 5. A run ends early where memory is wanting (1), reading fails (63) or writing fails (64). What was written is then
 //!    a front of the answers. A read that the system interrupts is tried again; after 2^32 reads the run ends with 63.
@@ -22,7 +18,6 @@
 #![tactic(auto)]
 
 pub mod checking;
-mod commands;
 pub mod faults;
 pub mod files;
 pub mod input;
@@ -40,5 +35,7 @@ pub use script::{ScriptEnd, run_script};
 
 #[cfg(test)]
 mod check_tests;
+#[cfg(test)]
+mod script_tests;
 #[cfg(test)]
 mod tests;

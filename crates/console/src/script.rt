@@ -2,13 +2,14 @@
 
 ghost use Rattle.std.specs.Prelude.{◌≡◌, ℕ, ◌+◌, ◌*◌, ◌^◌, ◌<◌, ◌≤◌, List, Option, Some, None};
 ghost use Rattle.std.specs.Io.KnownBytes.{IsAtEnd};
-ghost use Rattle.net_data.specs.Network.{Network};
+ghost use Rattle.desk_console.specs.Console.{Standing, net_of, opening};
 ghost use Rattle.answers.specs.Text.{line_count};
 ghost use Rattle.console.specs.Run.{HasAnswered, Ran};
 
 use crate::faults::Fault;
 use crate::session::Session;
-use frozen_nets::Frozen;
+use desk_console::Console;
+use net_data::Net;
 use std::alloc::Global;
 use std::io::{ErrorKind, Read, Write};
 
@@ -19,8 +20,8 @@ pub struct ScriptEnd {
     pub lines: u64,
     /// Why the run ended early, where it did.
     pub fault: Option<Fault>,
-    /// The network after the script; none after a fault.
-    pub net: Option<Frozen>,
+    /// The network after all accepted events; none after a fault.
+    pub net: Option<Net>,
 }
 
 /// How many bytes are asked for in one read.
@@ -29,17 +30,30 @@ pub const CHUNK: usize = 65536;
 /// The number of reads after which a run gives up.
 pub const READ_LIMIT: u64 = 4294967296;
 
+/// The end of a run by a fault, after that many answers.
+pub(crate) fn ended_by(fault: Fault, lines: u64) -> ScriptEnd
+    ensures lines { result.lines ≡ lines }
+    ensures fault { result.fault ≡ Some fault }
+    ensures net { result.net ≡ None }
+{
+    ScriptEnd {
+        lines,
+        fault: Some(fault),
+        net: None,
+    }
+}
+
 impl Session {
     /// The end of a run that answered all.
     pub fn done(self) -> ScriptEnd
         ensures lines { result.lines ≡ self.lines }
         ensures fault { result.fault ≡ None }
-        ensures net { result.net ≡ Some self.net }
+        ensures net { result.net ≡ Some (net_of self.state) }
     {
         ScriptEnd {
             lines: self.lines,
             fault: None,
-            net: Some(self.net),
+            net: Some(self.state.into_net()),
         }
     }
 
@@ -49,17 +63,13 @@ impl Session {
         ensures fault { result.fault ≡ Some fault }
         ensures net { result.net ≡ None }
     {
-        ScriptEnd {
-            lines: self.lines,
-            fault: Some(fault),
-            net: None,
-        }
+        ended_by(fault, self.lines)
     }
 
     /// Answers a last line that no line feed ends.
     fn finish<W: Write>(mut self, alloc: Global, writer: &mut W) -> ScriptEnd
         requires { self.lines + line_count self.answers.items + 1 < 2 ^ 64 }
-        ensures { (start : Network) (unread left held : Option (List ℕ))
+        ensures { (start : Standing) (unread left held : Option (List ℕ))
             → HasAnswered start unread left held (W.contents writer.old) self → IsAtEnd left
             → Ran start unread left held (W.contents writer.new) result.fault result.lines result.net }
     {
@@ -81,7 +91,7 @@ impl Session {
         reads: u64,
     ) -> ScriptEnd
         requires { self.lines + line_count self.answers.items ≤ reads * 65536 }
-        ensures { (start : Network) (unread held : Option (List ℕ))
+        ensures { (start : Standing) (unread held : Option (List ℕ))
             → HasAnswered start unread (R.remaining reader.old) held (W.contents writer.old) self
             → Ran start unread (R.remaining reader.new) held (W.contents writer.new) result.fault result.lines result.net }
     {
@@ -105,16 +115,19 @@ impl Session {
     }
 }
 
-/// Reads a script to its end, and answers each line before more is read. Changes to the network are those that the
-/// lines say.
+/// Reads a script to its end, and answers each line from a new desk over a network before more is read. The network that
+/// comes back is the one after all accepted events.
 pub fn run_script<R: Read, W: Write>(
     alloc: Global,
     reader: &mut R,
     writer: &mut W,
-    net: Frozen,
+    net: Net,
 ) -> ScriptEnd
-    ensures { Ran net (R.remaining reader.old) (R.remaining reader.new)
+    ensures { Ran (opening net) (R.remaining reader.old) (R.remaining reader.new)
         (W.contents writer.old) (W.contents writer.new) result.fault result.lines result.net }
 {
-    Session::new(alloc, net).read_on(alloc, reader, writer, 0)
+    match Console::start(alloc, net) {
+        Ok(console) => Session::new(alloc, console).read_on(alloc, reader, writer, 0),
+        Err(_) => ended_by(Fault::OutOfMemory, 0),
+    }
 }

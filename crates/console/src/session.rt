@@ -2,24 +2,23 @@
 
 ghost use Rattle.std.specs.Prelude.{◌≡◌, ℕ, ◌+◌, ◌^◌, ◌<◌, ◌≤◌, [], ◌∷◌, ◌++◌, List, length, take, IfOk, IfErr, OnOk, OnErr, Err, string_bytes, Option};
 ghost use Rattle.std.specs.Io.KnownBytes.{Appends};
-ghost use Rattle.net_data.specs.Network.{Network};
+ghost use Rattle.desk_console.specs.Console.{Standing};
 ghost use Rattle.console.specs.Lines.{whole_lines};
-ghost use Rattle.console.specs.Answers.{reply};
+ghost use Rattle.console.specs.Answers.{Replies};
 ghost use Rattle.answers.specs.Text.{line_count};
-ghost use Rattle.console.specs.Run.{IsLine, IsTaken, IsAt, IsCutOff, CutsOff, IsFrontOf};
-ghost use Rattle.console.specs.Answers.{answers};
+ghost use Rattle.console.specs.Run.{IsLine, IsTaken, IsAt, IsAnsweredInPart, IsCutOff, CutsOff};
 
-use crate::commands::run_command;
 use crate::faults::Fault;
 use crate::lines::{LINE_LIMIT, Line, is_quiet, without_return};
-use frozen_nets::Frozen;
+use desk_console::Console;
 use std::alloc::{AllocError, Global};
 use std::io::Write;
 
-/// A network, the line that is being read, the answers that wait to be written, and how many lines were written.
+/// What stands at the console, the line that is being read, the answers that wait to be written, and how many lines were
+/// written.
 #[derive(Drop)]
 pub struct Session {
-    pub net: Frozen,
+    pub state: Console,
     pub line: Line,
     pub answers: Vec<u8>,
     pub lines: u64,
@@ -48,49 +47,48 @@ fn count_lines(text: &[u8]) -> usize
     text.iter().filter(|b| **b == b'\n').count()
 }
 
+/// What a line that is whole now is answered with.
+fn reply(alloc: Global, state: &mut Console, line: &Line) -> Result<String, AllocError>
+    ensures text { IfOk result (λ text. (rest : List ℕ) → IsLine line.now rest → Replies rest state.old (string_bytes text) state.new) }
+    ensures one { IfOk result (λ text. line_count (string_bytes text) ≤ 1) }
+{
+    let bytes = without_return(line.bytes.as_slice());
+    if line.too_long || bytes.len() > LINE_LIMIT {
+        return String::from_str(alloc, "refused 62 BadLine\n");
+    }
+    if is_quiet(bytes) {
+        return Ok(String::new(alloc));
+    }
+    let mut text = state.answer(alloc, bytes)?;
+    text.push('\n')?;
+    Ok(text)
+}
+
 impl Session {
     /// A run that has read nothing.
-    pub fn new(alloc: Global, net: Frozen) -> Session
-        ensures net { result.net ≡ net }
+    pub fn new(alloc: Global, state: Console) -> Session
+        ensures state { result.state ≡ state }
         ensures line { IsLine result.line [] }
         ensures answers { result.answers.items ≡ [] }
         ensures lines { result.lines ≡ 0 }
     {
         Session {
-            net,
+            state,
             line: Line::new(alloc),
             answers: Vec::new(alloc),
             lines: 0,
         }
     }
 
-    /// What the line that is whole now is answered with.
-    fn reply(&self, alloc: Global) -> Result<String, AllocError>
-        ensures text { IfOk result (λ text. (rest : List ℕ) → IsLine self.now.line rest
-            → string_bytes text ≡ (reply self.now.net rest).text) }
-        ensures one { IfOk result (λ text. line_count (string_bytes text) ≤ 1) }
-    {
-        let line = without_return(self.line.bytes.as_slice());
-        if self.line.too_long || line.len() > LINE_LIMIT {
-            return String::from_str(alloc, "refused 62 BadLine\n");
-        }
-        if is_quiet(line) {
-            return Ok(String::new(alloc));
-        }
-        let mut text = run_command(alloc, &self.net, line)?;
-        text.push('\n')?;
-        Ok(text)
-    }
-
     /// Ends the line: its answer waits with the others.
     fn end_line(&mut self, alloc: Global) -> Result<(), AllocError>
-        ensures ok { OnOk result ((start : Network) (read written : List ℕ)
+        ensures ok { OnOk result ((start : Standing) (read written : List ℕ)
             → IsTaken start read written self.old → IsTaken start (read ++ 10 ∷ []) written self.new) }
         ensures err { OnErr result (self.new.answers.items ≡ self.old.answers.items) }
         ensures one { line_count self.new.answers.items ≤ line_count self.old.answers.items + 1 }
         ensures lines { self.new.lines ≡ self.old.lines }
     {
-        let text = self.reply(alloc)?;
+        let text = reply(alloc, &mut self.state, &self.line)?;
         self.answers.extend_from_slice(text.as_bytes())?;
         self.line.clear();
         Ok(())
@@ -98,7 +96,7 @@ impl Session {
 
     /// Takes the next byte.
     fn take(&mut self, alloc: Global, byte: u8) -> Result<(), AllocError>
-        ensures ok { OnOk result ((start : Network) (read written : List ℕ)
+        ensures ok { OnOk result ((start : Standing) (read written : List ℕ)
             → IsTaken start read written self.old → IsTaken start (read ++ byte ∷ []) written self.new) }
         ensures err { OnErr result (self.new.answers.items ≡ self.old.answers.items) }
         ensures one { line_count self.new.answers.items ≤ line_count self.old.answers.items + 1 }
@@ -112,10 +110,10 @@ impl Session {
 
     /// Takes the bytes of one read.
     fn feed(&mut self, alloc: Global, chunk: &[u8]) -> Result<(), AllocError>
-        ensures ok { OnOk result ((start : Network) (read written : List ℕ)
+        ensures ok { OnOk result ((start : Standing) (read written : List ℕ)
             → IsTaken start read written self.old → IsTaken start (read ++ chunk.now) written self.new) }
-        ensures front { (start : Network) (read written : List ℕ) → IsTaken start read written self.old
-            → IsFrontOf (written ++ self.new.answers.items) (answers start (whole_lines (read ++ chunk.now))) }
+        ensures front { (start : Standing) (read written : List ℕ) → IsTaken start read written self.old
+            → IsAnsweredInPart start (whole_lines (read ++ chunk.now)) (written ++ self.new.answers.items) }
         ensures few { line_count self.new.answers.items ≤ line_count self.old.answers.items + length chunk.now }
         ensures lines { self.new.lines ≡ self.old.lines }
     {
@@ -135,7 +133,7 @@ impl Session {
         ensures err { OnErr result ((n : ℕ) × Appends (W.contents writer.old) (W.contents writer.new) (take n self.old.answers.items)
             × (self.new.lines ≡ self.old.lines + line_count (take n self.old.answers.items))) }
         ensures fault { OnErr result (result ≡ Err Fault.Write) }
-        ensures net { self.new.net ≡ self.old.net }
+        ensures state { self.new.state ≡ self.old.state }
         ensures line { self.new.line ≡ self.old.line }
     {
         let written = write_all(writer, self.answers.as_slice());
@@ -155,9 +153,9 @@ impl Session {
         chunk: &[u8],
     ) -> Result<(), Fault>
         requires { self.old.lines + line_count self.old.answers.items + length chunk.now < 2 ^ 64 }
-        ensures ok { OnOk result ((start : Network) (read : List ℕ) (held : Option (List ℕ))
+        ensures ok { OnOk result ((start : Standing) (read : List ℕ) (held : Option (List ℕ))
             → IsAt start read held (W.contents writer.old) self.old → IsAt start (read ++ chunk.now) held (W.contents writer.new) self.new) }
-        ensures err { OnErr result ((start : Network) (read : List ℕ) (held : Option (List ℕ))
+        ensures err { OnErr result ((start : Standing) (read : List ℕ) (held : Option (List ℕ))
             → IsAt start read held (W.contents writer.old) self.old
             → IsCutOff start (whole_lines (read ++ chunk.now)) held (W.contents writer.new) self.new.lines) }
         ensures fault { IfErr result CutsOff }

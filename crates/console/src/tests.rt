@@ -1,20 +1,29 @@
 //! Runs from slow and failing readers and to narrow writers, and inputs that start with a network text.
 
 use crate::{Fault, run_input, run_script, write_fault};
-use frozen_nets::Frozen;
 use net_data::Net;
 use net_text::{Key, LoadFault};
-use std::alloc::{AllocError, Global};
 use std::io;
 use std::io::{ErrorKind, Read, Write};
 use std::test::Fail;
 
 /// Gives one byte at a time, with an interrupted read before each, and fails at the end or ends.
 #[derive(Drop)]
-struct Slow<'a> {
+pub(crate) struct Slow<'a> {
     left: &'a [u8],
     ready: bool,
     fails: bool,
+}
+
+impl<'a> Slow<'a> {
+    /// These bytes, and then the end.
+    pub(crate) fn new(bytes: &'a [u8]) -> Slow<'a> {
+        Slow {
+            left: bytes,
+            ready: false,
+            fails: false,
+        }
+    }
 }
 
 impl<'a> Read for Slow<'a> {
@@ -62,19 +71,11 @@ impl Write for Narrow {
 
 const SCRIPT: &[u8] = b"what\r\n# note\n\n   \nlast";
 
-fn empty(alloc: Global) -> Result<Frozen, AllocError> {
-    Frozen::new(alloc, Net::empty(alloc, 2))
-}
-
 #[test]
 fn slow_reader(rt: HostRuntime) -> Result<(), Fail> {
     let mut out: Vec<u8> = Vec::new(rt.alloc());
-    let mut reader = Slow {
-        left: SCRIPT,
-        ready: false,
-        fails: false,
-    };
-    let end = run_script(rt.alloc(), &mut reader, &mut out, empty(rt.alloc())?);
+    let mut reader = Slow::new(SCRIPT);
+    let end = run_script(rt.alloc(), &mut reader, &mut out, Net::empty(rt.alloc(), 2));
     assert_eq!(rt;
         out.as_slice(),
         b"refused 62 BadLine\nrefused 62 BadLine\n".as_slice()
@@ -92,7 +93,7 @@ fn failing_reader(rt: HostRuntime) -> Result<(), Fail> {
         ready: false,
         fails: true,
     };
-    let end = run_script(rt.alloc(), &mut reader, &mut out, empty(rt.alloc())?);
+    let end = run_script(rt.alloc(), &mut reader, &mut out, Net::empty(rt.alloc(), 2));
     assert_eq!(rt; out.as_slice(), b"refused 62 BadLine\n".as_slice());
     assert_eq!(rt; end.fault, Some(Fault::Read));
     assert!(rt; end.net.is_none());
@@ -103,7 +104,12 @@ fn failing_reader(rt: HostRuntime) -> Result<(), Fail> {
 fn narrow_writer(rt: HostRuntime) -> Result<(), Fail> {
     let mut writer = Narrow { room: 37 };
     let mut reader = SCRIPT;
-    let end = run_script(rt.alloc(), &mut reader, &mut writer, empty(rt.alloc())?);
+    let end = run_script(
+        rt.alloc(),
+        &mut reader,
+        &mut writer,
+        Net::empty(rt.alloc(), 2),
+    );
     assert_eq!(rt; writer.room, 0);
     assert_eq!(rt; end.fault, Some(Fault::Write));
     assert_eq!(rt; end.lines, 1);

@@ -133,7 +133,7 @@ impl Desk {
     }
 
     /// The fact that the type keeps of an open target. It does nothing when it runs.
-    pub(crate) fn steady(&self)
+    pub fn steady(&self)
         ensures { IsSteady self.now }
     {
         // The proof reads the type's invariant from this.
@@ -196,6 +196,13 @@ impl Desk {
         ensures { result.now ≡ net_now self.now }
     {
         &self.latest
+    }
+
+    /// The network after all accepted events, given away.
+    pub fn into_net(self) -> Net
+        ensures { result ≡ net_now self }
+    {
+        self.latest
     }
 
     /// How many more posts of changes of links take no memory.

@@ -8,11 +8,11 @@ ghost use Rattle.net_items.specs.Lookups.{joins, row_at, set_at, is_stp as stp_i
 ghost use Rattle.excerpts.specs.Excerpts.{is_read_by, leads as row_leads};
 ghost use Rattle.dirty_sets.specs.Bits.{is_marked};
 
-use crate::bits::SetIds;
+use crate::bits::{Codes, SetIds};
 use excerpts::reading::is_read;
 use net_items::items::{LinkSet, Plan, Point};
 use net_items::lists::Row;
-use net_items::lookups::{find_row, is_stp};
+use net_items::lookups::is_stp;
 use plan_rows::uses::is_via;
 use point_codes::PointCode;
 
@@ -44,42 +44,48 @@ fn joins_via(rows: &[Row], set: &LinkSet) -> bool
     false
 }
 
-/// Whether a point is a transfer point with a row.
-fn is_planned_transfer(points: &[Point], rows: &[Row], y: PointCode) -> bool
+/// The transfer points with a row, marked.
+fn planned_transfers(points: &[Point], rows: &[Row]) -> Codes
     requires { IsRising (λ p. p.code) points.now }
-    ensures { result ≡ (stp_is points.now y && is_some (row_at rows.now y)) }
+    ensures { (x : ℕ) → is_marked result x ≡ (stp_is points.now x && is_some (row_at rows.now x)) }
 {
-    is_stp(points, y) && find_row(rows, y).is_some()
+    let mut codes = Codes::new();
+    let mut rest = rows;
+    while let Some((row, others)) = rest.split_first() {
+        codes.mark_if(row.point, is_stp(points, row.point));
+        rest = others;
+    }
+    codes
 }
 
-/// Whether an end of a set is a transfer point with a row.
-fn has_planned_transfer(points: &[Point], rows: &[Row], set: &LinkSet) -> bool
-    requires { IsRising (λ p. p.code) points.now }
-    ensures { result ≡ ((stp_is points.now set.now.a && is_some (row_at rows.now set.now.a)) || (stp_is points.now set.now.b && is_some (row_at rows.now set.now.b))) }
-{
-    is_planned_transfer(points, rows, set.a) || is_planned_transfer(points, rows, set.b)
-}
-
-/// Whether the table of a plan reads a set, where its rows may stand in any order.
-fn is_read_in_any_order(points: &[Point], plan: &Plan, set: &LinkSet) -> bool
-    requires { IsRising (λ p. p.code) points.now }
-    ensures { result ≡ is_read_by points.now plan.now set.now }
-{
-    let rows = plan.rows.as_slice();
-    has_planned_transfer(points, rows, set) || joins_via(rows, set)
-}
-
-/// Whether the table of a plan reads a set, faster where the rows are told to be in order.
-fn is_read_by_plan(points: &[Point], plan: &Plan, in_order: bool, set: &LinkSet) -> bool
+/// Whether a set joins the point of a row with one of its vias, faster where the rows are told to be in order.
+fn joins_via_of(points: &[Point], plan: &Plan, in_order: bool, set: &LinkSet) -> bool
     requires points_rise { IsRising (λ p. p.code) points.now }
     requires rows_rise { in_order ≡ true → IsRising (λ r. r.point) plan.now.rows }
-    ensures { result ≡ is_read_by points.now plan.now set.now }
+    ensures some { result ≡ true → is_read_by points.now plan.now set.now ≡ true }
+    ensures none { result ≡ false → list_any (λ row. list_any (λ vias. list_any (λ via. joins row.point via set.now) vias) row.classes) plan.now.rows ≡ false }
 {
     if in_order {
         is_read(points, plan, set)
     } else {
-        is_read_in_any_order(points, plan, set)
+        joins_via(plan.rows.as_slice(), set)
     }
+}
+
+/// Whether the table of a plan reads a set, where its transfer points with a row are marked.
+fn is_read_by_plan(
+    points: &[Point],
+    plan: &Plan,
+    in_order: bool,
+    transfers: &Codes,
+    set: &LinkSet,
+) -> bool
+    requires points_rise { IsRising (λ p. p.code) points.now }
+    requires rows_rise { in_order ≡ true → IsRising (λ r. r.point) plan.now.rows }
+    requires marked { (x : ℕ) → is_marked transfers.now x ≡ (stp_is points.now x && is_some (row_at plan.now.rows x)) }
+    ensures { result ≡ is_read_by points.now plan.now set.now }
+{
+    transfers.has(set.a) || transfers.has(set.b) || joins_via_of(points, plan, in_order, set)
 }
 
 /// The sets that the table of a plan reads.
@@ -91,8 +97,9 @@ pub fn sets_read(points: &[Point], plan: &Plan, in_order: bool, sets: &[LinkSet]
     ensures { (n : ℕ) → is_marked result n ≡ option_map_or (is_read_by points.now plan.now) (set_at sets.now n) false }
 {
     let mut ids = SetIds::new();
+    let transfers = planned_transfers(points, plan.rows.as_slice());
     for set in sets {
-        let reads = is_read_by_plan(points, plan, in_order, set);
+        let reads = is_read_by_plan(points, plan, in_order, &transfers, set);
         ids.put(set.id, reads);
     }
     ids

@@ -1,5 +1,5 @@
 -- What the words of a line order.
-use Rattle.std.specs.Prelude.{ℕ, if◌then◌else◌, List, [], ◌∷◌, Option, Some, None, option_map, option_and_then, codes}
+use Rattle.std.specs.Prelude.{ℕ, ◌<◌, if◌then◌else◌, List, [], ◌∷◌, Option, Some, None, option_map, option_and_then, codes}
 use Rattle.std.specs.List.{slice_split}
 use Rattle.std.specs.Str.{bytes_eq}
 use Rattle.point_codes.specs.Codes.{code_of}
@@ -93,3 +93,11 @@ order_by word rest =
 abbrev pub order_of : List (List ℕ) → Option Order
 order_of (word ∷ rest) = order_by word rest
 order_of [] = None
+
+-- the slot, or the signalling link selection, is within its range
+abbrev pub IsWithin : Order → Type 0
+IsWithin (Order.Take k) = k < 32
+IsWithin (Order.Give k) = k < 32
+IsWithin (Order.Abandon k) = k < 32
+IsWithin (Order.Trace y x s) = s < 16
+IsWithin order = Unit {0}

@@ -1,7 +1,7 @@
 //! The order of a line.
 
-ghost use Rattle.std.specs.Prelude.{◌≡◌, ◌∷◌, map, IfOk};
-ghost use Rattle.orders.specs.Orders.{alone, slot_alone, post_of, order_by, order_of};
+ghost use Rattle.std.specs.Prelude.{◌≡◌, ◌<◌, ◌∷◌, map, IfOk, IfSome};
+ghost use Rattle.orders.specs.Orders.{IsWithin, alone, slot_alone, post_of, order_by, order_of};
 
 use crate::numbers::{read_collector, read_sequence, read_slot};
 use crate::orders::Order;
@@ -13,7 +13,9 @@ use std::alloc::{AllocError, Global};
 
 /// An order of one word, where no other word comes after it.
 fn only(order: Order, rest: &[&[u8]]) -> Option<Order>
-    ensures { result ≡ alone order (map (λ w. w.now) rest.now) }
+    requires { IsWithin order }
+    ensures value { result ≡ alone order (map (λ w. w.now) rest.now) }
+    ensures within { IfSome result IsWithin }
 {
     match rest {
         [] => Some(order),
@@ -23,7 +25,8 @@ fn only(order: Order, rest: &[&[u8]]) -> Option<Order>
 
 /// `K`.
 fn read_only_slot(words: &[&[u8]]) -> Option<u8>
-    ensures { result ≡ slot_alone (map (λ w. w.now) words.now) }
+    ensures value { result ≡ slot_alone (map (λ w. w.now) words.now) }
+    ensures within { IfSome result (λ slot. slot < 32) }
 {
     match words {
         [slot] => read_slot(*slot),
@@ -34,7 +37,8 @@ fn read_only_slot(words: &[&[u8]]) -> Option<u8>
 
 /// `C SEQ EVENT`.
 fn read_post(alloc: Global, words: &[&[u8]]) -> Result<Option<Order>, AllocError>
-    ensures { IfOk result (λ order. order ≡ post_of (map (λ w. w.now) words.now)) }
+    ensures value { IfOk result (λ order. order ≡ post_of (map (λ w. w.now) words.now)) }
+    ensures within { IfOk result (λ order. IfSome order IsWithin) }
 {
     match words {
         [collector, sequence, event @ ..] => {
@@ -62,7 +66,8 @@ fn read_by(
     words: &[&[u8]],
 ) -> Result<Option<Order>, AllocError>
     requires { map (λ w. w.now) words.now ≡ word.now ∷ map (λ w. w.now) rest.now }
-    ensures { IfOk result (λ order. order ≡ order_by word.now (map (λ w. w.now) rest.now)) }
+    ensures value { IfOk result (λ order. order ≡ order_by word.now (map (λ w. w.now) rest.now)) }
+    ensures within { IfOk result (λ order. IfSome order IsWithin) }
 {
     if word == b"post".as_slice() {
         read_post(alloc, rest)
@@ -101,7 +106,8 @@ fn read_by(
 
 /// The order that the words of a line say. `None` where they are none. It fails where memory is refused.
 pub fn read_order(alloc: Global, words: &[&[u8]]) -> Result<Option<Order>, AllocError>
-    ensures { IfOk result (λ order. order ≡ order_of (map (λ w. w.now) words.now)) }
+    ensures value { IfOk result (λ order. order ≡ order_of (map (λ w. w.now) words.now)) }
+    ensures within { IfOk result (λ order. IfSome order IsWithin) }
 {
     match words {
         [word, rest @ ..] => read_by(alloc, *word, rest, words),

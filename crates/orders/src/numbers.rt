@@ -1,6 +1,6 @@
 //! The numbers of orders: collectors, sequence numbers, slots and signalling link selections.
 
-ghost use Rattle.std.specs.Prelude.{◌≡◌, ℕ, ◌^◌, ◌<◌, ◌↔◌, List, Some};
+ghost use Rattle.std.specs.Prelude.{◌≡◌, ℕ, ◌^◌, ◌<◌, ◌↔◌, List, Some, IfSome};
 ghost use Rattle.std.specs.Fmt.{decimal};
 ghost use Rattle.orders.specs.Numbers.{collector_of, digits_in, sequence_of, slot_of, selection_of};
 
@@ -16,7 +16,8 @@ pub fn read_collector(text: &[u8]) -> Option<u8>
 
 /// The slot that a token is, from 0 to 31.
 pub fn read_slot(text: &[u8]) -> Option<u8>
-    ensures { result ≡ slot_of text.now }
+    ensures value { result ≡ slot_of text.now }
+    ensures within { IfSome result (λ slot. slot < 32) }
 {
     let slot = read_number(text, 31)?;
     Some(slot as u8)
@@ -24,7 +25,8 @@ pub fn read_slot(text: &[u8]) -> Option<u8>
 
 /// The signalling link selection that a token is, from 0 to 15 (Q.704 clause 2.2).
 pub fn read_selection(text: &[u8]) -> Option<u8>
-    ensures { result ≡ selection_of text.now }
+    ensures value { result ≡ selection_of text.now }
+    ensures within { IfSome result (λ selection. selection < 16) }
 {
     let selection = read_number(text, 15)?;
     Some(selection as u8)

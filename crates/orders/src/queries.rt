@@ -1,8 +1,8 @@
 //! Questions about the tables.
 
-ghost use Rattle.std.specs.Prelude.{◌≡◌, map};
+ghost use Rattle.std.specs.Prelude.{◌≡◌, map, IfSome};
 ghost use Rattle.point_codes.specs.Codes.{code_of};
-ghost use Rattle.orders.specs.Orders.{about, about_of, octets_of, trace_of};
+ghost use Rattle.orders.specs.Orders.{IsWithin, about, about_of, octets_of, trace_of};
 
 use crate::numbers::read_selection;
 use crate::orders::Order;
@@ -11,7 +11,8 @@ use tokens::read_code;
 
 /// Something of the row of a point in the table of a destination, where both are codes.
 fn ask_about(asked: Asked, y: &[u8], x: &[u8]) -> Option<Order>
-    ensures { result ≡ about asked (code_of y.now) (code_of x.now) }
+    ensures value { result ≡ about asked (code_of y.now) (code_of x.now) }
+    ensures within { IfSome result IsWithin }
 {
     let point = read_code(y)?;
     let dest = read_code(x)?;
@@ -20,7 +21,8 @@ fn ask_about(asked: Asked, y: &[u8], x: &[u8]) -> Option<Order>
 
 /// `Y X`.
 pub fn read_about(asked: Asked, words: &[&[u8]]) -> Option<Order>
-    ensures { result ≡ about_of asked (map (λ w. w.now) words.now) }
+    ensures value { result ≡ about_of asked (map (λ w. w.now) words.now) }
+    ensures within { IfSome result IsWithin }
 {
     match words {
         [y, x] => ask_about(asked, *y, *x),
@@ -32,7 +34,8 @@ pub fn read_about(asked: Asked, words: &[&[u8]]) -> Option<Order>
 
 /// `Y Z X`.
 pub fn read_octets(words: &[&[u8]]) -> Option<Order>
-    ensures { result ≡ octets_of (map (λ w. w.now) words.now) }
+    ensures value { result ≡ octets_of (map (λ w. w.now) words.now) }
+    ensures within { IfSome result IsWithin }
 {
     match words {
         [y, z, x] => {
@@ -48,7 +51,8 @@ pub fn read_octets(words: &[&[u8]]) -> Option<Order>
 
 /// `Y X S`.
 pub fn read_trace(words: &[&[u8]]) -> Option<Order>
-    ensures { result ≡ trace_of (map (λ w. w.now) words.now) }
+    ensures value { result ≡ trace_of (map (λ w. w.now) words.now) }
+    ensures within { IfSome result IsWithin }
 {
     match words {
         [y, x, s] => {

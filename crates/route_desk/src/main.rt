@@ -2,15 +2,16 @@
 //!
 //! 1. `route_desk run NET` loads the network of the file NET, reads a script from standard input and answers it on
 //!    standard output. `route_desk run -` reads the network text from standard input too, up to the line `%%`. With
-//!    `--save FILE` the network is written to that file after a script that ended without a fault; a file that was there
-//!    stays as it was where that fails.
-//! 2. `route_desk check NET` works out the tables of all planned destinations of that network, by as many threads as there
+//!    `--save FILE` the network after all accepted events is written to that file after a script that ended without a fault; a
+//!    file that was there stays as it was where that fails.
+//! 2. `route_desk play NET STEPS` does the same with the script of the file STEPS, which is opened once the network is loaded.
+//! 3. `route_desk check NET` works out the tables of all planned destinations of that network, by as many threads as there
 //!    are processors, checks each by the local rule, and writes `ok P` for P plans, or `bad X Y c` for the first wrong one.
-//! 3. It exits with 0 where the script was answered to its end: a refused line is no fault of a run; or where all tables
+//! 4. It exits with 0 where the script was answered to its end: a refused line is no fault of a run; or where all tables
 //!    are right.
-//! 4. It exits with 1 where a table is wrong, where the network isn't loaded, or where memory, reading or writing ended the
+//! 5. It exits with 1 where a table is wrong, where the network isn't loaded, or where memory, reading or writing ended the
 //!    run; in all but the first of these standard error has one line, `route_desk: ` and the fault.
-//! 5. It exits with 2 where the command line isn't read, with `clap`'s text on standard error. Help is printed on
+//! 6. It exits with 2 where the command line isn't read, with `clap`'s text on standard error. Help is printed on
 //!    standard output, with 0.
 #![tactic(auto)]
 
@@ -20,6 +21,7 @@ use console::{
     CheckEnd, Fault, ScriptEnd, check_net, read_net, run_input, run_script, write_fault,
 };
 use frozen_nets::Frozen;
+use net_data::Net;
 use net_saving::save;
 use std::alloc::{AllocError, Global};
 use std::process::ExitCode;
@@ -57,7 +59,7 @@ fn report(rt: &HostRuntime, fault: Option<Fault>) -> io::Result<ExitCode> {
 }
 
 /// Loads the network of a file.
-fn load_file(rt: &HostRuntime, name: &str) -> Result<Frozen, Fault> {
+fn load_file(rt: &HostRuntime, name: &str) -> Result<Net, Fault> {
     match fs::open(rt, name) {
         Ok(mut file) => read_net(rt.alloc(), &mut file),
         Err(_) => Err(Fault::Read),
@@ -68,6 +70,15 @@ fn load_file(rt: &HostRuntime, name: &str) -> Result<Frozen, Fault> {
 fn run_file(rt: &HostRuntime, name: &str) -> Result<ScriptEnd, Fault> {
     let net = load_file(rt, name)?;
     Ok(run_script(rt.alloc(), &mut rt.reader(), &mut io::writer(rt), net))
+}
+
+/// Runs the script of a file from the network of another.
+fn play_file(rt: &HostRuntime, name: &str, steps: &str) -> Result<ScriptEnd, Fault> {
+    let net = load_file(rt, name)?;
+    match fs::open(rt, steps) {
+        Ok(mut file) => Ok(run_script(rt.alloc(), &mut file, &mut io::writer(rt), net)),
+        Err(_) => Err(Fault::Read),
+    }
 }
 
 /// Runs the script on standard input, from the network of a file or from that of the text before the script.
@@ -116,16 +127,16 @@ fn replace_file(rt: &HostRuntime, name: &str, text: &str) -> Result<(), Fault> {
 }
 
 /// Writes the network to a file.
-fn save_net(rt: &HostRuntime, net: &Frozen, name: &str) -> Result<(), Fault> {
-    match save(rt.alloc(), net.net()) {
+fn save_net(rt: &HostRuntime, net: &Net, name: &str) -> Result<(), Fault> {
+    match save(rt.alloc(), net) {
         Ok(text) => replace_file(rt, name, text.as_str()),
         Err(_) => Err(Fault::OutOfMemory),
     }
 }
 
-/// Runs a script, and writes the network then where a file is named. The answer is the fault, where there was one.
-fn run(rt: &HostRuntime, net: &str, file: Option<&str>) -> Option<Fault> {
-    let end = match run_net(rt, net) {
+/// Writes the network after a run where a file is named. The answer is the fault, where there was one.
+fn finish(rt: &HostRuntime, end: Result<ScriptEnd, Fault>, file: Option<&str>) -> Option<Fault> {
+    let end = match end {
         Ok(end) => end,
         Err(fault) => return Some(fault),
     };
@@ -139,9 +150,12 @@ fn run(rt: &HostRuntime, net: &str, file: Option<&str>) -> Option<Fault> {
 fn check_tables(
     rt: &(impl Threads + Sync),
     alloc: Global,
-    net: Result<Frozen, Fault>,
+    net: Result<Net, Fault>,
 ) -> Result<CheckEnd, Fault> {
-    match check_net(rt, alloc, &net?) {
+    let Ok(net) = Frozen::new(alloc, net?) else {
+        return Err(Fault::OutOfMemory);
+    };
+    match check_net(rt, alloc, &net) {
         Ok(end) => Ok(end),
         Err(_) => Err(Fault::OutOfMemory),
     }
@@ -163,7 +177,10 @@ fn main(rt: HostRuntime) -> io::Result<ExitCode> {
     let words: Vec<String> = env::args(&rt)?.collect(rt.alloc())?;
     let texts = texts(rt.alloc(), words.as_slice())?;
     match read_words(rt.alloc(), texts.as_slice()) {
-        Ok(Order::Run { net, save }) => report(&rt, run(&rt, net, save)),
+        Ok(Order::Run { net, save }) => report(&rt, finish(&rt, run_net(&rt, net), save)),
+        Ok(Order::Play { net, steps, save }) => {
+            report(&rt, finish(&rt, play_file(&rt, net, steps), save))
+        }
         Ok(Order::Check { net }) => match check_tables(&rt, rt.alloc(), load_file(&rt, net)) {
             Ok(end) => report_check(&rt, &end),
             Err(fault) => report(&rt, Some(fault)),

@@ -9,7 +9,7 @@ ghost use Rattle.transfer_state.specs.Routing.{state_at};
 
 use crate::routes::{choice_at, hop_at, links_at, messages_at};
 use crate::sweep::choices;
-use crate::table::table_of;
+use crate::table::table_by;
 use excerpts::Excerpt;
 use point_codes::PointCode;
 use profile::hops::Hop;
@@ -123,11 +123,11 @@ impl Routing {
         hop_at(&self.excerpt, &self.choices, point, s)
     }
 
-    /// The whole table.
+    /// The whole table, by the choices that are kept.
     pub fn table(&self, alloc: Global) -> Result<Table, AllocError>
         ensures { IfOk result (λ t. t ≡ scratch (source_of self.now)) }
     {
-        table_of(alloc, &self.excerpt)
+        table_by(alloc, &self.excerpt, &self.choices)
     }
 }
 

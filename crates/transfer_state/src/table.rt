@@ -4,11 +4,13 @@ ghost use Rattle.std.specs.Prelude.{◌≡◌, IfOk};
 ghost use Rattle.profile.specs.Whole.{scratch, IsSettledTable};
 ghost use Rattle.excerpts.specs.Excerpts.{source_of};
 ghost use Rattle.transfer_state.specs.Promises.{TellsWalks, KeepsMatesApart};
+ghost use Rattle.transfer_state.specs.Routing.{IsChosen};
 
 use crate::states::{links_of, messages_of};
 use crate::sweep::{choices, rows_of};
 use excerpts::Excerpt;
 use profile::tables::{RowState, RowStates, Table};
+use route_choice::Choice;
 use std::alloc::{AllocError, Global};
 
 /// The table of an excerpt, from scratch (own, after Q.704 clauses 2.3 and 13.2 to 13.4). It fails where memory is
@@ -23,7 +25,17 @@ pub fn table_of(alloc: Global, e: &Excerpt) -> Result<Table, AllocError>
     ensures settled { IfOk result (IsSettledTable (source_of e.now)) }
 {
     e.validity();
-    let choices = choices(alloc, e)?;
+    let list = choices(alloc, e)?;
+    let table = table_by(alloc, e, &list)?;
+    Ok(table)
+}
+
+/// The table by the choices of all rows.
+pub(crate) fn table_by(alloc: Global, e: &Excerpt, choices: &[Choice]) -> Result<Table, AllocError>
+    requires { IsChosen e.now choices.now }
+    ensures { IfOk result (λ table. table ≡ scratch (source_of e.now)) }
+{
+    e.validity();
     let rows = rows_of(e);
     let mut list = Vec::with_capacity(alloc, rows.len())?;
     for i in 0..rows.len() {

@@ -1,12 +1,10 @@
-use Rattle.std.proofs.Common.{◌++◌, sym, ap, ◌∙◌}
+use Rattle.std.proofs.Common.{◌++◌, ap, ◌∙◌}
 use Rattle.console.specs.Lines.{rest_of}
-use Rattle.console.proofs.AnswerLemmas.{reply-after}
 use Rattle.console.proofs.RunLemmas.{taken_line}
 use Rattle.console.proofs.session.Session.end_line.Goals as goal
 
 pub returns-clause-ok : goal.returns-clause-ok
 returns-clause-ok c = λ start read written at.
     let s = c.args.self.now in
-    let text = c.as_bytes.ensures.value ∙ c.in_ok-text.ensures.text (rest_of read) at.rest in
-    taken_line start read written s _ at (c.in_ok-extend_from_slice.ensures.items ∙ ap (λ t. s.answers.items ++ t) text)
-    (sym (reply-after s.net (rest_of read))) c.clear.ensures
+    taken_line start read written s _ _ at (c.in_ok-text.ensures.text (rest_of read) at.rest)
+    (c.in_ok-extend_from_slice.ensures.items ∙ ap (λ t. s.answers.items ++ t) c.as_bytes.ensures.value) c.clear.ensures

@@ -1,11 +1,10 @@
-use Rattle.std.proofs.Common.{ℕ, ◌≤◌, ◌++◌, List, length, take, drop, rules, subst}
+use Rattle.std.proofs.Common.{ℕ, ◌≤◌, ◌++◌, List, length, take, drop, refl, rules, subst}
 use Rattle.std.proofs.lemmas.List.{take_all}
 use Rattle.console.specs.Lines.{whole_lines}
-use Rattle.console.specs.Answers.{answers}
-use Rattle.console.specs.Run.{IsTaken, IsFrontOf}
+use Rattle.console.specs.Run.{IsTaken, IsAnsweredInPart}
 use Rattle.console.proofs.LineLemmas.{pushed, whole_piece}
-use Rattle.console.proofs.AnswerLemmas.{IsFrontOf-whole}
-use Rattle.console.proofs.RunLemmas.{taken_front}
+use Rattle.console.proofs.AnswerLemmas.{part_whole}
+use Rattle.console.proofs.RunLemmas.{taken_part}
 use Rattle.console.proofs.session.Session.feed.Goals as goal
 
 pub loop-byte-preserved : goal.loop-byte-preserved
@@ -21,8 +20,8 @@ pub returns-in-Err-clause-front : goal.returns-in-Err-clause-front
 returns-in-Err-clause-front c = λ start read written at.
     let chunk = c.args.chunk.now in
     let i = c.loop-byte.byte-index in
-    let here = taken_front start (read ++ take i chunk) (drop i chunk) written c.loop-byte.self _ (c.loop-byte.invariant.taken start read written at) c.in-Err.ensures.err in
-    subst (λ t. IsFrontOf (written ++ c.take.new.self.answers.items) (answers start (whole_lines t))) (whole_piece read chunk i) here
+    let here = taken_part start (read ++ take i chunk) (drop i chunk) written c.loop-byte.self _ (c.loop-byte.invariant.taken start read written at) c.in-Err.ensures.err in
+    subst (λ t. IsAnsweredInPart start (whole_lines t) (written ++ c.take.new.self.answers.items)) (whole_piece read chunk i) here
 
 whole : (i : ℕ) (chunk : List ℕ) → length chunk ≤ i → (P : List ℕ → Type 0) → P (take i chunk) → P chunk
 whole i chunk h P p = subst P (take_all i chunk h) p
@@ -35,5 +34,5 @@ returns-clause-ok c = λ start read written at.
 pub returns-clause-front : goal.returns-clause-front
 returns-clause-front c = λ start read written at.
     whole c.loop-byte.byte-index c.args.chunk.now c.loop-byte-test.false
-    (λ t. IsFrontOf (written ++ c.loop-byte.self.answers.items) (answers start (whole_lines (read ++ t))))
-    (IsFrontOf-whole _ _ (c.loop-byte.invariant.taken start read written at).answered)
+    (λ t. IsAnsweredInPart start (whole_lines (read ++ t)) (written ++ c.loop-byte.self.answers.items))
+    (part_whole start c.loop-byte.self.state _ _ _ (c.loop-byte.invariant.taken start read written at).answered refl)

@@ -1,0 +1,3 @@
+pub mod Console
+pub mod Does
+pub mod Commands

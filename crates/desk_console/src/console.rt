@@ -1,0 +1,83 @@
+//! The console.
+
+ghost use Rattle.std.specs.Prelude.{◌≡◌, None, IfOk, map, replicate, string_bytes};
+ghost use Rattle.answers.specs.Text.{line_count};
+ghost use Rattle.desk_console.specs.Commands.{Commands};
+ghost use Rattle.desk_console.specs.Console.{net_of, opening};
+
+use desk_core::Desk;
+use net_data::Net;
+use orders::read_order;
+use std::alloc::{AllocError, Global};
+use std::marker::Model;
+use tokens::split_words;
+use work_units::Settled;
+
+/// How many slots there are.
+const SLOT_COUNT: usize = 32;
+
+/// A desk, and slots for the results of jobs.
+#[derive(Drop)]
+pub struct Console {
+    pub(crate) desk: Desk,
+    pub(crate) slots: Vec<Option<Settled>>,
+}
+
+impl Model for Console {
+    ghost use Rattle.std.specs.Prelude.{◌≡◌, length};
+    ghost use Rattle.desk_console.specs.Console.{Standing};
+
+    ghost Value = { Standing };
+
+    ghost view = { λ c. record { desk = c.desk; slots = c.slots.items } };
+
+    ghost invariant = { λ c. length c.slots.items ≡ 32 };
+}
+
+/// Empty slots.
+fn empty_slots(alloc: Global) -> Result<Vec<Option<Settled>>, AllocError>
+    ensures { IfOk result (λ v. v.items ≡ replicate 32 None) }
+{
+    let mut slots = Vec::with_capacity(alloc, SLOT_COUNT)?;
+    for _ in 0..SLOT_COUNT {
+        slots.push(None)?;
+    }
+    Ok(slots)
+}
+
+impl Console {
+    /// A new desk over a network, and empty slots.
+    pub fn start(alloc: Global, net: Net) -> Result<Console, AllocError>
+        ensures { IfOk result (λ c. c ≡ opening net) }
+    {
+        let slots = empty_slots(alloc)?;
+        let desk = Desk::start(alloc, net)?;
+        Ok(Console { desk, slots })
+    }
+
+    /// The desk.
+    pub fn desk(&self) -> &Desk
+        ensures { result.now ≡ self.now.desk }
+    {
+        &self.desk
+    }
+
+    /// The network after all accepted events, given away.
+    pub fn into_net(self) -> Net
+        ensures { result ≡ net_of self }
+    {
+        self.desk.into_net()
+    }
+
+    /// Does what a line says, and gives the text of its answer, without a line feed. It fails where memory is refused.
+    pub fn answer(&mut self, alloc: Global, line: &[u8]) -> Result<String, AllocError>
+        ensures command { IfOk result (λ text. Commands line.now self.old (string_bytes text) self.new) }
+        ensures plain { IfOk result (λ text. line_count (string_bytes text) ≡ 0) }
+    {
+        let words = split_words(alloc, line)?;
+        match read_order(alloc, words.as_slice())? {
+            Some(order) => self.obey(alloc, order),
+            None => String::from_str(alloc, "refused 62 BadLine"),
+        }
+    }
+}

@@ -1,0 +1,168 @@
+//! What each order does.
+
+ghost use Rattle.std.specs.Prelude.{◌≡◌, ◌<◌, IfOk, length, string_bytes};
+ghost use Rattle.answers.specs.Audits.{audit_right};
+ghost use Rattle.answers.specs.Rows.{answer_about as row_answer};
+ghost use Rattle.answers.specs.Text.{line_count};
+ghost use Rattle.answers.specs.Traces.{trace_answer};
+ghost use Rattle.answers.specs.WhatIfs.{what_if_text};
+ghost use Rattle.desk_core.specs.Steps.{Opens, Posts, Publishes};
+ghost use Rattle.desk_replies.specs.Replies.{opened_text, posted_text, published_text};
+ghost use Rattle.orders.specs.Orders.{IsWithin};
+ghost use Rattle.path_trace.specs.Traces.{trace_at};
+ghost use Rattle.what_if.specs.Reports.{report_of};
+ghost use Rattle.desk_console.specs.Does.{Calls, Does, HasMemory, PostsNext, Syncs, version_of};
+
+use crate::console::Console;
+use answers::{Asked, answer_about, answer_audit, answer_trace, answer_what_if};
+use desk_core::Refusal;
+use desk_replies::{
+    write_opened, write_posted, write_published, write_refused, write_synced, write_version,
+};
+use desk_sync::sync;
+use net_data::Event;
+use orders::Order;
+use point_codes::PointCode;
+use std::alloc::{AllocError, Global};
+
+/// A reply of the desk, unless memory was wanting.
+pub(crate) fn with_memory<T>(reply: Result<T, Refusal>) -> Result<Result<T, Refusal>, AllocError>
+    ensures { IfOk result (λ r. (r ≡ reply) × HasMemory r) }
+{
+    match reply {
+        Err(Refusal::OutOfMemory) => Err(AllocError),
+        other => Ok(other),
+    }
+}
+
+impl Console {
+    /// A post.
+    fn post(
+        &mut self,
+        alloc: Global,
+        collector: u8,
+        seq: u64,
+        event: Event,
+    ) -> Result<String, AllocError>
+        ensures call { IfOk result (λ text. Calls (λ s. Posts s collector seq event) posted_text self.old (string_bytes text) self.new) }
+        ensures plain { IfOk result (λ text. line_count (string_bytes text) ≡ 0) }
+    {
+        let reply = with_memory(self.desk.post(alloc, collector, seq, event))?;
+        write_posted(alloc, reply)
+    }
+
+    /// An event, posted by collector 0.
+    fn post_next(&mut self, alloc: Global, event: Event) -> Result<String, AllocError>
+        ensures call { IfOk result (λ text. PostsNext event self.old (string_bytes text) self.new) }
+        ensures plain { IfOk result (λ text. line_count (string_bytes text) ≡ 0) }
+    {
+        let last = self.desk.last_seq(0);
+        if last == u64::MAX {
+            return write_refused(alloc, Refusal::EndOfNumbers);
+        }
+        self.post(alloc, 0, last + 1, event)
+    }
+
+    /// An opening.
+    fn open(&mut self, alloc: Global) -> Result<String, AllocError>
+        ensures call { IfOk result (λ text. Calls Opens opened_text self.old (string_bytes text) self.new) }
+        ensures plain { IfOk result (λ text. line_count (string_bytes text) ≡ 0) }
+    {
+        let reply = with_memory(self.desk.open(alloc))?;
+        write_opened(alloc, reply)
+    }
+
+    /// A publication.
+    fn publish(&mut self, alloc: Global) -> Result<String, AllocError>
+        ensures call { IfOk result (λ text. Calls Publishes published_text self.old (string_bytes text) self.new) }
+        ensures plain { IfOk result (λ text. line_count (string_bytes text) ≡ 0) }
+    {
+        let reply = with_memory(self.desk.publish(alloc))?;
+        write_published(alloc, reply)
+    }
+
+    /// Brings the desk up to date.
+    fn sync(&mut self, alloc: Global) -> Result<String, AllocError>
+        ensures call { IfOk result (λ text. Syncs self.old (string_bytes text) self.new) }
+        ensures plain { IfOk result (λ text. line_count (string_bytes text) ≡ 0) }
+    {
+        let number = sync(alloc, &mut self.desk)?;
+        write_synced(alloc, number)
+    }
+
+    /// What is published, and what is accepted.
+    fn version(&self, alloc: Global) -> Result<String, AllocError>
+        ensures call { IfOk result (λ text. string_bytes text ≡ version_of self.now.desk) }
+        ensures plain { IfOk result (λ text. line_count (string_bytes text) ≡ 0) }
+    {
+        write_version(alloc, self.desk.published().number(), self.desk.accepted())
+    }
+
+    /// What is asked of the row of a point.
+    fn ask_row(
+        &self,
+        alloc: Global,
+        asked: Asked,
+        y: PointCode,
+        x: PointCode,
+    ) -> Result<String, AllocError>
+        ensures text { IfOk result (λ text. string_bytes text ≡ row_answer asked self.now.desk.published.network y x) }
+        ensures plain { IfOk result (λ text. line_count (string_bytes text) ≡ 0) }
+    {
+        answer_about(alloc, asked, self.desk.published(), y, x)
+    }
+
+    /// A trace.
+    fn ask_trace(
+        &self,
+        alloc: Global,
+        y: PointCode,
+        x: PointCode,
+        s: u8,
+    ) -> Result<String, AllocError>
+        requires { s < 16 }
+        ensures text { IfOk result (λ text. string_bytes text ≡ trace_answer (trace_at self.now.desk.published.network y x s)) }
+        ensures plain { IfOk result (λ text. line_count (string_bytes text) ≡ 0) }
+    {
+        answer_trace(alloc, self.desk.published(), y, x, s)
+    }
+
+    /// What events would change.
+    fn ask_what_if(&self, alloc: Global, events: &[Event]) -> Result<String, AllocError>
+        ensures text { IfOk result (λ text. string_bytes text ≡ what_if_text (report_of self.now.desk.published.network events.now)) }
+        ensures plain { IfOk result (λ text. line_count (string_bytes text) ≡ 0) }
+    {
+        answer_what_if(alloc, self.desk.published(), events)
+    }
+
+    /// A check of all tables.
+    fn ask_audit(&self, alloc: Global) -> Result<String, AllocError>
+        ensures text { IfOk result (λ text. string_bytes text ≡ audit_right (length self.now.desk.published.network.plans)) }
+        ensures plain { IfOk result (λ text. line_count (string_bytes text) ≡ 0) }
+    {
+        answer_audit(alloc, self.desk.published())
+    }
+
+    /// Does what an order says.
+    pub(crate) fn obey(&mut self, alloc: Global, order: Order) -> Result<String, AllocError>
+        requires { IsWithin order }
+        ensures does { IfOk result (λ text. Does order self.old (string_bytes text) self.new) }
+        ensures plain { IfOk result (λ text. line_count (string_bytes text) ≡ 0) }
+    {
+        match order {
+            Order::Event(event) => self.post_next(alloc, event),
+            Order::Post(collector, seq, event) => self.post(alloc, collector, seq, event),
+            Order::Open => self.open(alloc),
+            Order::Take(slot) => self.take(alloc, slot),
+            Order::Give(slot) => self.give(alloc, slot),
+            Order::Abandon(slot) => self.abandon(alloc, slot),
+            Order::Publish => self.publish(alloc),
+            Order::Sync => self.sync(alloc),
+            Order::Version => self.version(alloc),
+            Order::About(asked, y, x) => self.ask_row(alloc, asked, y, x),
+            Order::Trace(y, x, s) => self.ask_trace(alloc, y, x, s),
+            Order::WhatIf(events) => self.ask_what_if(alloc, events.as_slice()),
+            Order::Audit => self.ask_audit(alloc),
+        }
+    }
+}

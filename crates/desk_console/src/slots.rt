@@ -1,0 +1,86 @@
+//! The slots, and the orders that use them.
+
+ghost use Rattle.std.specs.Prelude.{◌≡◌, ◌<◌, IfOk, None, Some, length, slice_index_or, slice_set, string_bytes};
+ghost use Rattle.answers.specs.Text.{line_count};
+ghost use Rattle.desk_console.specs.Console.{slot_of};
+ghost use Rattle.desk_console.specs.Does.{AbandonsOf, GivesFrom, TakesTo};
+
+use crate::console::Console;
+use crate::obeying::with_memory;
+use desk_replies::{write_abandoned, write_given, write_job, write_refused};
+use std::alloc::{AllocError, Global};
+use work_units::{Settled, settle};
+
+/// Takes the result out of a slot.
+fn take_out(slots: &mut Vec<Option<Settled>>, place: usize) -> Option<Settled>
+    requires { place < length slots.old.items }
+    ensures value { result ≡ slice_index_or slots.old.items place None }
+    ensures rest { slots.new.items ≡ slice_set slots.old.items place None }
+{
+    slots[place].take()
+}
+
+/// Puts a result in a slot.
+fn put_in(slots: &mut Vec<Option<Settled>>, place: usize, settled: Settled)
+    requires { place < length slots.old.items }
+    ensures { slots.new.items ≡ slice_set slots.old.items place (Some settled) }
+{
+    slots[place] = Some(settled);
+}
+
+impl Console {
+    /// Takes a job, does it, and keeps its result in a slot.
+    pub(crate) fn take(&mut self, alloc: Global, slot: u8) -> Result<String, AllocError>
+        requires { slot < 32 }
+        ensures call { IfOk result (λ text. TakesTo slot self.old (string_bytes text) self.new) }
+        ensures plain { IfOk result (λ text. line_count (string_bytes text) ≡ 0) }
+    {
+        match with_memory(self.desk.take())? {
+            Ok(job) => {
+                let text = write_job(alloc, &job)?;
+                let settled = match settle(alloc, job) {
+                    Ok(settled) => settled,
+                    Err((_, refused)) => return Err(refused),
+                };
+                put_in(&mut self.slots, usize::from(slot), settled);
+                Ok(text)
+            }
+            Err(refusal) => write_refused(alloc, refusal),
+        }
+    }
+
+    /// Gives the result in a slot.
+    #[tactic(auto, using(crate::proofs::SlotLemmas::left_empty, crate::proofs::SlotLemmas::put_back))]
+    pub(crate) fn give(&mut self, alloc: Global, slot: u8) -> Result<String, AllocError>
+        requires { slot < 32 }
+        ensures call { IfOk result (λ text. GivesFrom slot (slot_of self.old slot) self.old (string_bytes text) self.new) }
+        ensures plain { IfOk result (λ text. line_count (string_bytes text) ≡ 0) }
+    {
+        let place = usize::from(slot);
+        let Some(settled) = take_out(&mut self.slots, place) else {
+            return String::from_str(alloc, "refused 62 BadLine");
+        };
+        match self.desk.give(settled) {
+            Ok(()) => write_given(alloc, &Ok(())),
+            Err((settled, refusal)) => {
+                put_in(&mut self.slots, place, settled);
+                write_refused(alloc, refusal)
+            }
+        }
+    }
+
+    /// Abandons the destination of the result in a slot.
+    pub(crate) fn abandon(&mut self, alloc: Global, slot: u8) -> Result<String, AllocError>
+        requires { slot < 32 }
+        ensures call { IfOk result (λ text. AbandonsOf (slot_of self.old slot) self.old (string_bytes text) self.new) }
+        ensures plain { IfOk result (λ text. line_count (string_bytes text) ≡ 0) }
+    {
+        match &self.slots[usize::from(slot)] {
+            Some(settled) => {
+                let reply = self.desk.abandon(settled.version(), settled.dest());
+                write_abandoned(alloc, reply)
+            }
+            None => String::from_str(alloc, "refused 62 BadLine"),
+        }
+    }
+}

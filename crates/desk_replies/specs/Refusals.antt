@@ -1,0 +1,28 @@
+-- How a desk's refusals are printed: a number, a name, and the values of those that have some.
+use Rattle.std.specs.Prelude.{ℕ, List, ◌++◌, Option, Some, None, codes}
+use Rattle.std.specs.Fmt.{decimal}
+use Rattle.desk_core.specs.declared.replies.Refusal.{Refusal}
+use Rattle.desk_core.specs.declared.replies.Refusal.TheVariants as desk
+use Rattle.answers.specs.Refusals as edits
+
+-- the number of the open target, if there is one
+abbrev pub target_text : Option ℕ → List ℕ
+target_text None = codes "none"
+target_text (Some number) = decimal number
+
+-- a refusal
+abbrev pub refusal_text : Refusal → List ℕ
+refusal_text desk.OutOfMemory = codes "1 OutOfMemory"
+refusal_text (desk.Edit refusal) = edits.refusal_text refusal
+refusal_text (desk.Gap next) = codes "40 Gap " ++ decimal next
+refusal_text (desk.Old last) = codes "41 Old " ++ decimal last
+refusal_text desk.Clash = codes "42 Clash"
+refusal_text desk.BacklogFull = codes "43 BacklogFull"
+refusal_text (desk.NotReady left) = codes "44 NotReady " ++ decimal left
+refusal_text desk.Nothing = codes "45 Nothing"
+refusal_text desk.Busy = codes "46 Busy"
+refusal_text (desk.Stale target) = codes "47 Stale " ++ target_text target
+refusal_text desk.Unasked = codes "48 Unasked"
+refusal_text desk.Differs = codes "49 Differs"
+refusal_text desk.EndOfNumbers = codes "51 EndOfNumbers"
+refusal_text desk.NotOpen = codes "52 NotOpen"

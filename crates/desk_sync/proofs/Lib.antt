@@ -1,0 +1,3 @@
+pub mod TaskLemmas
+pub mod StepLemmas
+pub mod KeptLemmas
