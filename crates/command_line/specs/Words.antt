@@ -23,9 +23,13 @@ run_app = with_rule (with_rule (new_app (codes "run")) net_rule) save_rule
 abbrev pub steps_rule : Rule
 steps_rule = record (new_rule (codes "steps")) { required = true; value_names = 1 }
 
+-- `play NET STEPS`
+abbrev pub files_app : App
+files_app = with_rule (with_rule (new_app (codes "play")) net_rule) steps_rule
+
 -- `play NET STEPS --save FILE`
 abbrev pub play_app : App
-play_app = with_rule (with_rule (with_rule (new_app (codes "play")) net_rule) steps_rule) save_rule
+play_app = with_rule files_app save_rule
 
 -- `check NET`
 abbrev pub check_app : App

@@ -4,7 +4,7 @@ ghost use Rattle.std.specs.Prelude.{◌≡◌, List, Option, ◌∷◌, IfOk, If
 ghost use Rattle.clap.specs.declared.builder.command.Command.TheViews.{out-Command};
 ghost use Rattle.clap.specs.Words.{app_of, first_of, FailsBy, HasKind, fault_of, found_of, rows_of, subcommand_of, subcommand_rows_of};
 ghost use Rattle.clap.specs.declared.error.kind.ErrorKind.TheVariants.{MissingSubcommand};
-ghost use Rattle.command_line.specs.Words.{check_app, desk_app, play_app, run_app, IsOrder, IsWordFault};
+ghost use Rattle.command_line.specs.Words.{check_app, desk_app, files_app, play_app, run_app, IsOrder, IsWordFault};
 
 use clap::error::ErrorKind;
 use clap::{Arg, ArgMatches, Command, Error};
@@ -56,9 +56,9 @@ fn run_command<'a>(alloc: Global) -> Result<Command<'a>, AllocError>
         .arg(save)
 }
 
-/// The command `play`.
-fn play_command<'a>(alloc: Global) -> Result<Command<'a>, AllocError>
-    ensures app { IfOk result (λ c. app_of c ≡ play_app) }
+/// The command `play` with its two files.
+fn files_command<'a>(alloc: Global) -> Result<Command<'a>, AllocError>
+    ensures app { IfOk result (λ c. app_of c ≡ files_app) }
     ensures local { IfOk result (λ c. (out-Command c).has_globals ≡ false) }
 {
     let net = Arg::new(alloc, "net")
@@ -69,14 +69,22 @@ fn play_command<'a>(alloc: Global) -> Result<Command<'a>, AllocError>
         .required(true)
         .value_name("STEPS")
         .help("File with the script");
-    let save = Arg::new(alloc, "save").long("save").value_name("FILE").help(
-        "Write the network to this file after a script that ended without a fault",
-    );
     Command::new(alloc, "play")
         .about("Answer a script of commands, read from a file")
         .arg(net)?
-        .arg(steps)?
-        .arg(save)
+        .arg(steps)
+}
+
+/// The command `play`.
+fn play_command<'a>(alloc: Global) -> Result<Command<'a>, AllocError>
+    ensures app { IfOk result (λ c. app_of c ≡ play_app) }
+    ensures local { IfOk result (λ c. (out-Command c).has_globals ≡ false) }
+{
+    let command = files_command(alloc)?;
+    let save = Arg::new(alloc, "save").long("save").value_name("FILE").help(
+        "Write the network to this file after a script that ended without a fault",
+    );
+    command.arg(save)
 }
 
 /// The command `check`.
