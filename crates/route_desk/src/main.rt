@@ -2,15 +2,17 @@
 //!
 //! 1. `route_desk run NET` loads the network of the file NET, reads a script from standard input and answers it on
 //!    standard output. `route_desk run -` reads the network text from standard input too, up to the line `%%`. With
-//!    `--save FILE` the network after all accepted events is written to that file after a script that ended without a fault; a
-//!    file that was there stays as it was where that fails.
-//! 2. `route_desk play NET STEPS` does the same with the script of the file STEPS, which is opened once the network is loaded.
-//! 3. `route_desk check NET` works out the tables of all planned destinations of that network, by as many threads as there
-//!    are processors, checks each by the local rule, and writes `ok P` for P plans, or `bad X Y c` for the first wrong one.
-//! 4. It exits with 0 where the script was answered to its end: a refused line is no fault of a run; or where all tables
-//!    are right.
-//! 5. It exits with 1 where a table is wrong, where the network isn't loaded, or where memory, reading or writing ended the
-//!    run; in all but the first of these standard error has one line, `route_desk: ` and the fault.
+//!    `--save FILE` the network after all accepted events is written to that file after a script that ended without a
+//!    fault; a file that was there stays as it was where that fails.
+//! 2. `route_desk play NET STEPS` does the same with the script of the file STEPS, which is opened once the network is
+//!    loaded.
+//! 3. `route_desk check NET` works out the tables of all planned destinations of that network, by as many threads as
+//!    there are processors, checks each by the local rule, and writes `ok P` for P plans, or `bad X Y c` for the first
+//!    wrong one.
+//! 4. It exits with 0 where the script was answered to its end: a refused line is no fault of a run; or where all
+//!    tables are right.
+//! 5. It exits with 1 where a table is wrong, where the network isn't loaded, or where memory, reading or writing ended
+//!    the run; in all but the first of these standard error has one line, `route_desk: ` and the fault.
 //! 6. It exits with 2 where the command line isn't read, with `clap`'s text on standard error. Help is printed on
 //!    standard output, with 0.
 #![tactic(auto)]
