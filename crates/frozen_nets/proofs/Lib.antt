@@ -1,2 +1,4 @@
 pub mod IndexLemmas
 pub mod NextLemmas
+pub mod FirstLemmas
+pub mod EntryLemmas

@@ -14,7 +14,7 @@ use Rattle.frozen_nets.specs.declared.index.Joint.{Joint}
 use Rattle.frozen_nets.specs.Index.{is_up}
 
 -- joints that rise, without the first of them
-IsRising-drop : (i : ℕ) (js : List Joint) → IsRising (λ (j : Joint). j.pair) js → IsRising (λ (j : Joint). j.pair) (drop i js)
+pub IsRising-drop : (i : ℕ) (js : List Joint) → IsRising (λ (j : Joint). j.pair) js → IsRising (λ (j : Joint). j.pair) (drop i js)
 IsRising-drop zero js up = up
 IsRising-drop (suc i) [] up = tt
 IsRising-drop (suc i) (j ∷ js) up = IsRising-drop i js up.1
@@ -37,7 +37,7 @@ none_above q (j ∷ js) all =
     rw (ne_eqb j.pair q (λ e. omega arith)) (none_above q js all.1)
 
 -- what is found after pairs that are all smaller
-found_after : (i : ℕ) (js : List Joint) (q : ℕ) → i ≤ length js → ((k : ℕ) (d : Joint) → k < i → (get_or js k d).pair < q) → at_key (λ (j : Joint). j.pair) q (drop i js) ≡ at_key (λ (j : Joint). j.pair) q js
+pub found_after : (i : ℕ) (js : List Joint) (q : ℕ) → i ≤ length js → ((k : ℕ) (d : Joint) → k < i → (get_or js k d).pair < q) → at_key (λ (j : Joint). j.pair) q (drop i js) ≡ at_key (λ (j : Joint). j.pair) q js
 found_after zero js q within less = refl
 found_after (suc i) [] q within less = refl
 found_after (suc i) (j ∷ js) q within less =

@@ -7,10 +7,10 @@ ghost use Rattle.net_data.specs.Valid.{IsValid};
 ghost use Rattle.link_sets.specs.Availability.{are_joined as joined_by};
 ghost use Rattle.link_sets.specs.Neighbours.{next_from, IsCodeFrom};
 
-use crate::index::{Joint, find_joint, index_of, next_up};
+use crate::index::{find_joint, index_of, next_up};
+use crate::joints::Joints;
 use net_data::Net;
 use net_items::LinkSet;
-use net_items::lookups::place_of_set;
 use point_codes::PointCode;
 use std::alloc::{AllocError, Global};
 use std::marker::Model;
@@ -19,7 +19,7 @@ use std::marker::Model;
 #[derive(Drop)]
 pub struct Indexed {
     net: Net,
-    joints: Vec<Joint>,
+    joints: Joints,
 }
 
 impl Model for Indexed {
@@ -30,7 +30,7 @@ impl Model for Indexed {
 
     ghost view = { λ f. f.net };
 
-    ghost invariant = { λ f. IsIndex f.joints.items f.net.sets };
+    ghost invariant = { λ f. IsIndex f.joints f.net.sets };
 }
 
 impl Indexed {
@@ -38,7 +38,8 @@ impl Indexed {
     pub fn new(alloc: Global, net: Net) -> Result<Indexed, AllocError>
         ensures { IfOk result (λ f. f ≡ net) }
     {
-        let joints = index_of(alloc, net.sets())?;
+        let list = index_of(alloc, net.sets())?;
+        let joints = Joints::new(alloc, list)?;
         Ok(Indexed { net, joints })
     }
 
@@ -60,7 +61,7 @@ impl Indexed {
     pub fn are_joined(&self, y: PointCode, z: PointCode) -> bool
         ensures { result ≡ joined_by self.now.sets y z }
     {
-        match find_joint(&self.joints, y, z) {
+        match find_joint(self.joints.of_point(y), y, z) {
             Some(joint) => joint.up,
             None => false,
         }
@@ -70,13 +71,8 @@ impl Indexed {
     pub fn set_between(&self, y: PointCode, z: PointCode) -> Option<&LinkSet>
         ensures { option_copied result ≡ between self.now.sets y z }
     {
-        let joint = find_joint(&self.joints, y, z)?;
-        self.net.validity();
-        let sets = self.net.sets();
-        match place_of_set(sets, joint.id) {
-            Ok(at) => Some(&sets[at]),
-            Err(_) => None,
-        }
+        let joint = find_joint(self.joints.of_point(y), y, z)?;
+        Some(&self.net.sets()[joint.place])
     }
 
     /// The first point of code `from` or above that an available set joins to `y`.
@@ -84,6 +80,6 @@ impl Indexed {
         ensures value { result ≡ next_from (joined_by self.now.sets y) from }
         ensures within { IfSome result (IsCodeFrom from) }
     {
-        next_up(&self.joints, y, from)
+        next_up(self.joints.of_point(y), y, from)
     }
 }

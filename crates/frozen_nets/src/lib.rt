@@ -10,6 +10,7 @@
 pub mod frozen;
 mod index;
 mod indexed;
+mod joints;
 pub mod neighbours;
 
 pub use frozen::Frozen;
