@@ -1,20 +1,18 @@
--- What a list of choices in the rows' places tells.
-use Rattle.std.specs.Prelude.{◌≡◌, ◌<◌, ℕ, ◌==◌, List, [], ◌∷◌, Some, if◌then◌else◌, slice_get}
+-- What a list of choices in the rows' places tells, and a table of far statuses.
+use Rattle.std.specs.Prelude.{◌≡◌, ◌<◌, ℕ, List, Some, slice_get, slice_index_or}
 use Rattle.route_choice.specs.declared.choices.Far.{Far}
-use Rattle.route_choice.specs.declared.choices.Far.TheVariants.{Allowed, Prohibited}
+use Rattle.route_choice.specs.declared.choices.Far.TheVariants.{Prohibited}
 use Rattle.route_choice.specs.declared.choices.Choice.{Choice}
 use Rattle.net_items.specs.declared.lists.Row.{Row}
-use Rattle.profile.specs.Status.{Source, choice}
+use Rattle.profile.specs.Status.{Source, rank_of, choice, status}
 
--- the status of the choice in the place of a point's row, prohibited where there is none
-abbrev pub told_in : List Row → List Choice → ℕ → Far
-told_in [] choices z = Prohibited
-told_in (row ∷ rows) [] z = Prohibited
-told_in (row ∷ rows) (c ∷ choices) z = if row.point == z then c.status else told_in rows choices z
+-- the far status of a code in a table
+abbrev pub far_at : List Far → ℕ → Far
+far_at fars z = slice_index_or fars z Prohibited
 
--- the far statuses that a list of choices tells: allowed at the destination
-abbrev pub told : Source → List Choice → ℕ → Far
-told src choices z = if z == src.dest then Allowed else told_in src.rows choices z
+-- a table tells the statuses of the points of rank below n
+abbrev pub TellsBelow : Source → List Far → ℕ → Type 0
+TellsBelow src fars n = (z : ℕ) → rank_of src z < n → far_at fars z ≡ status src z
 
 -- the choices of the rows, in their places
 abbrev pub AreChoices : Source → List Choice → Type 0

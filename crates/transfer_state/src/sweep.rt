@@ -1,19 +1,21 @@
 //! The choices of all rows by one sweep over the ranks.
 
-ghost use Rattle.std.specs.Prelude.{◌≡◌, ◌≤◌, ◌+◌, ℕ, Some, length, slice_get, All, map, IfOk};
+ghost use Rattle.std.specs.Prelude.{◌≡◌, ◌<◌, ◌≤◌, ◌+◌, ℕ, Some, length, slice_get, slice_set, All, map, IfOk};
 ghost use Rattle.net_items.specs.declared.lists.Row.{Row};
 ghost use Rattle.route_choice.specs.Routes.{offered, offered_in, mate_of_pair};
 ghost use Rattle.profile.specs.Status.{offers, offer, choice_by, mate_offer as mate_offer_by};
 ghost use Rattle.profile.specs.Valid.{IsSmall};
 ghost use Rattle.excerpts.specs.Excerpts.{source_of};
-ghost use Rattle.transfer_state.specs.Told.{told, AreChoices, KnowsBelow};
+ghost use Rattle.transfer_state.specs.Told.{far_at, AreChoices, KnowsBelow, TellsBelow};
 
 use excerpts::Excerpt;
 use net_items::Row;
-use net_items::copies::place_of_row;
 use point_codes::PointCode;
 use route_choice::{Choice, Far};
 use std::alloc::{AllocError, Global};
+
+/// How many signalling point codes there are (Q.704 clause 2.2).
+const CODE_COUNT: usize = 16384;
 
 /// The rows of an excerpt's plan.
 pub(crate) fn rows_of(e: &Excerpt) -> &[Row]
@@ -22,68 +24,61 @@ pub(crate) fn rows_of(e: &Excerpt) -> &[Row]
     e.plan().rows.as_slice()
 }
 
-/// The status of the choice in the place of a point's row, or allowed at the destination.
-fn far_of(e: &Excerpt, choices: &[Choice], z: PointCode) -> Far
-    requires { length choices.now ≡ length e.now.plan.rows }
-    ensures { result ≡ told (source_of e.now) choices.now z }
+/// Tells the far status of a code.
+fn tell(fars: &mut [Far], code: PointCode, far: Far)
+    requires { length fars.old ≡ 16384 }
+    ensures { fars.new ≡ slice_set fars.old code far }
 {
-    if z == e.dest() {
-        return Far::Allowed;
-    }
-    e.validity();
-    match place_of_row(rows_of(e), z) {
-        Ok(at) => choices[at].status,
-        Err(_) => Far::Prohibited,
-    }
+    fars[usize::from(code.number())] = far;
 }
 
 /// What a point is offered over a via: prohibited where no available set joins them.
-fn offer_of(e: &Excerpt, choices: &[Choice], point: PointCode, via: PointCode) -> Far
-    requires { length choices.now ≡ length e.now.plan.rows }
-    ensures { result ≡ (offer (source_of e.now) (told (source_of e.now) choices.now) point via).far }
+fn offer_of(e: &Excerpt, fars: &[Far], point: PointCode, via: PointCode) -> Far
+    requires { length fars.now ≡ 16384 }
+    ensures { result ≡ (offer (source_of e.now) (far_at fars.now) point via).far }
 {
     if e.are_joined(point, via) {
-        far_of(e, choices, via)
+        fars[usize::from(via.number())]
     } else {
         Far::Prohibited
     }
 }
 
 /// What a point is offered over the vias of a class, in their places.
-fn fars_in(e: &Excerpt, choices: &[Choice], point: PointCode, vias: &[PointCode]) -> [Far; 2]
-    requires together { length choices.now ≡ length e.now.plan.rows }
+fn fars_in(e: &Excerpt, fars: &[Far], point: PointCode, vias: &[PointCode]) -> [Far; 2]
+    requires together { length fars.now ≡ 16384 }
     requires small { length vias.now ≤ 2 }
-    ensures { offered_in vias.now result ≡ map (offer (source_of e.now) (told (source_of e.now) choices.now) point) vias.now }
+    ensures { offered_in vias.now result ≡ map (offer (source_of e.now) (far_at fars.now) point) vias.now }
 {
     match vias {
         [] => [Far::Prohibited, Far::Prohibited],
-        [only] => [offer_of(e, choices, point, *only), Far::Prohibited],
+        [only] => [offer_of(e, fars, point, *only), Far::Prohibited],
         [first, second, ..] => [
-            offer_of(e, choices, point, *first),
-            offer_of(e, choices, point, *second),
+            offer_of(e, fars, point, *first),
+            offer_of(e, fars, point, *second),
         ],
     }
 }
 
 /// What a row is offered over its vias, in their places.
-fn fars_of(e: &Excerpt, choices: &[Choice], row: &Row) -> [[Far; 2]; 4]
-    requires together { length choices.now ≡ length e.now.plan.rows }
+fn fars_of(e: &Excerpt, fars: &[Far], row: &Row) -> [[Far; 2]; 4]
+    requires together { length fars.now ≡ 16384 }
     requires few { length row.now.classes ≤ 4 }
     requires small { All (λ vias. length vias ≤ 2) row.now.classes }
-    ensures { offered row.now.classes result ≡ offers (source_of e.now) (told (source_of e.now) choices.now) row.now }
+    ensures { offered row.now.classes result ≡ offers (source_of e.now) (far_at fars.now) row.now }
 {
-    let mut fars = [[Far::Prohibited; 2]; 4];
+    let mut offers = [[Far::Prohibited; 2]; 4];
     let classes = row.classes.as_slice();
     for (i, vias) in classes.iter().enumerate() {
-        fars[i] = fars_in(e, choices, row.point, vias.as_slice());
+        offers[i] = fars_in(e, fars, row.point, vias.as_slice());
     }
-    fars
+    offers
 }
 
 /// The mate of a row with its direct status, where the row may use it.
-fn mate_offer(e: &Excerpt, choices: &[Choice], row: &Row) -> Option<(PointCode, Far)>
-    requires { length choices.now ≡ length e.now.plan.rows }
-    ensures { mate_of_pair result ≡ mate_offer_by (source_of e.now) (told (source_of e.now) choices.now) row.now }
+fn mate_offer(e: &Excerpt, fars: &[Far], row: &Row) -> Option<(PointCode, Far)>
+    requires { length fars.now ≡ 16384 }
+    ensures { mate_of_pair result ≡ mate_offer_by (source_of e.now) (far_at fars.now) row.now }
 {
     e.validity();
     if !row.mate {
@@ -92,35 +87,57 @@ fn mate_offer(e: &Excerpt, choices: &[Choice], row: &Row) -> Option<(PointCode, 
     let point = e.mate_of(row.point)?;
     let mate = e.row(point)?;
     if e.are_joined(row.point, mate.point) {
-        let status = route_choice::direct(mate, &fars_of(e, choices, mate), e.tfr());
+        let status = route_choice::direct(mate, &fars_of(e, fars, mate), e.tfr());
         Some((mate.point, status))
     } else {
         None
     }
 }
 
-/// What a row uses, by the choices in the rows' places.
-pub(crate) fn choice_of(e: &Excerpt, choices: &[Choice], row: &Row) -> Choice
-    requires together { length choices.now ≡ length e.now.plan.rows }
+/// What a row uses, where a table tells the far statuses.
+fn choice_of(e: &Excerpt, fars: &[Far], row: &Row) -> Choice
+    requires together { length fars.now ≡ 16384 }
     requires small { IsSmall row.now }
-    ensures { result ≡ choice_by (source_of e.now) (told (source_of e.now) choices.now) row.now }
+    ensures { result ≡ choice_by (source_of e.now) (far_at fars.now) row.now }
 {
-    let mate = mate_offer(e, choices, row);
-    route_choice::choose(row, &fars_of(e, choices, row), mate, e.tfr())
+    let mate = mate_offer(e, fars, row);
+    route_choice::choose(row, &fars_of(e, fars, row), mate, e.tfr())
 }
 
-/// Puts the choices of one rank in their places, where those of lower rank stand.
-fn sweep_rank(e: &Excerpt, choices: &mut [Choice], rank: u16)
+/// Puts a choice in its place, and tells its status.
+fn put_choice(
+    choices: &mut [Choice],
+    fars: &mut [Far],
+    place: usize,
+    code: PointCode,
+    choice: &Choice,
+)
+    requires here { place < length choices.old }
+    requires coded { length fars.old ≡ 16384 }
+    ensures choices { choices.new ≡ slice_set choices.old place choice.now }
+    ensures fars { fars.new ≡ slice_set fars.old code choice.now.status }
+{
+    choices[place] = *choice;
+    tell(fars, code, choice.status);
+}
+
+/// Puts the choices of one rank in their places, and their statuses in the table, where those of lower rank stand.
+fn sweep_rank(e: &Excerpt, choices: &mut [Choice], fars: &mut [Far], rank: u16)
     requires together { length choices.old ≡ length e.now.plan.rows }
+    requires coded { length fars.old ≡ 16384 }
+    requires ranked { 1 ≤ rank }
     requires below { KnowsBelow (source_of e.now) choices.old rank }
-    ensures { KnowsBelow (source_of e.now) choices.new (rank + 1) }
+    requires told { TellsBelow (source_of e.now) fars.old rank }
+    ensures below { KnowsBelow (source_of e.now) choices.new (rank + 1) }
+    ensures told { TellsBelow (source_of e.now) fars.new (rank + 1) }
 {
     e.validity();
     let rows = rows_of(e);
     for i in 0..rows.len() {
         let row = &rows[i];
         if u16::from(row.rank) == rank {
-            choices[i] = choice_of(e, choices, row);
+            let choice = choice_of(e, fars, row);
+            put_choice(choices, fars, i, row.point, &choice);
         }
     }
 }
@@ -146,8 +163,10 @@ pub(crate) fn choices(alloc: Global, e: &Excerpt) -> Result<Vec<Choice>, AllocEr
     e.validity();
     let rows = rows_of(e);
     let mut choices = vec![in alloc; Choice::NONE; rows.len()]?;
+    let mut fars = [Far::Prohibited; CODE_COUNT];
+    tell(&mut fars, e.dest(), Far::Allowed);
     for rank in 1..u16::from(highest_rank(rows)) + 1 {
-        sweep_rank(e, &mut choices, rank);
+        sweep_rank(e, &mut choices, &mut fars, rank);
     }
     Ok(choices)
 }

@@ -2,13 +2,13 @@ use Rattle.std.proofs.Common.{◌≡◌, ◌<◌, ℕ, get_or, map, [], length}
 use Rattle.route_choice.specs.Routes.{offered_in}
 use Rattle.profile.specs.Status.{offer}
 use Rattle.excerpts.specs.Excerpts.{source_of}
-use Rattle.transfer_state.specs.Told.{told}
+use Rattle.transfer_state.specs.Told.{far_at}
 use Rattle.transfer_state.proofs.sweep.fars_of.Given as goal
 
 -- the classes so far have what they are offered in their places
 abbrev pub invariant-loop-i : goal.invariant-loop-i
 invariant-loop-i l = record {
-  four : length l.fars ≡ 4;
-  each : (k : ℕ) → k < l.i → offered_in (get_or l.classes k []) (get_or l.fars k [])
-      ≡ map (offer (source_of l.e) (told (source_of l.e) l.choices) l.row.point) (get_or l.classes k []);
+  four : length l.offers ≡ 4;
+  each : (k : ℕ) → k < l.i → offered_in (get_or l.classes k []) (get_or l.offers k [])
+      ≡ map (offer (source_of l.e) (far_at l.fars) l.row.point) (get_or l.classes k []);
 }

@@ -3,4 +3,4 @@ use Rattle.transfer_state.proofs.Sweeping.{IsSwept}
 use Rattle.transfer_state.proofs.sweep.sweep_rank.Given as goal
 
 abbrev pub invariant-loop-i : goal.invariant-loop-i
-invariant-loop-i l = IsSwept (source_of l.e) l.choices l.rank l.i
+invariant-loop-i l = IsSwept (source_of l.e) l.choices l.fars l.rank l.i
