@@ -7,3 +7,4 @@ pub mod BitLemmas
 pub mod Changes
 pub mod ReaderLemmas
 pub mod IndexLemmas
+pub mod ReadingLemmas

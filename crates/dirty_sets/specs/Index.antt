@@ -1,11 +1,11 @@
 -- What an index holds, and what it tells. Values that contracts compare can hold no functions, so they are read by these.
-use Rattle.std.specs.Prelude.{◌≡◌, ℕ, ◌==◌, Bool, false, List, [], if◌then◌else◌, map}
+use Rattle.std.specs.Prelude.{◌≡◌, ℕ, ◌==◌, ◌&&◌, ◌⊎◌, IsTrue, Bool, false, is_some, All, List, [], if◌then◌else◌, map}
 use Rattle.std.specs.Option.{option_map_or}
 use Rattle.net_items.specs.declared.items.Point.{Point}
 use Rattle.net_items.specs.declared.items.LinkSet.{LinkSet}
 use Rattle.net_items.specs.declared.items.Plan.{Plan}
 use Rattle.net_items.specs.Keyed.{at_key}
-use Rattle.net_items.specs.Lookups.{plan_at, set_at}
+use Rattle.net_items.specs.Lookups.{plan_at, row_at, set_at, is_stp}
 use Rattle.net_data.specs.Network.{Network}
 use Rattle.excerpts.specs.Excerpts.{is_read_by}
 use Rattle.dirty_sets.specs.declared.readers.Reader.{Reader}
@@ -32,6 +32,10 @@ reads_of held = record { planned = map (λ (r : Reader). r.dest) held.readers; r
 -- the table of a destination would read the set
 abbrev pub would_read : Network → LinkSet → ℕ → Bool
 would_read net set x = option_map_or (λ plan. is_read_by net.points plan set) (plan_at net.plans x) false
+
+-- each via of each row is the destination, or a transfer point with a row
+abbrev pub LeadsOn : List Point → Plan → Type 0
+LeadsOn points plan = All (λ row. All (All (λ via. (via ≡ plan.dest) ⊎ IsTrue (is_stp points via && is_some (row_at plan.rows via)))) row.classes) plan.rows
 
 -- a set with these ends
 abbrev pub bare_set : ℕ → ℕ → ℕ → LinkSet
