@@ -12,7 +12,8 @@ use Rattle.net_data.specs.Network.{Network}
 use Rattle.profile.specs.Whole.{scratch}
 use Rattle.excerpts.specs.Excerpts.{network_source}
 use Rattle.net_items.proofs.KeyedLemmas.{All-then}
-use Rattle.all_tables.specs.Tables.{table_at, tables, those_there, IsSettledIn}
+use Rattle.excerpts.specs.Excerpts.{table_at}
+use Rattle.all_tables.specs.Tables.{tables, those_there, IsSettledIn}
 
 -- one more
 pub those_there-append : {X : Type 0} (xs ys : List (Option X)) → those_there (xs ++ ys) ≡ those_there xs ++ those_there ys

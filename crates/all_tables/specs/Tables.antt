@@ -1,19 +1,14 @@
 -- The settled tables of a network, and what is wrong with tables that are given.
 use Rattle.std.specs.Prelude.{◌≡◌, ℕ, List, [], ◌∷◌, Option, Some, None, All, map, option_map, slice_get, take}
 use Rattle.std.specs.Option.{MatchOption}
-use Rattle.net_items.specs.Lookups.{plan_at}
 use Rattle.net_data.specs.Network.{Network}
 use Rattle.profile.specs.declared.tables.Table.{Table}
 use Rattle.profile.specs.Whole.{scratch}
-use Rattle.excerpts.specs.Excerpts.{excerpt_at, network_source, source_of}
+use Rattle.excerpts.specs.Excerpts.{excerpt_at, network_source, source_of, table_at}
 use Rattle.transfer_state.specs.Complaints.{IsFirstComplaint}
 use Rattle.transfer_state.specs.declared.certificate.Clause.TheVariants.{Points}
 use Rattle.transfer_state.specs.declared.certificate.Complaint.{Complaint}
 use Rattle.all_tables.specs.declared.checking.Wrong.{Wrong}
-
--- the settled table of a destination, from scratch, where it has a plan
-abbrev pub table_at : Network → ℕ → Option Table
-table_at net dest = option_map (λ plan. scratch (network_source net plan)) (plan_at net.plans dest)
 
 -- the settled tables of all planned destinations, in rising code
 abbrev pub tables : Network → List Table

@@ -1,7 +1,8 @@
 //! The tables of all planned destinations.
 
 ghost use Rattle.std.specs.Prelude.{◌≡◌, IfOk, All, map};
-ghost use Rattle.all_tables.specs.Tables.{table_at as the_table_at, tables, those_there, IsSettledIn};
+ghost use Rattle.excerpts.specs.Excerpts.{table_at as the_table_at};
+ghost use Rattle.all_tables.specs.Tables.{tables, those_there, IsSettledIn};
 
 use excerpts::{Excerpt, ExcerptFault};
 use frozen_nets::Frozen;

@@ -1,9 +1,12 @@
 -- Runs of the desk over lists of steps, and what holds at each of their points (own).
-use Rattle.std.specs.Prelude.{◌≡◌, ℕ, ◌-◌, ◌≤◌, List, [], ◌∷◌, ◌++◌, Ok, Result, take}
-use Rattle.std.specs.Option.{MatchOption}
+use Rattle.std.specs.Prelude.{◌≡◌, ℕ, ◌-◌, ◌≤◌, List, [], ◌∷◌, ◌++◌, Option, Some, None, Ok, Err, Result, take, drop}
+use Rattle.std.specs.Option.{MatchOption, option_map_or}
 use Rattle.net_data.specs.declared.events.Event.{Event}
+use Rattle.net_data.specs.Network.{Network}
+use Rattle.excerpts.specs.Excerpts.{table_at}
 use Rattle.work_units.specs.Work.{Work}
-use Rattle.net_versions.specs.Versions.{Published}
+use Rattle.net_versions.specs.Versions.{Published, table_told}
+use Rattle.path_trace.specs.Traces.{trace_at}
 use Rattle.desk_core.specs.declared.replies.Posted.{Posted}
 use Rattle.desk_core.specs.declared.replies.Posted.TheVariants.{Taken}
 use Rattle.desk_core.specs.declared.replies.Opened.{Opened}
@@ -54,14 +57,53 @@ accepted_in _ _ = []
 abbrev pub events_up_to : State → List Event → ℕ → List Event
 events_up_to start more number = take (number - start.published.number) (start.pending ++ more)
 
--- a version is the one of its number: its network is that after the accepted events up to it
-abbrev pub IsRightVersion : State → List Event → Published → Type 0
-IsRightVersion start more version = version.network ≡ replay start.published.network (events_up_to start more version.number)
+-- the network after the accepted events up to a number
+abbrev pub network_at : State → List Event → ℕ → Network
+network_at start more number = replay start.published.network (events_up_to start more number)
+
+-- the number of the published version, and of the one before it where that was published in the run
+pub record Numbers : Type 0 where
+  pub now : ℕ
+  pub before : Option ℕ
+
+-- the numbers after a reply: a publication tells the new one
+abbrev pub numbers_by : Numbers → Reply → Numbers
+numbers_by numbers (reply.Publish (Ok number)) = record { now = number; before = Some numbers.now }
+numbers_by numbers (reply.Publish (Err refusal)) = numbers
+numbers_by numbers (reply.Post result) = numbers
+numbers_by numbers (reply.Open result) = numbers
+numbers_by numbers (reply.Take result) = numbers
+numbers_by numbers (reply.Give result) = numbers
+numbers_by numbers (reply.Abandon result) = numbers
+
+-- the numbers after replies
+abbrev pub numbers_after : Numbers → List Reply → Numbers
+numbers_after numbers [] = numbers
+numbers_after numbers (reply ∷ replies) = numbers_after (numbers_by numbers reply) replies
+
+-- the accepted events since the version before; those that the first version came with where none was published
+abbrev pub batch_of : State → List Event → Numbers → List Event
+batch_of start more numbers =
+    option_map_or (λ before. drop (before - start.published.number) (events_up_to start more numbers.now)) numbers.before start.published.batch
+
+-- a published version is the one of its number: its events are those since the version before, its network is that after the accepted events up to it, and
+-- the table of each destination (statuses, choices, the link of each SLS, messages in force) and each trace are from scratch those of that network
+pub record IsRightVersion (start : State) (more : List Event) (numbers : Numbers) (version : Published) : Type 0 where
+  pub number : version.number ≡ numbers.now
+  pub batch : version.batch ≡ batch_of start more numbers
+  pub network : version.network ≡ network_at start more numbers.now
+  pub tables : (x : ℕ) → table_told version x ≡ table_at (network_at start more numbers.now) x
+  pub traces : (y x s : ℕ) → trace_at version.network y x s ≡ trace_at (network_at start more numbers.now) y x s
+
+-- the numbers before a run
+abbrev pub first_numbers : State → Numbers
+first_numbers start = record { now = start.published.number; before = None }
 
 -- at every point of a run the published version is the one of its number
 abbrev pub IsRightThroughout : State → List Step → List Reply → Type 0
 IsRightThroughout start steps replies =
-    (k : ℕ) (mid : State) → Runs start (take k steps) (take k replies) mid → IsRightVersion start (accepted_in (take k steps) (take k replies)) mid.published
+    (k : ℕ) (mid : State) → Runs start (take k steps) (take k replies) mid
+    → IsRightVersion start (accepted_in (take k steps) (take k replies)) (numbers_after (first_numbers start) (take k replies)) mid.published
 
 -- an open target is not behind the published version, and not ahead of the accepted events
 abbrev pub IsSteady : State → Type 0

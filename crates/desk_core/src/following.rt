@@ -9,6 +9,7 @@ ghost use Rattle.dirty_sets.specs.Noted.{marked_of};
 ghost use Rattle.desk_core.specs.Inside.{is_link, IsSameMarked};
 
 use dirty_sets::Touched;
+use link_state::LinkChange;
 use net_data::{Event, Net};
 use std::alloc::{AllocError, Global};
 
@@ -24,18 +25,22 @@ pub(crate) fn copy_of(alloc: Global, event: &Event) -> Result<Event, AllocError>
 }
 
 /// Applies an accepted change of a link. It takes no memory.
-fn follow_link(alloc: Global, latest: &mut Net, touched: &mut Touched, event: &Event)
+fn follow_link(
+    latest: &mut Net,
+    touched: &mut Touched,
+    event: &Event,
+    id: u16,
+    slc: u8,
+    change: LinkChange,
+)
     requires index { IsIndex latest.old (marked_of touched.old).index }
     requires accepted { refusal_of latest.old event.now ≡ None }
-    requires link { is_link event.now ≡ true }
+    requires link { event.now ≡ Event.Link id slc change }
     ensures latest { latest.new ≡ changed latest.old event.now }
     ensures noted { IsNoted latest.old event.now (marked_of touched.old) (marked_of touched.new) }
 {
     touched.note(latest, event);
-    match latest.apply(alloc, event) {
-        Ok(()) => {}
-        Err(_) => unreachable!(),
-    }
+    latest.change_link(id, slc, change);
 }
 
 /// Applies an accepted event. Memory first, so that a refusal leaves all as it was.
@@ -78,8 +83,8 @@ pub(crate) fn follow(
     ensures no_memory { is_link event.now ≡ true → IsOk result }
 {
     match event {
-        Event::Link(_, _, _) => {
-            follow_link(alloc, latest, touched, event);
+        Event::Link(id, slc, change) => {
+            follow_link(latest, touched, event, *id, *slc, *change);
             Ok(())
         }
         _ => follow_edit(alloc, latest, touched, event),

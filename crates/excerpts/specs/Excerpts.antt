@@ -12,6 +12,8 @@ use Rattle.net_items.specs.Lookups.{point_at, mate_of, plan_at, row_at}
 use Rattle.net_data.specs.Network.{Network}
 use Rattle.net_data.specs.Valid.{IsValid as IsValidNet}
 use Rattle.profile.specs.Status.{Source, source_in}
+use Rattle.profile.specs.declared.tables.Table.{Table}
+use Rattle.profile.specs.Whole.{scratch}
 use Rattle.profile.specs.Reads.{reads}
 use Rattle.profile.specs.Walk.{is_via}
 use Rattle.profile.specs.Valid.{IsValid, HasFewLinks, HasLinksInOrder}
@@ -45,6 +47,10 @@ is_read_by points plan = reads (source_in points [] plan false)
 -- a network as the source of a plan
 abbrev pub network_source : Network → Plan → Source
 network_source net plan = source_in net.points net.sets plan net.tfr
+
+-- the table of a destination from scratch, where it has a plan
+abbrev pub table_at : Network → ℕ → Option Table
+table_at net dest = option_map (λ plan. scratch (network_source net plan)) (plan_at net.plans dest)
 
 -- an excerpt as the source of its plan
 abbrev pub source_of : Extract → Source

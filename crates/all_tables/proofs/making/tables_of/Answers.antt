@@ -1,7 +1,8 @@
 use Rattle.std.proofs.Common.{map, ap, sym, ◌∙◌, subst}
 use Rattle.std.specs.Prelude.{All}
 use Rattle.rayon.proofs.ListFacts.{IfOk-then}
-use Rattle.all_tables.specs.Tables.{table_at, those_there, IsSettledIn}
+use Rattle.excerpts.specs.Excerpts.{table_at}
+use Rattle.all_tables.specs.Tables.{those_there, IsSettledIn}
 use Rattle.all_tables.proofs.Present.{all_there, all_settled}
 use Rattle.all_tables.proofs.making.tables_of.Goals as goal
 
