@@ -1,17 +1,31 @@
 //! The answer to `trace`.
 
-ghost use Rattle.std.specs.Prelude.{◌≡◌, ◌++◌, ◌<◌, IfOk, OnOk, string_bytes};
+ghost use Rattle.std.specs.Prelude.{◌≡◌, ◌∷◌, ◌++◌, ◌<◌, IfOk, OnOk, string_bytes};
+ghost use Rattle.std.specs.Fmt.{decimal};
 ghost use Rattle.std.specs.List.{flat_map};
 ghost use Rattle.profile.specs.Traces.{hops_in};
 ghost use Rattle.path_trace.specs.Traces.{trace_at};
 ghost use Rattle.answers.specs.Text.{line_count};
 ghost use Rattle.answers.specs.Traces.{hop_text, trace_answer, trace_text};
 
+use itoa::Buffer;
 use net_versions::Version;
 use path_trace::{TraceFault, trace};
 use point_codes::PointCode;
 use profile::hops::{Hop, Trace};
+use profile::tables::LinkRef;
 use std::alloc::{AllocError, Global};
+
+/// Adds a link after a space, by the id of its set and its link code.
+fn put_link(text: &mut String, link: LinkRef) -> Result<(), AllocError>
+    ensures { OnOk result (string_bytes text.new ≡ string_bytes text.old ++ 32 ∷ (decimal link.id ++ 58 ∷ decimal link.slc)) }
+{
+    let mut digits = Buffer::new();
+    text.push(' ')?;
+    text.push_str(digits.format(link.id))?;
+    text.push(':')?;
+    text.push_str(digits.format(link.slc))
+}
 
 /// Adds a hop after a space, by its link and the point that it reaches.
 fn put_hop(alloc: Global, text: &mut String, hop: Hop) -> Result<(), AllocError>
@@ -21,9 +35,9 @@ fn put_hop(alloc: Global, text: &mut String, hop: Hop) -> Result<(), AllocError>
     let Hop { link, to, .. } = hop;
     // The proof reads the code's range from this.
     let _number = to.number();
-    let (id, slc) = (link.id, link.slc);
-    let word = format!(in alloc; " {id}:{slc}>{to}")?;
-    text.push_str(word.as_str())
+    put_link(text, link)?;
+    text.push('>')?;
+    to.put_text(alloc, text)
 }
 
 /// Adds hops, each after a space.

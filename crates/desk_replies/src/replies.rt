@@ -7,8 +7,21 @@ ghost use Rattle.desk_replies.specs.Replies.{abandoned_text, given_text, job_tex
 
 use crate::refusals::put_refusal;
 use desk_core::{Opened, Posted, Refusal};
+use itoa::Buffer;
 use std::alloc::{AllocError, Global};
 use work_units::{Job, Settled};
+
+/// A word and a number, in one piece of memory.
+fn join_number(alloc: Global, word: &str, number: u64) -> Result<String, AllocError>
+    ensures { IfOk result (λ text. string_bytes text ≡ word.now ++ 32 ∷ decimal number) }
+{
+    let mut digits = Buffer::new();
+    let mut text = String::with_capacity(alloc, word.len().saturating_add(22))?;
+    text.push_str(word)?;
+    text.push(' ')?;
+    text.push_str(digits.format(number))?;
+    Ok(text)
+}
 
 /// A word and a number.
 fn write_numbered(alloc: Global, word: &str, number: u64) -> Result<String, AllocError>
@@ -16,7 +29,7 @@ fn write_numbered(alloc: Global, word: &str, number: u64) -> Result<String, Allo
     ensures text { IfOk result (λ text. string_bytes text ≡ word.now ++ 32 ∷ decimal number) }
     ensures plain { IfOk result (λ text. line_count (string_bytes text) ≡ 0) }
 {
-    format!(in alloc; "{word} {number}")
+    join_number(alloc, word, number)
 }
 
 /// Two words, each with a number.

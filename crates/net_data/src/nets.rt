@@ -171,7 +171,8 @@ impl Net {
         }
     }
 
-    fn change_link(&mut self, id: u16, slc: u8, change: LinkChange)
+    /// Changes a link's marks, where `refusal_of` refuses nothing. It takes no memory.
+    pub fn change_link(&mut self, id: u16, slc: u8, change: LinkChange)
         requires { the_refusal self.old (Event.Link id slc change) ≡ None }
         ensures { self.new ≡ changed self.old (Event.Link id slc change) }
     {

@@ -18,12 +18,24 @@ pub fn place_of_point(points: &[Point], code: PointCode) -> Result<usize, usize>
     points.binary_search_by_key(&code, |p| p.code)
 }
 
-/// Where a set is, or would go.
+/// The place of a set of that id where ids go up by one.
+fn guess_of_set(sets: &[LinkSet], id: u16) -> usize {
+    match sets {
+        [first, ..] => usize::from(id.saturating_sub(first.id)),
+        [] => 0,
+    }
+}
+
+/// Where a set is, or would go. Mostly ids go up by one, and it is seen at once; else it is found by halves.
 pub fn place_of_set(sets: &[LinkSet], id: u16) -> Result<usize, usize>
     requires { IsRising (λ s. s.id) sets.now }
     ensures found { IfOk result (IsFoundAt (λ s. s.id) id sets.now) }
     ensures absent { IfErr result (IsGapAt (λ s. s.id) id sets.now) }
 {
+    let guess = guess_of_set(sets, id);
+    if guess < sets.len() && sets[guess].id == id {
+        return Ok(guess);
+    }
     sets.binary_search_by_key(&id, |s| s.id)
 }
 

@@ -5,13 +5,16 @@ ghost use Rattle.std.specs.List.{AllByRecursion, join_with_byte};
 ghost use Rattle.tokens.specs.Words.{words_of, IsWord};
 
 use point_codes::split_at_byte;
+use smallvec::SmallVec;
 use std::alloc::{AllocError, Global};
 
 /// The words between spaces, in order. Spaces at the start, at the end and beside each other make no word.
-pub fn split_words<'a>(alloc: Global, text: &'a [u8]) -> Result<Vec<&'a [u8]>, AllocError>
+///
+/// Up to four words take no memory.
+pub fn split_words<'a>(alloc: Global, text: &'a [u8]) -> Result<SmallVec<&'a [u8], 4>, AllocError>
     ensures { IfOk result (λ words. map (λ w. w.now) words.items ≡ words_of text.entry.now) }
 {
-    let mut words = Vec::new(alloc);
+    let mut words = SmallVec::new(alloc);
     let mut rest = text;
     while let Some((first, after)) = split_at_byte(rest, b' ') {
         if !first.is_empty() {

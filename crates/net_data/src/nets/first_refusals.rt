@@ -131,13 +131,15 @@ impl Net {
     pub(super) fn refusal_of_link(&self, id: u16, slc: u8, change: LinkChange) -> Option<Refusal>
         ensures { result ≡ the_refusal self.now (Event.Link id slc change) }
     {
-        if !is_set(self.sets.as_slice(), id) {
-            return Some(Refusal::NoSet);
+        // Mostly the link is there, which one search tells.
+        if set_has_link(self.sets.as_slice(), id, slc) {
+            return None;
         }
-        if !set_has_link(self.sets.as_slice(), id, slc) {
-            return Some(Refusal::NoLink);
+        if is_set(self.sets.as_slice(), id) {
+            Some(Refusal::NoLink)
+        } else {
+            Some(Refusal::NoSet)
         }
-        None
     }
 
     pub(super) fn refusal_of_add_link(&self, id: u16, slc: u8) -> Option<Refusal>

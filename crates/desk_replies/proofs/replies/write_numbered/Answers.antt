@@ -4,4 +4,4 @@ use Rattle.desk_replies.proofs.replies.write_numbered.Goals as goal
 
 pub returns-clause-plain : goal.returns-clause-plain
 returns-clause-plain c =
-    plain_written string_bytes _ c.format.result (plain_numbered c.args.word.now c.args.number c.requires (omega arith)) c.format.ensures.ok
+    plain_written string_bytes _ c.join_number.result (plain_numbered c.args.word.now c.args.number c.requires (omega arith)) c.join_number.ensures

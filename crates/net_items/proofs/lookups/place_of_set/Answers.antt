@@ -1,9 +1,18 @@
 -- the closure gives the key, and the keys rise
-use Rattle.std.proofs.Common.{rules}
+use Rattle.std.proofs.Common.{◌∙◌, ap, arith, rules, sym}
+use Rattle.std.proofs.lemmas.List.{get_or_read}
 use Rattle.std.proofs.lemmas.List.Sorted.{answers_always}
 use Rattle.net_items.specs.declared.items.LinkSet.{LinkSet}
-use Rattle.net_items.proofs.KeyedLemmas.{searched}
+use Rattle.net_items.proofs.KeyedLemmas.{found_here, searched}
 use Rattle.net_items.proofs.lookups.place_of_set.Goals as goal
+
+pub returns-then-sets-guess-clause-found : goal.returns-then-sets-guess-clause-found
+returns-then-sets-guess-clause-found c =
+    let sets = c.args.sets.now in
+    let guess = c.guess_of_set-guess.result in
+    let set = c.index-sets-guess.result in
+    found_here (λ (s : LinkSet). s.id) c.args.id sets guess c.requires (omega arith)
+    (λ d. ap (λ (s : LinkSet). s.id) (sym (get_or_read sets guess set (omega arith) c.index-sets-guess.is d) ∙ c.index-sets-guess.is) ∙ c.if-sets-guess.true)
 
 pub returns-clause-found : goal.returns-clause-found
 returns-clause-found c =
