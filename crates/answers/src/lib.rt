@@ -16,6 +16,7 @@
 #![tactic(auto)]
 
 pub mod audits;
+mod codes;
 mod links;
 mod messages;
 pub mod refusals;

@@ -6,6 +6,7 @@ ghost use Rattle.point_codes.specs.Octets.{octets_of};
 ghost use Rattle.answers.specs.Messages.{kind_text, message_text, messages_text, octet_text, octets_text, message_to};
 ghost use Rattle.answers.specs.Text.{line_count};
 
+use crate::codes::put_code;
 use point_codes::{MsgKind, PointCode, tfm_octets};
 use profile::tables::{Message, Messages};
 use std::alloc::{AllocError, Global};
@@ -22,7 +23,7 @@ fn kind_word(kind: MsgKind) -> &'static str
 }
 
 /// Adds a message after a space.
-fn put_message(alloc: Global, text: &mut String, message: Message) -> Result<(), AllocError>
+fn put_message(text: &mut String, message: Message) -> Result<(), AllocError>
     ensures text { OnOk result (string_bytes text.new ≡ string_bytes text.old ++ message_text message) }
     ensures plain { line_count (message_text message) ≡ 0 }
 {
@@ -32,16 +33,16 @@ fn put_message(alloc: Global, text: &mut String, message: Message) -> Result<(),
     text.push_str(" ")?;
     text.push_str(word)?;
     text.push_str(">")?;
-    message.to.put_text(alloc, text)
+    put_code(text, message.to)
 }
 
 /// Adds messages, each after a space.
-fn put_messages(alloc: Global, text: &mut String, messages: &[Message]) -> Result<(), AllocError>
+fn put_messages(text: &mut String, messages: &[Message]) -> Result<(), AllocError>
     ensures text { OnOk result (string_bytes text.new ≡ string_bytes text.old ++ flat_map message_text messages.now) }
     ensures plain { OnOk result (line_count (string_bytes text.new) ≡ line_count (string_bytes text.old)) }
 {
     for message in messages {
-        put_message(alloc, text, *message)?;
+        put_message(text, *message)?;
     }
     Ok(())
 }
@@ -52,7 +53,7 @@ pub(crate) fn write_messages(alloc: Global, messages: &Messages) -> Result<Strin
     ensures plain { IfOk result (λ text. line_count (string_bytes text) ≡ 0) }
 {
     let mut text = String::from_str(alloc, "messages")?;
-    put_messages(alloc, &mut text, messages.as_slice())?;
+    put_messages(&mut text, messages.as_slice())?;
     Ok(text)
 }
 

@@ -5,6 +5,7 @@ ghost use Rattle.std.specs.List.{flat_map};
 ghost use Rattle.answers.specs.Status.{far_text, member_text, status_text};
 ghost use Rattle.answers.specs.Text.{line_count};
 
+use crate::codes::put_code;
 use point_codes::PointCode;
 use route_choice::{Choice, Far};
 use std::alloc::{AllocError, Global};
@@ -21,7 +22,7 @@ pub(crate) fn far_word(far: Far) -> &'static str
 }
 
 /// Adds a member after a space.
-fn put_member(alloc: Global, text: &mut String, member: Option<PointCode>) -> Result<(), AllocError>
+fn put_member(text: &mut String, member: Option<PointCode>) -> Result<(), AllocError>
     ensures text { OnOk result (string_bytes text.new ≡ string_bytes text.old ++ member_text member) }
     ensures plain { line_count (member_text member) ≡ 0 }
 {
@@ -31,20 +32,16 @@ fn put_member(alloc: Global, text: &mut String, member: Option<PointCode>) -> Re
     // The proof reads the code's range from this.
     let _number = code.number();
     text.push_str(" ")?;
-    code.put_text(alloc, text)
+    put_code(text, code)
 }
 
 /// Adds the members of a choice.
-fn put_members(
-    alloc: Global,
-    text: &mut String,
-    members: &[Option<PointCode>],
-) -> Result<(), AllocError>
+fn put_members(text: &mut String, members: &[Option<PointCode>]) -> Result<(), AllocError>
     ensures text { OnOk result (string_bytes text.new ≡ string_bytes text.old ++ flat_map member_text members.now) }
     ensures plain { OnOk result (line_count (string_bytes text.new) ≡ line_count (string_bytes text.old)) }
 {
     for member in members {
-        put_member(alloc, text, *member)?;
+        put_member(text, *member)?;
     }
     Ok(())
 }
@@ -60,6 +57,6 @@ pub(crate) fn write_status(alloc: Global, choice: &Choice) -> Result<String, All
     }
     let word = far_word(choice.status);
     let mut text = format!(in alloc; "status {word} class {class} by")?;
-    put_members(alloc, &mut text, &choice.members)?;
+    put_members(&mut text, &choice.members)?;
     Ok(text)
 }

@@ -8,6 +8,7 @@ ghost use Rattle.path_trace.specs.Traces.{trace_at};
 ghost use Rattle.answers.specs.Text.{line_count};
 ghost use Rattle.answers.specs.Traces.{hop_text, trace_answer, trace_text};
 
+use crate::codes::put_code;
 use itoa::Buffer;
 use net_versions::Version;
 use path_trace::{TraceFault, trace};
@@ -28,7 +29,7 @@ fn put_link(text: &mut String, link: LinkRef) -> Result<(), AllocError>
 }
 
 /// Adds a hop after a space, by its link and the point that it reaches.
-fn put_hop(alloc: Global, text: &mut String, hop: Hop) -> Result<(), AllocError>
+fn put_hop(text: &mut String, hop: Hop) -> Result<(), AllocError>
     ensures text { OnOk result (string_bytes text.new ≡ string_bytes text.old ++ hop_text hop) }
     ensures plain { line_count (hop_text hop) ≡ 0 }
 {
@@ -37,16 +38,16 @@ fn put_hop(alloc: Global, text: &mut String, hop: Hop) -> Result<(), AllocError>
     let _number = to.number();
     put_link(text, link)?;
     text.push('>')?;
-    to.put_text(alloc, text)
+    put_code(text, to)
 }
 
 /// Adds hops, each after a space.
-fn put_hops(alloc: Global, text: &mut String, hops: &[Hop]) -> Result<(), AllocError>
+fn put_hops(text: &mut String, hops: &[Hop]) -> Result<(), AllocError>
     ensures text { OnOk result (string_bytes text.new ≡ string_bytes text.old ++ flat_map hop_text hops.now) }
     ensures plain { OnOk result (line_count (string_bytes text.new) ≡ line_count (string_bytes text.old)) }
 {
     for hop in hops {
-        put_hop(alloc, text, *hop)?;
+        put_hop(text, *hop)?;
     }
     Ok(())
 }
@@ -59,7 +60,7 @@ fn write_trace(alloc: Global, trace: &Trace) -> Result<String, AllocError>
     match trace {
         Trace::Reached(hops) => {
             let mut text = String::from_str(alloc, "trace reached")?;
-            put_hops(alloc, &mut text, hops.as_slice())?;
+            put_hops(&mut text, hops.as_slice())?;
             Ok(text)
         }
         Trace::Stopped => String::from_str(alloc, "trace stopped"),

@@ -24,11 +24,14 @@ use std::sync::Arc;
 /// It is shared, and works out links and messages when they are asked for.
 #[derive(Drop)]
 pub struct Routing {
+    /// The destination, beside the excerpt, so that a search among routings reads no plans.
+    dest: PointCode,
     excerpt: Excerpt,
     choices: Arc<Vec<Choice>>,
 }
 
 impl Model for Routing {
+    ghost use Rattle.std.specs.Prelude.{◌≡◌};
     ghost use Rattle.std.specs.Arc.{arc_value};
     ghost use Rattle.excerpts.specs.Excerpts.{Extract};
     ghost use Rattle.transfer_state.specs.Routing.{IsChosen};
@@ -37,7 +40,7 @@ impl Model for Routing {
 
     ghost view = { λ r. r.excerpt };
 
-    ghost invariant = { λ r. IsChosen r.excerpt (arc_value r.choices).items };
+    ghost invariant = { λ r. record { chosen : IsChosen r.excerpt (arc_value r.choices).items; dest : r.dest ≡ r.excerpt.plan.dest } };
 }
 
 impl Routing {
@@ -51,7 +54,11 @@ impl Routing {
             Err(refused) => return Err((excerpt, refused)),
         };
         match Arc::new(alloc, list) {
-            Ok(choices) => Ok(Routing { excerpt, choices }),
+            Ok(choices) => Ok(Routing {
+                dest: excerpt.dest(),
+                excerpt,
+                choices,
+            }),
             Err(_) => Err((excerpt, AllocError)),
         }
     }
@@ -67,7 +74,7 @@ impl Routing {
     pub fn dest(&self) -> PointCode
         ensures { result ≡ self.now.plan.dest }
     {
-        self.excerpt.dest()
+        self.dest
     }
 
     /// The same routing once more. It fails only where no further share can be counted.
@@ -75,6 +82,7 @@ impl Routing {
         ensures { IfOk result (λ r. r ≡ self.now) }
     {
         Ok(Routing {
+            dest: self.dest,
             excerpt: self.excerpt.share()?,
             choices: Arc::try_clone(&self.choices)?,
         })
@@ -88,6 +96,7 @@ impl Routing {
         excerpt.validity();
         self.excerpt.validity();
         Ok(Routing {
+            dest: excerpt.dest(),
             choices: Arc::try_clone(&self.choices)?,
             excerpt,
         })
@@ -198,6 +207,7 @@ impl Place {
     {
         match &self.choices {
             Some(choices) => Ok(Some(Routing {
+                dest: self.excerpt.dest(),
                 excerpt: self.excerpt.share()?,
                 choices: Arc::try_clone(choices)?,
             })),

@@ -7,4 +7,4 @@ use Rattle.transfer_state.proofs.routing.Place.fill.Goals as goal
 pub invariant_of-self : goal.invariant_of-self
 invariant_of-self c =
     chosen_same c.routing.inside.excerpt c.self.inside.excerpt c.validity-2.ensures c.validity.ensures
-    (ap (λ (s : Seat). content_of s.extract) c.self.view_is ∙ sym c.requires ∙ ap content_of (sym c.routing.view_is)) _ c.routing.invariant
+    (ap (λ (s : Seat). content_of s.extract) c.self.view_is ∙ sym c.requires ∙ ap content_of (sym c.routing.view_is)) _ c.routing.invariant.chosen
