@@ -1,7 +1,9 @@
 //! ROW: a row of a plan.
 
-ghost use Rattle.std.specs.Prelude.{◌≡◌, ℕ, ◌↔◌, List, option_map, Some, IfOk};
+ghost use Rattle.std.specs.Prelude.{◌≡◌, ℕ, ◌↔◌, List, option_map, None, Some, IfOk};
 ghost use Rattle.net_items.specs.declared.lists.Row.{Row};
+ghost use Rattle.point_codes.specs.Codes.{split_of};
+ghost use Rattle.tokens.specs.Pieces.{pieces_of};
 ghost use Rattle.tokens.specs.Rows.{vias_of, classes_of, flag_of, parts_of, row_of, row_text, IsRow};
 
 use crate::numbers::{read_code, read_rank};
@@ -29,13 +31,25 @@ fn read_vias(alloc: Global, text: &[u8]) -> Result<Option<Vias>, AllocError>
     Ok(Some(vias))
 }
 
-/// The classes of a row: none, or joined by `/`.
-fn read_classes(alloc: Global, text: &[u8]) -> Result<Option<Classes>, AllocError>
-    ensures { IfOk result (λ classes. classes ≡ classes_of text.now) }
+/// One class.
+fn read_class(alloc: Global, text: &[u8]) -> Result<Option<Classes>, AllocError>
+    requires { split_of 47 text.now ≡ None }
+    ensures { IfOk result (λ classes. classes ≡ pieces_of 47 vias_of text.now) }
 {
-    if text.is_empty() {
-        return Ok(Some(Classes::from_vec(Vec::new(alloc))));
+    match read_vias(alloc, text)? {
+        Some(vias) => {
+            let mut classes = Vec::with_capacity(alloc, 1)?;
+            classes.push(vias)?;
+            Ok(Some(Classes::from_vec(classes)))
+        }
+        None => Ok(None),
     }
+}
+
+/// Classes joined by `/`.
+fn read_joined_classes(alloc: Global, text: &[u8]) -> Result<Option<Classes>, AllocError>
+    ensures { IfOk result (λ classes. classes ≡ pieces_of 47 vias_of text.now) }
+{
     let strokes = text.iter().filter(|byte| **byte == b'/').count();
     let mut classes = Vec::with_capacity(alloc, strokes.saturating_add(1))?;
     let mut rest = text;
@@ -51,6 +65,20 @@ fn read_classes(alloc: Global, text: &[u8]) -> Result<Option<Classes>, AllocErro
         None => return Ok(None),
     }
     Ok(Some(Classes::from_vec(classes)))
+}
+
+/// The classes of a row: none, or joined by `/`.
+fn read_classes(alloc: Global, text: &[u8]) -> Result<Option<Classes>, AllocError>
+    ensures { IfOk result (λ classes. classes ≡ classes_of text.now) }
+{
+    if text.is_empty() {
+        return Ok(Some(Classes::from_vec(Vec::new(alloc))));
+    }
+    // Most rows have one class.
+    match split_at_byte(text, b'/') {
+        None => read_class(alloc, text),
+        Some(_) => read_joined_classes(alloc, text),
+    }
 }
 
 /// The text of the classes, and whether `:m` comes after it.

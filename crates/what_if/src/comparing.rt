@@ -1,6 +1,6 @@
 //! The changes from a network to another.
 
-ghost use Rattle.std.specs.Prelude.{◌≡◌, ◌++◌, IfOk, OnOk, map};
+ghost use Rattle.std.specs.Prelude.{◌≡◌, ◌++◌, [], true, IfOk, OnOk, map};
 ghost use Rattle.std.specs.Option.{option_copied};
 ghost use Rattle.excerpts.specs.Excerpts.{excerpt_at};
 ghost use Rattle.what_if.specs.Reports.{changes as the_changes, change_between, changes_between, status_of as the_status};
@@ -68,15 +68,10 @@ fn add_changes_between(
     Ok(())
 }
 
-/// The settled routing of an excerpt: the one at hand where it reads the same, else from scratch.
-fn settled(alloc: Global, excerpt: Excerpt, before: Option<&Routing>) -> Result<Routing, AllocError>
+/// The settled routing of an excerpt.
+fn settled(alloc: Global, excerpt: Excerpt) -> Result<Routing, AllocError>
     ensures { IfOk result (λ r. r ≡ excerpt) }
 {
-    if let Some(routing) = before {
-        if excerpt.equals(routing.excerpt()) {
-            return routing.of_same(excerpt);
-        }
-    }
     match Routing::of(alloc, excerpt) {
         Ok(routing) => Ok(routing),
         Err((_, refused)) => Err(refused),
@@ -84,18 +79,28 @@ fn settled(alloc: Global, excerpt: Excerpt, before: Option<&Routing>) -> Result<
 }
 
 /// The settled routing towards a destination of a network, where it is planned.
-fn routing_in(
-    alloc: Global,
-    net: &Frozen,
-    dest: PointCode,
-    before: Option<&Routing>,
-) -> Result<Option<Routing>, AllocError>
+fn routing_in(alloc: Global, net: &Frozen, dest: PointCode) -> Result<Option<Routing>, AllocError>
     ensures { IfOk result (λ r. r ≡ excerpt_at net.now dest) }
 {
     match Excerpt::of(net, dest) {
-        Ok(excerpt) => Ok(Some(settled(alloc, excerpt, before)?)),
+        Ok(excerpt) => Ok(Some(settled(alloc, excerpt)?)),
         Err(ExcerptFault::NoPlan) => Ok(None),
         Err(ExcerptFault::OutOfMemory) => Err(AllocError),
+    }
+}
+
+/// Whether a destination reads the same in a network as before, so that nothing changes towards it.
+fn reads_the_same(before: Option<&Routing>, net: &Frozen, dest: PointCode) -> bool
+    ensures { result ≡ true → changes_between (option_copied before.entry) (excerpt_at net.now dest) dest ≡ [] }
+{
+    match before {
+        Some(routing) => {
+            let excerpt = routing.excerpt();
+            excerpt.validity();
+            net.net().validity();
+            excerpt.is_of(net.net(), dest)
+        }
+        None => false,
     }
 }
 
@@ -110,7 +115,10 @@ fn add_changes(
     ensures { OnOk result (changes.new.items ≡ changes.old.items ++ changes_between (excerpt_at version.now.network dest) (excerpt_at net.now dest) dest) }
 {
     let before = version.routing(dest);
-    let after = routing_in(alloc, net, dest, before)?;
+    if reads_the_same(before, net, dest) {
+        return Ok(());
+    }
+    let after = routing_in(alloc, net, dest)?;
     add_changes_between(alloc, before, after.as_ref(), dest, changes)
 }
 

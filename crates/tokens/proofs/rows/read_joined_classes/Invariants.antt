@@ -2,7 +2,7 @@ use Rattle.std.proofs.Common.{◌≡◌, length}
 use Rattle.tokens.specs.Pieces.{pieces_of}
 use Rattle.tokens.specs.Rows.{vias_of}
 use Rattle.tokens.proofs.PiecesLemmas.{onto}
-use Rattle.tokens.proofs.rows.read_classes.Given as goal
+use Rattle.tokens.proofs.rows.read_joined_classes.Given as goal
 
 -- what was read and what is left to read give what all gives
 abbrev pub invariant-loop-first : goal.invariant-loop-first
