@@ -4,3 +4,4 @@ pub mod Matching
 pub mod Membership
 pub mod Promising
 pub mod RouteLemmas
+pub mod Sizes

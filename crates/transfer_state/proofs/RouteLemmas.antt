@@ -1,5 +1,5 @@
 -- The routing of an excerpt and its table.
-use Rattle.std.proofs.Common.{◌≡◌, ℕ, ◌<◌, List, [], ◌∷◌, Option, Some, None, map, eqb, refl, sym, ap, ◌∙◌, length}
+use Rattle.std.proofs.Common.{◌≡◌, ℕ, List, [], ◌∷◌, Option, Some, None, map, eqb, refl, sym, ap, ◌∙◌, length}
 use Rattle.std.specs.Prelude.{slice_get}
 use Rattle.std.specs.Option.{option_map, option_and_then}
 use Rattle.std.proofs.lemmas.Option.{same_Some}
@@ -12,7 +12,7 @@ use Rattle.profile.specs.Status.{Source, choice}
 use Rattle.profile.specs.Valid.{IsSmall}
 use Rattle.profile.specs.declared.hops.Hop.{Hop}
 use Rattle.profile.specs.Traces.{hop_of}
-use Rattle.profile.specs.Whole.{scratch, state_of, carrier, link_of}
+use Rattle.profile.specs.Whole.{state_of, carrier, link_of}
 use Rattle.profile.proofs.Certificate.{find-map}
 use Rattle.excerpts.specs.Excerpts.{Extract, source_of, content_of, IsRight}
 use Rattle.excerpts.proofs.Extracting.{table_equal}

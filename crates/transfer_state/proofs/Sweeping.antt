@@ -2,7 +2,7 @@
 use Rattle.std.proofs.Common.{◌≡◌, ◌≢◌, ℕ, zero, suc, ◌+◌, ◌<◌, ◌≤◌, List, [], ◌∷◌, Option, Some, None, All, get_or, set, map, cond, eqb, Bool, true, false, refl, sym, ap, ◌∙◌, arith, inl, inr, ◌⊎◌, subst, length, replicate, slice_get, below_more}
 use Rattle.std.proofs.lemmas.List.{get_or-set_other, get_or-set_same, get_or_read, length-set, length-replicate}
 use Rattle.std.proofs.lemmas.List.Elements.{All-weaker}
-use Rattle.std.proofs.lemmas.Bool.{eqb-true, eq-eqb, ne_eqb, cases_eq}
+use Rattle.std.proofs.lemmas.Bool.{eq-eqb, ne_eqb, cases_eq}
 use Rattle.route_choice.specs.declared.choices.Far.{Far}
 use Rattle.route_choice.specs.declared.choices.Far.TheVariants.{Allowed, Prohibited}
 use Rattle.net_items.specs.declared.lists.Row.{Row}
@@ -14,11 +14,10 @@ use Rattle.profile.specs.Status.{Source, row_of, rank_of, choice_by, choice, sta
 use Rattle.transfer_state.specs.Told.{far_at, KnowsBelow, TellsBelow}
 use Rattle.profile.specs.Valid.{IsValid, IsValidRow, IsSmall}
 use Rattle.link_sets.proofs.Lists.{find_gives}
-use Rattle.profile.proofs.Unfold.{AgreeBelow, row_valid, rank_is, choice_same, status_is}
+use Rattle.profile.proofs.Unfold.{row_valid, rank_is, choice_same, status_is}
 use Rattle.profile.proofs.Placing.{row_at_place}
 use Rattle.std.specs.List.{AllByRecursion}
-use Rattle.net_items.specs.Keyed.{IsRising, IsFoundAt, IsGapAt}
-use Rattle.profile.proofs.Settled.{status_of_dest, status_of_row}
+use Rattle.profile.proofs.Settled.{status_of_row}
 
 -- what holds of each element holds of the one at a place
 pub at_index : {X : Type 0} (P : X → Type 0) (xs : List X) (i : ℕ) (d : X) → AllByRecursion P xs → i < length xs → P (get_or xs i d)

@@ -9,7 +9,7 @@ ghost use Rattle.excerpts.specs.Excerpts.{source_of};
 ghost use Rattle.transfer_state.specs.Complaints.{right_state, HasPoints, IsWrongIn, IsFirstComplaint};
 
 use crate::hearing::choice_heard;
-use crate::states::{links_of, message};
+use crate::states::{links_of, message, size_of};
 use crate::sweep::rows_of;
 use excerpts::Excerpt;
 use net_items::Row;
@@ -95,7 +95,8 @@ fn are_links(e: &Excerpt, row: &Row, choice: &Choice, links: &RowLinks) -> bool
     requires { IsSmall row.now }
     ensures { IsTrue result ↔ (links.now ≡ (state_by (source_of e.now) row.now choice.now).links) }
 {
-    links.equals(&links_of(e, row, choice))
+    let size = size_of(row, choice.class);
+    links.equals(&links_of(e, row, choice, size))
 }
 
 /// Whether these are the messages in force from a row with this choice, in rising code of the receiver.

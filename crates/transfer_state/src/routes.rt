@@ -1,16 +1,16 @@
 //! What a row uses, by the choices of all rows.
 
-ghost use Rattle.std.specs.Prelude.{◌≡◌, ◌<◌, None, Some, IfOk};
+ghost use Rattle.std.specs.Prelude.{◌≡◌, ◌<◌, None, Some, IfOk, is_some, true};
 ghost use Rattle.std.specs.Option.{MatchOption, option_map};
 ghost use Rattle.net_items.specs.Lookups.{row_at};
 ghost use Rattle.profile.specs.Status.{choice};
 ghost use Rattle.profile.specs.Traces.{hop_of};
 ghost use Rattle.profile.specs.Valid.{IsSmall};
-ghost use Rattle.profile.specs.Whole.{state_of};
+ghost use Rattle.profile.specs.Whole.{state_of, size_of as size_by, member as member_of};
 ghost use Rattle.excerpts.specs.Excerpts.{source_of};
 ghost use Rattle.transfer_state.specs.Routing.{state_at, hop_by, IsChosen, IsFoundRow};
 
-use crate::states::{links_of, member, messages_of, size_of};
+use crate::states::{links_of, member, messages_of, used_size};
 use crate::sweep::rows_of;
 use excerpts::Excerpt;
 use net_items::Row;
@@ -53,7 +53,10 @@ pub(crate) fn links_at(e: &Excerpt, choices: &[Choice], point: PointCode) -> Opt
     ensures { result ≡ option_map (λ s. s.links) (state_at e.now point) }
 {
     match found(e, choices, point) {
-        Some((row, choice)) => Some(links_of(e, row, &choice)),
+        Some((row, choice)) => {
+            let size = used_size(row, &choice);
+            Some(links_of(e, row, &choice, size))
+        }
         None => None,
     }
 }
@@ -78,11 +81,12 @@ pub(crate) fn messages_at(
 fn hop_by_choice(e: &Excerpt, row: &Row, choice: &Choice, s: u8) -> Option<Hop>
     requires sls { s < 16 }
     requires small { IsSmall row.now }
+    requires two { is_some (member_of choice.now 1) ≡ true → size_by row.now choice.now.class ≡ 2 }
     ensures { result ≡ hop_by (source_of e.now) row.now choice.now s }
 {
     e.validity();
     let used = [member(choice, 0).is_some(), member(choice, 1).is_some()];
-    let (place, share) = member_for(size_of(row, choice.class), used, s);
+    let (place, share) = member_for(used_size(row, choice), used, s);
     let to = member(choice, usize::from(place))?;
     let set = e.set_between(row.point, to)?;
     let slc = link_for(set, share)?;

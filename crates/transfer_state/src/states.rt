@@ -1,6 +1,6 @@
 //! The links and the messages of a row with its choice.
 
-ghost use Rattle.std.specs.Prelude.{◌≡◌, ◌<◌, All, IfOk};
+ghost use Rattle.std.specs.Prelude.{◌≡◌, ◌<◌, All, IfOk, is_some, true};
 ghost use Rattle.profile.specs.Local.{is_member as is_member_of, message as message_of, is_at as is_at_of};
 ghost use Rattle.profile.specs.Valid.{IsSmall, HasFewLinks, HasLinksInOrder};
 ghost use Rattle.profile.specs.Whole.{size_of as size_by, member as member_of, messages_of as messages_by, state_of as state_by};
@@ -32,6 +32,20 @@ pub(crate) fn size_of(row: &Row, class: u8) -> u8
     }
 }
 
+/// The configured number of vias of the class that a choice uses. With a second member it is two, and the row's classes
+/// needn't be fetched.
+pub(crate) fn used_size(row: &Row, choice: &Choice) -> u8
+    requires small { IsSmall row.now }
+    requires two { is_some (member_of choice.now 1) ≡ true → size_by row.now choice.now.class ≡ 2 }
+    ensures { result ≡ size_by row.now choice.now.class }
+{
+    if member(choice, 1).is_some() {
+        2
+    } else {
+        size_of(row, choice.class)
+    }
+}
+
 /// The member in a place of a choice, 0 or 1.
 pub(crate) fn member(choice: &Choice, place: usize) -> Option<PointCode>
     requires { place < 2 }
@@ -53,10 +67,11 @@ fn set_over(e: &Excerpt, y: PointCode, member: Option<PointCode>) -> Option<SetL
     })
 }
 
-/// The links of the sixteen signalling link selections (Q.704 clause 2.3).
+/// The links of the sixteen signalling link selections (Q.704 clause 2.3), by the configured number of vias of the class
+/// in use.
 #[tactic(auto, using(crate::proofs::Membership::links_made))]
-pub(crate) fn links_of(e: &Excerpt, row: &Row, choice: &Choice) -> RowLinks
-    requires { IsSmall row.now }
+pub(crate) fn links_of(e: &Excerpt, row: &Row, choice: &Choice, size: u8) -> RowLinks
+    requires { size ≡ size_by row.now choice.now.class }
     ensures { result ≡ (state_by (source_of e.now) row.now choice.now).links }
 {
     e.validity();
@@ -65,7 +80,7 @@ pub(crate) fn links_of(e: &Excerpt, row: &Row, choice: &Choice) -> RowLinks
     let used = [first.is_some(), second.is_some()];
     let first_set = set_over(e, row.point, first);
     let second_set = set_over(e, row.point, second);
-    RowLinks::new(size_of(row, choice.class), used, [first_set, second_set])
+    RowLinks::new(size, used, [first_set, second_set])
 }
 
 fn is_at(member: Option<PointCode>, z: PointCode) -> bool

@@ -6,7 +6,7 @@ ghost use Rattle.excerpts.specs.Excerpts.{source_of};
 ghost use Rattle.transfer_state.specs.Promises.{TellsWalks, KeepsMatesApart};
 ghost use Rattle.transfer_state.specs.Routing.{IsChosen};
 
-use crate::states::{links_of, messages_of};
+use crate::states::{links_of, messages_of, size_of};
 use crate::sweep::{choices, rows_of};
 use excerpts::Excerpt;
 use profile::tables::{RowState, RowStates, Table};
@@ -41,7 +41,8 @@ pub(crate) fn table_by(alloc: Global, e: &Excerpt, choices: &[Choice]) -> Result
     for i in 0..rows.len() {
         let row = &rows[i];
         let choice = choices[i];
-        let links = links_of(e, row, &choice);
+        let size = size_of(row, choice.class);
+        let links = links_of(e, row, &choice, size);
         let messages = messages_of(alloc, e, row, &choice)?;
         list.push(RowState {
             point: row.point,

@@ -1,4 +1,4 @@
-use Rattle.std.proofs.Common.{◌≡◌, subst, sym}
+use Rattle.std.proofs.Common.{subst, sym}
 use Rattle.profile.specs.Status.{Source}
 use Rattle.profile.specs.Whole.{IsSettledTable}
 use Rattle.profile.specs.declared.tables.Table.{Table}

@@ -1,5 +1,3 @@
-use Rattle.std.proofs.Common.{ap, ◌∙◌}
-use Rattle.transfer_state.specs.Routing.{IsChosen}
 use Rattle.transfer_state.proofs.RouteLemmas.{chosen}
 use Rattle.transfer_state.proofs.routing.Routing.of.Goals as goal
 
