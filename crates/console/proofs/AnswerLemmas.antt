@@ -3,7 +3,7 @@ use Rattle.std.proofs.Common.{◌≡◌, ℕ, List, [], ◌∷◌, ◌++◌, sym
 use Rattle.desk_console.specs.Console.{Standing}
 use Rattle.console.specs.Lines.{whole_lines, rest_of}
 use Rattle.console.specs.Answers.{Replies, Answered}
-use Rattle.console.specs.Run.{IsFrontOf, IsAnsweredInPart}
+use Rattle.console.specs.Run.{IsAnsweredInPart}
 use Rattle.console.proofs.LineLemmas.{cut_ended}
 
 -- answers in two parts

@@ -1,7 +1,10 @@
 -- What more bytes do to the lines of a text.
-use Rattle.std.proofs.Common.{◌≡◌, ◌≢◌, ℕ, ◌<◌, ◌+◌, ◌==◌, Bool, true, false, List, [], ◌∷◌, ◌++◌, length, take, drop, get_or, sym, ap, refl, ◌∙◌, append_assoc, append-nil}
-use Rattle.std.proofs.lemmas.Bool.{eqb-true}
-use Rattle.std.proofs.lemmas.List.{take-append-drop, take_more}
+use Rattle.std.proofs.Common.{◌≡◌, ◌≢◌, ℕ, suc, ◌<◌, ◌+◌, ◌==◌, not, Bool, true, false, cond, ltb, List, [], ◌∷◌, ◌++◌, length, take, drop, get_or, Some, None, option_map, sym, ap, subst, refl, ◌∙◌, arith, append_assoc, append-nil, length-append}
+use Rattle.std.proofs.lemmas.Bool.{and_parts, eqb-true, ltb-false}
+use Rattle.std.proofs.lemmas.List.{take_more, take_all}
+use Rattle.std.specs.List.{position_or_len}
+use Rattle.point_codes.specs.Codes.{split_of}
+use Rattle.point_codes.proofs.CodeLemmas.{lacks, lacks_parts, split_parts, parts_at}
 use Rattle.console.specs.Lines.{Cut, put_before, cut, whole_lines, rest_of, last_line, lines_of}
 
 -- a text that goes on after a line feed
@@ -35,6 +38,55 @@ cut_grown [] y other = ap (λ b. put_before b y [] []) other
 cut_grown (x ∷ xs) y other =
     ap (λ c. put_before (x == 10) x c.whole c.rest) (cut_grown xs y other) ∙ put_before-grown (x == 10) x y (whole_lines xs) (rest_of xs)
 
+-- other bytes at the end, none a line feed
+pub cut_grown_all : (xs ys : List ℕ) → lacks 10 ys ≡ true → cut (xs ++ ys) ≡ record { whole = whole_lines xs; rest = rest_of xs ++ ys }
+cut_grown_all xs [] none = ap cut (append-nil xs) ∙ ap (λ r. record { whole = whole_lines xs; rest = r }) (sym (append-nil (rest_of xs)))
+cut_grown_all xs (y ∷ ys) none =
+    let parts = and_parts (not (y == 10)) (lacks 10 ys) none in
+    ap cut (sym (append_assoc xs (y ∷ []) ys)) ∙ cut_grown_all (xs ++ y ∷ []) ys parts.1
+    ∙ ap (λ c. record { whole = c.whole; rest = c.rest ++ ys }) (cut_grown xs y (lacks_parts y 10 parts.0))
+    ∙ ap (λ r. record { whole = whole_lines xs; rest = r }) (append_assoc (rest_of xs) (y ∷ []) ys)
+
+-- what stands before the first of a byte
+lacks_more : (c x n m : ℕ) (xs : List ℕ) → (x == c) ≡ false → m ≡ suc n → lacks c (take n xs) ≡ true → lacks c (take m (x ∷ xs)) ≡ true
+lacks_more c x n m xs other next h = rw (next, other) h
+
+lacks_before : (c x : ℕ) (xs : List ℕ) (v : Bool) → (x == c) ≡ v → lacks c (take (position_or_len (λ b. b == c) xs) xs) ≡ true
+    → lacks c (take (position_or_len (λ b. b == c) (x ∷ xs)) (x ∷ xs)) ≡ true
+lacks_before c x xs true e h = rw e refl
+lacks_before c x xs false e h = lacks_more c x (position_or_len (λ b. b == c) xs) _ xs e (rw e (omega arith)) h
+
+lacks_first : (c : ℕ) (text : List ℕ) → lacks c (take (position_or_len (λ b. b == c) text) text) ≡ true
+lacks_first c [] = refl
+lacks_first c (x ∷ xs) = lacks_before c x xs (x == c) refl (lacks_first c xs)
+
+-- the part before the first of a byte lacks it
+pub split_front : (c : ℕ) (text front after : List ℕ) → split_of c text ≡ Some (front, after) → lacks c front ≡ true
+split_front c text front after e =
+    let n = position_or_len (λ b. b == c) text in
+    subst (λ t. lacks c t ≡ true) (parts_at text front after (ltb n (length text)) n e).1 (lacks_first c text)
+
+none_at : (text : List ℕ) (v : Bool) (n : ℕ) → option_map {U = List ℕ × List ℕ} (λ i. (take i text, drop (i + 1) text)) (cond v (Some n) None) ≡ None → v ≡ false
+none_at text true n e = absurd (cc)
+none_at text false n e = refl
+
+-- a text that isn't split at a byte lacks it
+pub split_nowhere : (c : ℕ) (text : List ℕ) → split_of c text ≡ None → lacks c text ≡ true
+split_nowhere c text e =
+    let n = position_or_len (λ b. b == c) text in
+    subst (λ t. lacks c t ≡ true) (take_all n text (ltb-false n (length text) (none_at text (ltb n (length text)) n e))) (lacks_first c text)
+
+-- a text goes on after the line feed that it is split at
+pub split_on : (done text front after : List ℕ) → split_of 10 text ≡ Some (front, after) → ((done ++ front) ++ 10 ∷ []) ++ after ≡ done ++ text
+split_on done text front after e =
+    append_assoc (done ++ front) (10 ∷ []) after ∙ append_assoc done front (10 ∷ after) ∙ ap (λ t. done ++ t) (sym (split_parts 10 text front after e))
+
+-- what comes after it is shorter
+pub split_size : (text front after : List ℕ) → split_of 10 text ≡ Some (front, after) → length after < length text
+split_size text front after e =
+    let size : length text ≡ length front + suc (length after) = ap length (split_parts 10 text front after e) ∙ length-append front (10 ∷ after) in
+    omega arith
+
 -- lines of a text with more bytes
 ended_more : (read : List ℕ) (b : ℕ) (ls : List (List ℕ)) (all : List (List ℕ)) → (b == 10) ≡ true → all ≡ whole_lines (read ++ b ∷ []) ++ ls → all ≡ whole_lines read ++ rest_of read ∷ ls
 ended_more read b ls all e same =
@@ -52,9 +104,6 @@ whole_more read (b ∷ bs) = let next = whole_more (read ++ b ∷ []) bs in next
 -- a piece is taken byte by byte
 pub pushed : (read chunk : List ℕ) (i : ℕ) → i < length chunk → (read ++ take i chunk) ++ get_or chunk i 0 ∷ [] ≡ read ++ take (i + 1) chunk
 pushed read chunk i h = append_assoc read (take i chunk) (get_or chunk i 0 ∷ []) ∙ ap (λ t. read ++ t) (sym (take_more chunk i 0 h))
-
-pub whole_piece : (read chunk : List ℕ) (i : ℕ) → (read ++ take i chunk) ++ drop i chunk ≡ read ++ chunk
-whole_piece read chunk i = append_assoc read (take i chunk) (drop i chunk) ∙ ap (λ t. read ++ t) (take-append-drop i chunk)
 
 -- the last line
 one_last_line : (rest : List ℕ) → rest ≢ [] → last_line rest ≡ rest ∷ []

@@ -1,18 +1,19 @@
--- What one more line, one more byte and one more piece do to a run.
-use Rattle.std.proofs.Common.{◌≡◌, ℕ, ◌+◌, ◌==◌, false, List, [], ◌∷◌, ◌++◌, take, drop, Option, Some, None, sym, ap, subst, refl, ◌∙◌, arith, append_assoc, append-nil}
+-- What one more line and one more piece do to a run.
+use Rattle.std.proofs.Common.{◌≡◌, ℕ, ◌+◌, true, List, [], ◌∷◌, ◌++◌, take, drop, Option, Some, None, sym, ap, subst, refl, ◌∙◌, arith, append_assoc, append-nil}
 use Rattle.std.proofs.lemmas.List.{take-append-drop}
 use Rattle.std.specs.Io.KnownBytes.{Appends, Consumes, Keeps, IsAtEnd}
 use Rattle.std.proofs.KnownBytes.{Appends-trans, Appends-nil, Consumes-nil, Consumes-trans, Consumes-kept}
+use Rattle.point_codes.proofs.CodeLemmas.{lacks}
 use Rattle.net_data.specs.Network.{Network}
 use Rattle.desk_console.specs.Console.{Standing, net_of}
-use Rattle.console.specs.Lines.{whole_lines, rest_of, lines_of}
+use Rattle.console.specs.Lines.{cut, whole_lines, rest_of, lines_of}
 use Rattle.console.specs.Answers.{Replies, Answered}
 use Rattle.answers.specs.Text.{line_count}
 use Rattle.console.specs.Run.{IsLine, IsTaken, IsAt, HasAnswered, IsAnsweredInPart, IsCutOff, CutsOff, IsOutcome, Ran}
 use Rattle.console.specs.declared.faults.Fault.{Fault}
 use Rattle.console.specs.declared.faults.Fault.TheVariants.{OutOfMemory, Read, Write, Load}
 use Rattle.console.specs.declared.session.Session.{Session}
-use Rattle.console.proofs.LineLemmas.{cut_ended, cut_grown, whole_more}
+use Rattle.console.proofs.LineLemmas.{cut_ended, cut_grown_all, whole_more}
 use Rattle.console.proofs.AnswerLemmas.{Answered-none, ended_answers, part_whole, part_of_more, part_less}
 use Rattle.answers.proofs.PlainLemmas.{line_count-append}
 
@@ -27,23 +28,24 @@ taken_line start read written s t text at reply said empty = record {
   rest = subst (IsLine t.line) (ap (λ c. c.rest) (sym (cut_ended read))) empty;
 }
 
--- a byte of a line was taken
-pub taken_byte : (start : Standing) (read written : List ℕ) (s t : Session) (byte : ℕ) → IsTaken start read written s
-    → (byte == 10) ≡ false → t.answers.items ≡ s.answers.items → t.state ≡ s.state → IsLine t.line (rest_of read ++ byte ∷ [])
-    → IsTaken start (read ++ byte ∷ []) written t
-taken_byte start read written s t byte at other said same rest =
-    let whole : whole_lines (read ++ byte ∷ []) ≡ whole_lines read = ap (λ c. c.whole) (cut_grown read byte other) in
+-- bytes of a line were taken
+pub taken_piece : (start : Standing) (all read written : List ℕ) (s t : Session) (bytes : List ℕ) → read ++ bytes ≡ all → IsTaken start read written s
+    → lacks 10 bytes ≡ true → t.answers.items ≡ s.answers.items → t.state ≡ s.state → IsLine t.line (rest_of read ++ bytes)
+    → IsTaken start all written t
+taken_piece start all read written s t bytes e at none said same rest =
+    let cuts = ap cut (sym e) ∙ cut_grown_all read bytes none in
+    let whole : whole_lines all ≡ whole_lines read = ap (λ c. c.whole) cuts in
     record {
       answered = rw (whole, said, same) at.answered;
-      rest = subst (IsLine t.line) (ap (λ c. c.rest) (sym (cut_grown read byte other))) rest;
+      rest = subst (IsLine t.line) (ap (λ c. c.rest) (sym cuts)) rest;
     }
 
 -- what is answered of a part are answers to the first lines of all
-pub taken_part : (start : Standing) (read more written : List ℕ) (s : Session) (waiting : List ℕ) → IsTaken start read written s
-    → waiting ≡ s.answers.items → IsAnsweredInPart start (whole_lines (read ++ more)) (written ++ waiting)
-taken_part start read more written s waiting at same =
+pub taken_part : (start : Standing) (all read more written : List ℕ) (s : Session) (waiting : List ℕ) → read ++ more ≡ all → IsTaken start read written s
+    → waiting ≡ s.answers.items → IsAnsweredInPart start (whole_lines all) (written ++ waiting)
+taken_part start all read more written s waiting e at same =
     let rest = whole_more read more in
-    part_of_more start (written ++ waiting) (whole_lines read) rest.0 _ rest.1
+    part_of_more start (written ++ waiting) (whole_lines read) rest.0 _ (ap whole_lines (sym e) ∙ rest.1)
     (part_whole start s.state (whole_lines read) (written ++ s.answers.items) (written ++ waiting) at.answered (ap (λ x. written ++ x) (sym same)))
 
 -- between two reads nothing waits

@@ -77,6 +77,29 @@ impl Line {
         Ok(())
     }
 
+    /// Takes the next bytes one by one.
+    fn take_each(&mut self, bytes: &[u8]) -> Result<(), AllocError>
+        ensures { OnOk result ((rest : List ℕ) → IsLine self.old rest → IsLine self.new (rest ++ bytes.now)) }
+    {
+        for byte in bytes {
+            self.take(*byte)?;
+        }
+        Ok(())
+    }
+
+    /// Takes the next bytes.
+    pub fn take_all(&mut self, bytes: &[u8]) -> Result<(), AllocError>
+        ensures { OnOk result ((rest : List ℕ) → IsLine self.old rest → IsLine self.new (rest ++ bytes.now)) }
+    {
+        let kept = self.bytes.len();
+        // Only what fits within the limit is kept in one piece.
+        if self.too_long || kept > LINE_LIMIT || bytes.len() > LINE_LIMIT + 1 - kept {
+            return self.take_each(bytes);
+        }
+        self.bytes.extend_from_slice(bytes)?;
+        Ok(())
+    }
+
     /// Begins a new line.
     pub fn clear(&mut self)
         ensures { IsLine self.new [] }

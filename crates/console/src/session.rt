@@ -11,6 +11,7 @@ ghost use Rattle.console.specs.Run.{IsLine, IsTaken, IsAt, IsAnsweredInPart, IsC
 use crate::faults::Fault;
 use crate::lines::{LINE_LIMIT, Line, is_quiet, without_return};
 use desk_console::Console;
+use point_codes::split_at_byte;
 use std::alloc::{AllocError, Global};
 use std::io::Write;
 
@@ -94,20 +95,6 @@ impl Session {
         Ok(())
     }
 
-    /// Takes the next byte.
-    fn take(&mut self, alloc: Global, byte: u8) -> Result<(), AllocError>
-        ensures ok { OnOk result ((start : Standing) (read written : List ℕ)
-            → IsTaken start read written self.old → IsTaken start (read ++ byte ∷ []) written self.new) }
-        ensures err { OnErr result (self.new.answers.items ≡ self.old.answers.items) }
-        ensures one { line_count self.new.answers.items ≤ line_count self.old.answers.items + 1 }
-        ensures lines { self.new.lines ≡ self.old.lines }
-    {
-        if byte == b'\n' {
-            return self.end_line(alloc);
-        }
-        self.line.take(byte)
-    }
-
     /// Takes the bytes of one read.
     fn feed(&mut self, alloc: Global, chunk: &[u8]) -> Result<(), AllocError>
         ensures ok { OnOk result ((start : Standing) (read written : List ℕ)
@@ -117,12 +104,13 @@ impl Session {
         ensures few { line_count self.new.answers.items ≤ line_count self.old.answers.items + length chunk.now }
         ensures lines { self.new.lines ≡ self.old.lines }
     {
-        for byte in chunk {
-            if let Err(refused) = self.take(alloc, *byte) {
-                return Err(refused);
-            }
+        let mut rest = chunk;
+        while let Some((front, after)) = split_at_byte(rest, b'\n') {
+            self.line.take_all(front)?;
+            self.end_line(alloc)?;
+            rest = after;
         }
-        Ok(())
+        self.line.take_all(rest)
     }
 
     /// Writes the answers that wait.

@@ -1,38 +1,51 @@
-use Rattle.std.proofs.Common.{ℕ, ◌≤◌, ◌++◌, List, length, take, drop, refl, rules, subst}
-use Rattle.std.proofs.lemmas.List.{take_all}
-use Rattle.console.specs.Lines.{whole_lines}
-use Rattle.console.specs.Run.{IsTaken, IsAnsweredInPart}
-use Rattle.console.proofs.LineLemmas.{pushed, whole_piece}
-use Rattle.console.proofs.AnswerLemmas.{part_whole}
-use Rattle.console.proofs.RunLemmas.{taken_part}
+use Rattle.std.proofs.Common.{[], ◌∷◌, ◌++◌, sym, refl, ◌∙◌, arith, rules}
+use Rattle.std.proofs.lemmas.Result.{on_ok_weaker}
+use Rattle.console.specs.Lines.{rest_of}
+use Rattle.console.proofs.LineLemmas.{split_front, split_nowhere, split_on, split_size}
+use Rattle.console.proofs.RunLemmas.{taken_piece, taken_part}
 use Rattle.console.proofs.session.Session.feed.Goals as goal
 
-pub loop-byte-preserved : goal.loop-byte-preserved
-loop-byte-preserved c = record {
-  taken = λ start read written at.
-      subst (λ t. IsTaken start t written c.take.new.self) (pushed read c.args.chunk.now c.loop-byte.byte-index c.loop-byte-test.true)
-      (c.in_default.ensures.ok start _ written (c.loop-byte.invariant.taken start read written at));
-  few = search rules;
-  lines = search rules;
-}
+pub loop-front-smaller : goal.loop-front-smaller
+loop-front-smaller c = split_size c.loop-front.rest.now _ _ (sym c.in-Some.ensures)
 
-pub returns-in-Err-clause-front : goal.returns-in-Err-clause-front
-returns-in-Err-clause-front c = λ start read written at.
-    let chunk = c.args.chunk.now in
-    let i = c.loop-byte.byte-index in
-    let here = taken_part start (read ++ take i chunk) (drop i chunk) written c.loop-byte.self _ (c.loop-byte.invariant.taken start read written at) c.in-Err.ensures.err in
-    subst (λ t. IsAnsweredInPart start (whole_lines t) (written ++ c.take.new.self.answers.items)) (whole_piece read chunk i) here
+pub loop-front-preserved : goal.loop-front-preserved
+loop-front-preserved c =
+    let rest = c.loop-front.rest.now in
+    let front = c.in-Some.front.now in
+    let split = sym c.in-Some.ensures in
+    record {
+      taken = λ start read written at.
+          let before = c.loop-front.invariant.taken start read written at in
+          let done = before.0 in
+          let piece = taken_piece start (done ++ front) done written c.loop-front.self _ front refl before.2 (split_front 10 rest _ _ split) refl refl
+          (c.in_ok-take_all.ensures (rest_of done) before.2.rest) in
+          ((done ++ front) ++ 10 ∷ [], split_on done rest _ _ split ∙ before.1, c.in_ok-end_line.ensures.ok start _ written piece);
+      few =
+          let few = c.loop-front.invariant.few in
+          let one = c.end_line.ensures.one in
+          let less = split_size rest _ _ split in
+          omega arith;
+      lines = search rules;
+    }
 
-whole : (i : ℕ) (chunk : List ℕ) → length chunk ≤ i → (P : List ℕ → Type 0) → P (take i chunk) → P chunk
-whole i chunk h P p = subst P (take_all i chunk h) p
+pub returns-in_err-take_all-clause-front : goal.returns-in_err-take_all-clause-front
+returns-in_err-take_all-clause-front c = λ start read written at.
+    let before = c.loop-front.invariant.taken start read written at in
+    taken_part start _ before.0 c.loop-front.rest.now written c.loop-front.self _ before.1 before.2 refl
+
+pub returns-in_err-end_line-clause-front : goal.returns-in_err-end_line-clause-front
+returns-in_err-end_line-clause-front c = λ start read written at.
+    let before = c.loop-front.invariant.taken start read written at in
+    taken_part start _ before.0 c.loop-front.rest.now written c.loop-front.self _ before.1 before.2 c.in_err-end_line.ensures.err
 
 pub returns-clause-ok : goal.returns-clause-ok
-returns-clause-ok c = λ start read written at.
-    whole c.loop-byte.byte-index c.args.chunk.now c.loop-byte-test.false (λ t. IsTaken start (read ++ t) written c.loop-byte.self)
-    (c.loop-byte.invariant.taken start read written at)
+returns-clause-ok c = on_ok_weaker c.take_all-2.result (λ taken start read written at.
+    let rest = c.loop-front.rest.now in
+    let before = c.loop-front.invariant.taken start read written at in
+    taken_piece start _ before.0 written c.loop-front.self _ rest before.1 before.2 (split_nowhere 10 rest (sym c.in_default.ensures)) refl refl
+    (taken (rest_of before.0) before.2.rest)) c.take_all-2.ensures
 
 pub returns-clause-front : goal.returns-clause-front
 returns-clause-front c = λ start read written at.
-    whole c.loop-byte.byte-index c.args.chunk.now c.loop-byte-test.false
-    (λ t. IsAnsweredInPart start (whole_lines (read ++ t)) (written ++ c.loop-byte.self.answers.items))
-    (part_whole start c.loop-byte.self.state _ _ _ (c.loop-byte.invariant.taken start read written at).answered refl)
+    let before = c.loop-front.invariant.taken start read written at in
+    taken_part start _ before.0 c.loop-front.rest.now written c.loop-front.self _ before.1 before.2 refl
