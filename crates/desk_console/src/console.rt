@@ -75,9 +75,9 @@ impl Console {
         ensures plain { IfOk result (λ text. line_count (string_bytes text) ≡ 0) }
     {
         let words = split_words(alloc, line)?;
-        match read_order(alloc, words.as_slice())? {
-            Some(order) => self.obey(alloc, order),
-            None => String::from_str(alloc, "refused 62 BadLine"),
-        }
+        let Some(order) = read_order(alloc, words.as_slice())? else {
+            return String::from_str(alloc, "refused 62 BadLine");
+        };
+        self.obey(alloc, order)
     }
 }

@@ -41,13 +41,13 @@ fn read_by(alloc: Global, verb: Verb, rest: &[&[u8]]) -> Result<Option<Event>, A
 pub fn read_event(alloc: Global, words: &[&[u8]]) -> Result<Option<Event>, AllocError>
     ensures { IfOk result (λ event. event ≡ event_of (map (λ w. w.now) words.now)) }
 {
-    match words {
-        [word, rest @ ..] => match read_verb(*word) {
-            Some(verb) => read_by(alloc, verb, rest),
-            None => Ok(None),
-        },
-        [] => Ok(None),
-    }
+    let [word, rest @ ..] = words else {
+        return Ok(None);
+    };
+    let Some(verb) = read_verb(*word) else {
+        return Ok(None);
+    };
+    read_by(alloc, verb, rest)
 }
 
 /// The law: the words of an event are exactly what is written of it. It does nothing when it runs.

@@ -70,38 +70,51 @@ fn read_by(
     ensures within { IfOk result (λ order. IfSome order IsWithin) }
 {
     if word == b"post".as_slice() {
-        read_post(alloc, rest)
-    } else if word == b"open".as_slice() {
-        Ok(only(Order::Open, rest))
-    } else if word == b"take".as_slice() {
-        Ok(read_only_slot(rest).map(Order::Take))
-    } else if word == b"give".as_slice() {
-        Ok(read_only_slot(rest).map(Order::Give))
-    } else if word == b"abandon".as_slice() {
-        Ok(read_only_slot(rest).map(Order::Abandon))
-    } else if word == b"publish".as_slice() {
-        Ok(only(Order::Publish, rest))
-    } else if word == b"sync".as_slice() {
-        Ok(only(Order::Sync, rest))
-    } else if word == b"version".as_slice() {
-        Ok(only(Order::Version, rest))
-    } else if word == b"audit".as_slice() {
-        Ok(only(Order::Audit, rest))
-    } else if word == b"status".as_slice() {
-        Ok(read_about(Asked::Status, rest))
-    } else if word == b"sls".as_slice() {
-        Ok(read_about(Asked::Links, rest))
-    } else if word == b"messages".as_slice() {
-        Ok(read_about(Asked::Messages, rest))
-    } else if word == b"octets".as_slice() {
-        Ok(read_octets(rest))
-    } else if word == b"trace".as_slice() {
-        Ok(read_trace(rest))
-    } else if word == b"whatif".as_slice() {
-        Ok(read_events(alloc, rest)?.map(Order::WhatIf))
-    } else {
-        Ok(read_event(alloc, words)?.map(Order::Event))
+        return read_post(alloc, rest);
     }
+    if word == b"open".as_slice() {
+        return Ok(only(Order::Open, rest));
+    }
+    if word == b"take".as_slice() {
+        return Ok(read_only_slot(rest).map(Order::Take));
+    }
+    if word == b"give".as_slice() {
+        return Ok(read_only_slot(rest).map(Order::Give));
+    }
+    if word == b"abandon".as_slice() {
+        return Ok(read_only_slot(rest).map(Order::Abandon));
+    }
+    if word == b"publish".as_slice() {
+        return Ok(only(Order::Publish, rest));
+    }
+    if word == b"sync".as_slice() {
+        return Ok(only(Order::Sync, rest));
+    }
+    if word == b"version".as_slice() {
+        return Ok(only(Order::Version, rest));
+    }
+    if word == b"audit".as_slice() {
+        return Ok(only(Order::Audit, rest));
+    }
+    if word == b"status".as_slice() {
+        return Ok(read_about(Asked::Status, rest));
+    }
+    if word == b"sls".as_slice() {
+        return Ok(read_about(Asked::Links, rest));
+    }
+    if word == b"messages".as_slice() {
+        return Ok(read_about(Asked::Messages, rest));
+    }
+    if word == b"octets".as_slice() {
+        return Ok(read_octets(rest));
+    }
+    if word == b"trace".as_slice() {
+        return Ok(read_trace(rest));
+    }
+    if word == b"whatif".as_slice() {
+        return Ok(read_events(alloc, rest)?.map(Order::WhatIf));
+    }
+    Ok(read_event(alloc, words)?.map(Order::Event))
 }
 
 /// The order that the words of a line say. `None` where they are none. It fails where memory is refused.
@@ -109,8 +122,8 @@ pub fn read_order(alloc: Global, words: &[&[u8]]) -> Result<Option<Order>, Alloc
     ensures value { IfOk result (λ order. order ≡ order_of (map (λ w. w.now) words.now)) }
     ensures within { IfOk result (λ order. IfSome order IsWithin) }
 {
-    match words {
-        [word, rest @ ..] => read_by(alloc, *word, rest, words),
-        [] => Ok(None),
-    }
+    let [word, rest @ ..] = words else {
+        return Ok(None);
+    };
+    read_by(alloc, *word, rest, words)
 }
