@@ -1,6 +1,6 @@
 //! What each order does.
 
-ghost use Rattle.std.specs.Prelude.{◌≡◌, ◌<◌, IfOk, length, string_bytes};
+ghost use Rattle.std.specs.Prelude.{◌≡◌, ◌<◌, IfOk, length, string_bytes, true};
 ghost use Rattle.answers.specs.Audits.{audit_right};
 ghost use Rattle.answers.specs.Rows.{answer_about as row_answer};
 ghost use Rattle.answers.specs.Text.{line_count};
@@ -25,13 +25,13 @@ use orders::Order;
 use point_codes::PointCode;
 use std::alloc::{AllocError, Global};
 
-/// A reply of the desk, unless memory was wanting.
-pub(crate) fn with_memory<T>(reply: Result<T, Refusal>) -> Result<Result<T, Refusal>, AllocError>
-    ensures { IfOk result (λ r. (r ≡ reply) × HasMemory r) }
+/// Whether memory sufficed for a reply of the desk.
+pub(crate) fn has_memory<T>(reply: &Result<T, Refusal>) -> bool
+    ensures { result ≡ true → HasMemory reply.now }
 {
     match reply {
-        Err(Refusal::OutOfMemory) => Err(AllocError),
-        other => Ok(other),
+        Err(Refusal::OutOfMemory) => false,
+        _ => true,
     }
 }
 
@@ -47,7 +47,10 @@ impl Console {
         ensures call { IfOk result (λ text. Calls (λ s. Posts s collector seq event) posted_text self.old (string_bytes text) self.new) }
         ensures plain { IfOk result (λ text. line_count (string_bytes text) ≡ 0) }
     {
-        let reply = with_memory(self.desk.post(alloc, collector, seq, event))?;
+        let reply = self.desk.post(alloc, collector, seq, event);
+        if !has_memory(&reply) {
+            return Err(AllocError);
+        }
         write_posted(alloc, reply)
     }
 
@@ -68,7 +71,10 @@ impl Console {
         ensures call { IfOk result (λ text. Calls Opens opened_text self.old (string_bytes text) self.new) }
         ensures plain { IfOk result (λ text. line_count (string_bytes text) ≡ 0) }
     {
-        let reply = with_memory(self.desk.open(alloc))?;
+        let reply = self.desk.open(alloc);
+        if !has_memory(&reply) {
+            return Err(AllocError);
+        }
         write_opened(alloc, reply)
     }
 
@@ -77,7 +83,10 @@ impl Console {
         ensures call { IfOk result (λ text. Calls Publishes published_text self.old (string_bytes text) self.new) }
         ensures plain { IfOk result (λ text. line_count (string_bytes text) ≡ 0) }
     {
-        let reply = with_memory(self.desk.publish(alloc))?;
+        let reply = self.desk.publish(alloc);
+        if !has_memory(&reply) {
+            return Err(AllocError);
+        }
         write_published(alloc, reply)
     }
 

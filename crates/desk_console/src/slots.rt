@@ -6,7 +6,7 @@ ghost use Rattle.desk_console.specs.Console.{slot_of};
 ghost use Rattle.desk_console.specs.Does.{AbandonsOf, GivesFrom, TakesTo};
 
 use crate::console::Console;
-use crate::obeying::with_memory;
+use crate::obeying::has_memory;
 use desk_replies::{write_abandoned, write_given, write_job, write_refused};
 use std::alloc::{AllocError, Global};
 use work_units::{Settled, settle};
@@ -35,7 +35,11 @@ impl Console {
         ensures call { IfOk result (λ text. TakesTo slot self.old (string_bytes text) self.new) }
         ensures plain { IfOk result (λ text. line_count (string_bytes text) ≡ 0) }
     {
-        match with_memory(self.desk.take())? {
+        let reply = self.desk.take();
+        if !has_memory(&reply) {
+            return Err(AllocError);
+        }
+        match reply {
             Ok(job) => {
                 let text = write_job(alloc, &job)?;
                 let settled = match settle(alloc, job) {
