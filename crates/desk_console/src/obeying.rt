@@ -1,6 +1,6 @@
 //! What each order does.
 
-ghost use Rattle.std.specs.Prelude.{◌≡◌, ◌<◌, IfOk, length, string_bytes, true};
+ghost use Rattle.std.specs.Prelude.{◌≡◌, ◌<◌, ◌↔◌, IfOk, IsTrue, length, string_bytes};
 ghost use Rattle.answers.specs.Audits.{audit_right};
 ghost use Rattle.answers.specs.Rows.{answer_about as row_answer};
 ghost use Rattle.answers.specs.Text.{line_count};
@@ -27,7 +27,7 @@ use std::alloc::{AllocError, Global};
 
 /// Whether memory sufficed for a reply of the desk.
 pub(crate) fn has_memory<T>(reply: &Result<T, Refusal>) -> bool
-    ensures { result ≡ true → HasMemory reply.now }
+    ensures { IsTrue result ↔ HasMemory reply.now }
 {
     match reply {
         Err(Refusal::OutOfMemory) => false,
