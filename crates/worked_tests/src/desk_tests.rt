@@ -1,7 +1,7 @@
 //! Lists of steps for a desk over the worked network, with their replies, and what the published version tells.
 
 use crate::networks::{code, worked};
-use desk_core::{Desk, Posted, Refusal, Reply, Step, run};
+use desk_core::{Desk, Opened, Posted, Refusal, Reply, Step, run};
 use link_state::LinkChange;
 use net_data::Event;
 use std::alloc::{AllocError, Global};
@@ -149,16 +149,26 @@ fn results_are_taken_in_for_their_target_alone(rt: HostRuntime) -> Result<(), Fa
     Ok(())
 }
 
+/// The desk after the steps that make a version of one result, and the replies in words.
+fn after_settling(alloc: Global, desk: Desk, settled: Settled) -> Result<(Desk, String), Fail> {
+    let steps = vec![in alloc; Step::Open, Step::Take, Step::Give(settled), Step::Publish]?;
+    let (desk, replies, _left) = run(alloc, desk, steps);
+    let text = all_told(alloc, &replies)?;
+    Ok((desk, text))
+}
+
 #[test]
 fn a_version_is_of_its_own_events(rt: HostRuntime) -> Result<(), Fail> {
     let alloc = rt.alloc();
-    let mut steps = Vec::new(alloc);
-    steps.push(post(0, 1, 4, FAIL))?;
-    steps.push(Step::Open)?;
-    steps.push(post(0, 2, 4, RESTORE))?;
-    steps.push(Step::Take)?;
-    steps.push(Step::Give(result(alloc, 1, &[FAIL])?))?;
-    steps.push(Step::Publish)?;
+    let first = result(alloc, 1, &[FAIL])?;
+    let steps = vec![in alloc;
+        post(0, 1, 4, FAIL),
+        Step::Open,
+        post(0, 2, 4, RESTORE),
+        Step::Take,
+        Step::Give(first),
+        Step::Publish,
+    ]?;
     let (desk, text) = after(alloc, steps)?;
     assert_eq!(rt;
         text.as_str(),
@@ -167,6 +177,13 @@ fn a_version_is_of_its_own_events(rt: HostRuntime) -> Result<(), Fail> {
     assert_eq!(rt; class(&desk)?, 5);
     assert_eq!(rt; desk.published().number(), 1);
     assert_eq!(rt; desk.accepted(), 2);
+    let second = result(alloc, 2, &[FAIL, RESTORE])?;
+    let (desk, text) = after_settling(alloc, desk, second)?;
+    assert_eq!(rt;
+        text.as_str(),
+        "opened 2 waiting 1,job 2,given,published 2,"
+    );
+    assert_eq!(rt; class(&desk)?, 1);
     Ok(())
 }
 
@@ -202,6 +219,14 @@ fn room_is_made_for_posts(rt: HostRuntime) -> Result<(), Fail> {
     assert_eq!(rt; second, Ok(Posted::Taken(2)));
     assert_eq!(rt; desk.spare(), 0);
     assert_eq!(rt; desk.target(), None);
+    let opened = desk.open(alloc);
+    assert_eq!(rt;
+        opened,
+        Ok(Opened {
+            target: 2,
+            waiting: 1
+        })
+    );
     Ok(())
 }
 
