@@ -1,25 +1,21 @@
-# make demo   builds the program and runs it on the networks of examples/
-# make test   the gate: every proof from nothing, the edits that must be refused, the tests and the stored run
+# make demo   builds the program, if its sources have changed, and runs it on the networks of examples/
+# make test   the gate: every proof from nothing, the edits that must be refused, the tests, the stored run, the transcripts of the pages
 
 PROGRAM = crates/route_desk/out/route_desk
+# what the last build was made from: newer than each source
+BUILT = crates/route_desk/out/built
+SOURCES = crates.txt $(shell find crates \( -name out -o -name must-fail \) -prune -o -type f \( -name '*.rt' -o -name '*.antt' \) -print)
 
-.PHONY: demo test build
+.PHONY: demo build test
 
 demo: build
-	@echo '$$ route_desk run - < examples/first-run.txt'
-	@$(PROGRAM) run - < examples/first-run.txt
-	@echo
-	@echo '$$ route_desk run examples/national.toml < examples/national.script'
-	@$(PROGRAM) run examples/national.toml < examples/national.script
-	@echo
-	@echo '$$ route_desk play examples/national.toml examples/failures.script'
-	@$(PROGRAM) play examples/national.toml examples/failures.script
-	@echo
-	@echo '$$ route_desk check examples/national.toml'
-	@$(PROGRAM) check examples/national.toml
+	@scripts/demo.sh $(PROGRAM)
 
-build:
-	@cd crates/route_desk && rt run -- --help > out.log 2>&1 || { cat out.log; rm -f out.log; exit 1; }; rm -f out.log
+build: $(BUILT)
+
+$(BUILT): $(SOURCES)
+	@scripts/build.sh
+	@touch $(BUILT)
 
 test:
-	@rt ci
+	@scripts/gate.sh $(PROGRAM)
