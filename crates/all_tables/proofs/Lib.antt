@@ -1,2 +1,2 @@
-pub mod Present
-pub mod Judged
+pub mod MakingLemmas
+pub mod CheckingLemmas

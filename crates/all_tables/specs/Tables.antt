@@ -29,16 +29,16 @@ abbrev pub IsFirstComplaintIn : Network → Table → Complaint → Type 0
 IsFirstComplaintIn net table c =
     MatchOption (excerpt_at net table.dest) (c ≡ record { point = table.dest; clause = Points }) (λ x. IsFirstComplaint (source_of x) table c)
 
--- what is said of a table: nothing exactly where it is the settled one, else the first complaint
+-- what is said of a table: nothing exactly if it is the settled one, else the first complaint
 abbrev pub IsJudged : Network → Table → Option Complaint → Type 0
 IsJudged net table complaint = MatchOption complaint (IsSettledIn net table) (λ c. IsFirstComplaintIn net table c × (IsSettledIn net table → ⊥))
 
 -- the first of some tables that is not the settled one of its destination, with the first complaint about it
 pub record IsFirstWrong (net : Network) (given : List Table) (wrong : Wrong) : Type 0 where
-  pub place : ℕ
+  pub position : ℕ
   pub table : Table
-  pub there : slice_get given place ≡ Some table
-  pub before : All (IsSettledIn net) (take place given)
+  pub there : slice_get given position ≡ Some table
+  pub before : All (IsSettledIn net) (take position given)
   pub unsettled : IsSettledIn net table → ⊥
   pub dest : wrong.dest ≡ table.dest
   pub complaint : IsFirstComplaintIn net table wrong.complaint

@@ -5,10 +5,9 @@ ghost use Rattle.std.specs.List.{AllZip};
 ghost use Rattle.std.specs.Option.{MatchOption};
 ghost use Rattle.all_tables.specs.Tables.{IsSettledIn, IsJudged, IsFirstWrong};
 
-use excerpts::{Excerpt, ExcerptFault};
-use frozen_nets::Frozen;
+use excerpts::{Excerpt, ExcerptFault, Frozen};
 use point_codes::PointCode;
-use profile::tables::Table;
+use profile::Table;
 use rayon::prelude::*;
 use std::alloc::{AllocError, Global};
 use std::thread::Threads;
@@ -60,9 +59,9 @@ fn judge_all(
         .collect::<Result<Vec<Option<Complaint>>, AllocError>>(rt, alloc)?
 }
 
-/// Checks tables of a network by the local rule. The answer is None exactly where each is the settled table of its
+/// Checks tables of a network by the local rule. The answer is None exactly if each is the settled table of its
 /// destination, else the first that isn't, with the first complaint about it; it is `Points` where the table's destination has no
-/// plan. It fails where memory is refused.
+/// plan. It fails if memory is refused.
 pub fn check_tables(
     rt: &(impl Threads + Sync),
     alloc: Global,
@@ -72,10 +71,10 @@ pub fn check_tables(
     ensures { IfOk result (λ wrong. MatchOption wrong (All (IsSettledIn net.now) tables.now) (IsFirstWrong net.now tables.now)) }
 {
     let complaints = judge_all(rt, alloc, net, tables)?;
-    for place in 0..tables.len() {
-        if let Some(complaint) = complaints[place] {
+    for position in 0..tables.len() {
+        if let Some(complaint) = complaints[position] {
             return Ok(Some(Wrong {
-                dest: tables[place].dest,
+                dest: tables[position].dest,
                 complaint,
             }));
         }

@@ -5,6 +5,8 @@
 //! 2. Tables that are at hand are checked one by one, each by the local rule alone; the first complaint is that of the
 //!    first wrong table (own).
 //! 3. The work is split among as many threads as there are processors; what comes of it is as from one.
+//!
+//! Stands on `transfer_state`, `rayon`. A change here also changes specs/ (Tables), proofs/ and must-fail/.
 #![tactic(auto)]
 
 pub mod checking;

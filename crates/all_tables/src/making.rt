@@ -4,10 +4,9 @@ ghost use Rattle.std.specs.Prelude.{◌≡◌, IfOk, All, map};
 ghost use Rattle.excerpts.specs.Excerpts.{table_at as the_table_at};
 ghost use Rattle.all_tables.specs.Tables.{tables, those_there, IsSettledIn};
 
-use excerpts::{Excerpt, ExcerptFault};
-use frozen_nets::Frozen;
+use excerpts::{Excerpt, ExcerptFault, Frozen};
 use point_codes::PointCode;
-use profile::tables::Table;
+use profile::Table;
 use rayon::prelude::*;
 use std::alloc::{AllocError, Global};
 use std::thread::Threads;
@@ -19,8 +18,8 @@ fn destinations(alloc: Global, net: &Frozen) -> Result<Vec<PointCode>, AllocErro
 {
     let plans = net.net().plans();
     let mut dests = Vec::with_capacity(alloc, plans.len())?;
-    for place in 0..plans.len() {
-        dests.push(plans.at(place).dest)?;
+    for position in 0..plans.len() {
+        dests.push(plans.at(position).dest)?;
     }
     Ok(dests)
 }
@@ -49,7 +48,7 @@ fn present(alloc: Global, found: Vec<Option<Table>>) -> Result<Vec<Table>, Alloc
     Ok(tables)
 }
 
-/// The tables of destinations, each where it has a plan, in their order.
+/// The tables of destinations, each if it has a plan, in their order.
 fn tables_at(
     rt: &(impl Threads + Sync),
     alloc: Global,
@@ -69,7 +68,7 @@ fn tables_at(
         .collect::<Result<Vec<Option<Table>>, AllocError>>(rt, alloc)?
 }
 
-/// The settled tables of all planned destinations, in rising code. It fails where memory is refused.
+/// The settled tables of all planned destinations, in rising code. It fails if memory is refused.
 pub fn tables_of(
     rt: &(impl Threads + Sync),
     alloc: Global,

@@ -1,4 +1,5 @@
 pub mod Text
+pub mod Plain
 pub mod Refusals
 pub mod Status
 pub mod Links
@@ -7,3 +8,5 @@ pub mod Rows
 pub mod Traces
 pub mod WhatIfs
 pub mod Audits
+pub mod DeskRefusals
+pub mod Replies

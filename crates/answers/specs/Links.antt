@@ -5,7 +5,7 @@ use Rattle.std.specs.Fmt.{decimal}
 use Rattle.profile.specs.declared.tables.LinkRef.{LinkRef}
 use Rattle.profile.specs.declared.tables.RowState.{RowState}
 
--- a link after a space, `ID:SLC`; nothing where there is none
+-- a link after a space, `ID:SLC`; nothing if there is none
 abbrev pub link_text : Option LinkRef → List ℕ
 link_text None = []
 link_text (Some link) = 32 ∷ (decimal link.id ++ 58 ∷ decimal link.slc)

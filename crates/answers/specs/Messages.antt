@@ -30,7 +30,7 @@ message_to messages z = find (λ m. m.to == z) messages
 abbrev pub octet_text : ℕ → List ℕ
 octet_text octet = 32 ∷ (digit_glyph true (octet / 16) ∷ digit_glyph true (octet % 16) ∷ [])
 
--- `octets HH HH ..`, and `octets none` where no message is in force
+-- `octets HH HH ..`, and `octets none` if no message is in force
 abbrev pub octets_text : Option (List ℕ) → List ℕ
 octets_text None = codes "octets none"
 octets_text (Some octets) = codes "octets" ++ flat_map octet_text octets

@@ -7,8 +7,9 @@ use Rattle.profile.specs.declared.tables.RowState.{RowState}
 use Rattle.profile.specs.declared.tables.Table.{Table}
 use Rattle.profile.specs.Status.{source_in}
 use Rattle.profile.specs.Whole.{scratch}
-use Rattle.answers.specs.declared.rows.Asked.{Asked}
-use Rattle.answers.specs.declared.rows.Asked.TheVariants.{Status, Links, Messages, Octets}
+use Rattle.script_words.specs.declared.questions.Question.{Question}
+use Rattle.script_words.specs.declared.questions.Question.TheVariants.{Status, Links, Messages, Octets}
+use Rattle.answers.specs.Plain.{no_plan, no_row}
 use Rattle.answers.specs.Status.{status_text}
 use Rattle.answers.specs.Links.{links_text}
 use Rattle.answers.specs.Messages.{messages_text, octets_to, octets_text}
@@ -18,22 +19,22 @@ abbrev pub row_in : Table → ℕ → Option RowState
 row_in table y = find (λ state. state.point == y) table.rows
 
 -- what is asked of a row, with the network indicator and the destination
-abbrev pub row_text : Asked → ℕ → ℕ → RowState → List ℕ
+abbrev pub row_text : Question → ℕ → ℕ → RowState → List ℕ
 row_text Status ni dest state = status_text state.choice
 row_text Links ni dest state = links_text state
 row_text Messages ni dest state = messages_text state.messages
 row_text (Octets z) ni dest state = octets_text (octets_to ni dest state z)
 
 -- the answer from a row
-abbrev pub row_answer : Asked → ℕ → ℕ → Option RowState → List ℕ
-row_answer asked ni dest None = codes "refused 29 NoRow"
+abbrev pub row_answer : Question → ℕ → ℕ → Option RowState → List ℕ
+row_answer asked ni dest None = no_row
 row_answer asked ni dest (Some state) = row_text asked ni dest state
 
 -- the answer from the plan of a destination, whose table is computed from scratch
-abbrev pub plan_answer : Asked → Network → ℕ → Option Plan → List ℕ
-plan_answer asked net y None = codes "refused 26 NoPlan"
+abbrev pub plan_answer : Question → Network → ℕ → Option Plan → List ℕ
+plan_answer asked net y None = no_plan
 plan_answer asked net y (Some plan) = row_answer asked net.ni plan.dest (row_in (scratch (source_in net.points net.sets plan net.tfr)) y)
 
 -- the answer about the row of a point in the table of a destination
-abbrev pub answer_about : Asked → Network → ℕ → ℕ → List ℕ
+abbrev pub answer_about : Question → Network → ℕ → ℕ → List ℕ
 answer_about asked net y x = plan_answer asked net y (plan_at net.plans x)

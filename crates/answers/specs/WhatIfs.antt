@@ -10,7 +10,7 @@ use Rattle.what_if.specs.declared.reports.Report.{Report}
 use Rattle.answers.specs.Refusals.{refusal_text}
 use Rattle.answers.specs.Status.{far_text}
 
--- a status, `none` where there is no row
+-- a status, `none` if there is no row
 abbrev pub status_word : Option Far → List ℕ
 status_word None = codes "none"
 status_word (Some f) = far_text f

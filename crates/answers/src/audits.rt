@@ -11,7 +11,7 @@ ghost use Rattle.answers.specs.Text.{line_count};
 use excerpts::Excerpt;
 use net_versions::Version;
 use point_codes::PointCode;
-use profile::tables::Table;
+use profile::Table;
 use std::alloc::{AllocError, Global};
 use transfer_state::{Clause, Complaint, check};
 
@@ -64,7 +64,7 @@ fn write_wrong(alloc: Global, dest: PointCode, complaint: Complaint) -> Result<S
     Ok(text)
 }
 
-/// What is wrong with a table, by the local rule: nothing exactly where it is the settled one.
+/// What is wrong with a table, by the local rule: nothing exactly if it is the settled one.
 fn judge(excerpt: &Excerpt, table: &Table) -> Option<Complaint>
     ensures first { MatchOption result (IsSettledTable (source_of excerpt.now) table.now)
         (IsFirstComplaint (source_of excerpt.now) table.now) }

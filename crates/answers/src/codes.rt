@@ -8,7 +8,7 @@ use point_codes::PointCode;
 use std::alloc::AllocError;
 
 /// Adds a code as its zone, area and point (Q.708). It takes no memory but that of the text.
-pub fn put_code(text: &mut String, code: PointCode) -> Result<(), AllocError>
+pub fn write_code(text: &mut String, code: PointCode) -> Result<(), AllocError>
     ensures { OnOk result (string_bytes text.new ≡ string_bytes text.old ++ code_text code) }
 {
     let mut digits = Buffer::new();

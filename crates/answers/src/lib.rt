@@ -1,4 +1,4 @@
-//! What is answered about a published version, in text, and how refusals are printed (all own).
+//! The texts of answers, replies and refusals (all own). Each text stands here and nowhere else.
 //!
 //! 1. A question about the row of the point Y in the settled table of the destination X is refused 26 NoPlan where X
 //!    has no plan, then 29 NoRow where Y has no row. It is answered by search, with no table made.
@@ -12,24 +12,35 @@
 //!    `none` stands for no row; or `refused`, the refusal of the first event that is refused, and `at PLACE`.
 //! 8. A check of every table by the local rule: `audit ok P` for P tables, or `audit bad X Y c` for the first wrong
 //!    one: its destination, and the point and the letter of the first complaint.
-//! 9. A refusal is its number, its name and its values. No answer has a line feed.
+//! 9. Replies of the desk: a post is answered `taken N`, or `again N` if it was accepted before; an opening `opened T
+//!    waiting W`; the taking of a job `job V CODE`; a result `given`; an abandonment `abandoned`; a publication `published
+//!    N`; `synced N` and `version P accepted N` tell what is published and accepted.
+//! 10. A refusal is `refused`, its number, its name and its values. No answer has a line feed.
+//!
+//! Stands on `what_if`, `desk_core`, `script_words`, `itoa`. A change here also changes specs/ (Audits, DeskRefusals,
+//! Links, Messages, Plain, Refusals, Replies, Rows, Status, Text, Traces, WhatIfs), proofs/ and must-fail/.
 #![tactic(auto)]
 
 pub mod audits;
 mod codes;
+mod desk_refusals;
 mod links;
 mod messages;
+pub mod plain;
 pub mod refusals;
+pub mod replies;
 pub mod rows;
 mod status;
 pub mod traces;
 pub mod what_ifs;
 
 pub use audits::{answer_audit, clause_word, put_complaint};
+pub use plain::{write_bad_line, write_no_plan, write_no_row};
 pub use refusals::put_refusal;
-pub use rows::{Asked, answer_about};
+pub use replies::{
+    write_abandoned, write_given, write_job, write_opened, write_posted, write_published,
+    write_refused, write_synced, write_version,
+};
+pub use rows::answer_about;
 pub use traces::answer_trace;
 pub use what_ifs::answer_what_if;
-
-#[cfg(test)]
-mod tests;

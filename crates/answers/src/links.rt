@@ -5,7 +5,7 @@ ghost use Rattle.std.specs.List.{flat_map};
 ghost use Rattle.answers.specs.Links.{link_text};
 ghost use Rattle.answers.specs.Text.{line_count};
 
-use profile::tables::{LinkRef, RowLinks};
+use profile::{LinkRef, RowLinks};
 use std::alloc::{AllocError, Global};
 
 /// A link after a space, by its set and its signalling link code.

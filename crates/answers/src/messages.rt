@@ -6,9 +6,9 @@ ghost use Rattle.point_codes.specs.Octets.{octets_of};
 ghost use Rattle.answers.specs.Messages.{kind_text, message_text, messages_text, octet_text, octets_text, message_to};
 ghost use Rattle.answers.specs.Text.{line_count};
 
-use crate::codes::put_code;
+use crate::codes::write_code;
 use point_codes::{MsgKind, PointCode, tfm_octets};
-use profile::tables::{Message, Messages};
+use profile::{Message, Messages};
 use std::alloc::{AllocError, Global};
 
 /// The kind of a message.
@@ -33,7 +33,7 @@ fn put_message(text: &mut String, message: Message) -> Result<(), AllocError>
     text.push_str(" ")?;
     text.push_str(word)?;
     text.push_str(">")?;
-    put_code(text, message.to)
+    write_code(text, message.to)
 }
 
 /// Adds messages, each after a space.

@@ -4,7 +4,7 @@ ghost use Rattle.std.specs.Prelude.{◌≡◌, ◌++◌, OnOk, string_bytes};
 ghost use Rattle.answers.specs.Refusals.{refusal_name, refusal_values, refusal_text, cause_letter};
 ghost use Rattle.answers.specs.Text.{line_count};
 
-use net_data::events::{Cause, Refusal};
+use net_data::{Cause, Refusal};
 use point_codes::PointCode;
 use std::alloc::{AllocError, Global};
 

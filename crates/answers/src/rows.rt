@@ -1,8 +1,9 @@
 //! What is asked of the row of a point, in the settled table of a destination.
 
-ghost use Rattle.std.specs.Prelude.{◌≡◌, ◌<◌, IfOk, codes, string_bytes};
+ghost use Rattle.std.specs.Prelude.{◌≡◌, ◌<◌, IfOk, string_bytes};
 ghost use Rattle.std.specs.Option.{option_map_or};
 ghost use Rattle.answers.specs.Rows.{row_in, row_answer, answer_about as the_answer};
+ghost use Rattle.answers.specs.Plain.{no_row};
 ghost use Rattle.answers.specs.Status.{status_text};
 ghost use Rattle.answers.specs.Links.{links_text};
 ghost use Rattle.answers.specs.Messages.{messages_text, octets_text, octets_to};
@@ -13,37 +14,18 @@ ghost use Rattle.answers.specs.Text.{line_count};
 
 use crate::links::write_links;
 use crate::messages::{write_messages, write_octets};
+use crate::plain::{write_no_plan, write_no_row};
 use crate::status::write_status;
 use net_versions::Version;
 use point_codes::PointCode;
+use script_words::Question;
 use std::alloc::{AllocError, Global};
 use transfer_state::Routing;
-
-/// What is asked of a row.
-#[derive(Clone, Copy, Debug, PartialEq, Eq)]
-pub enum Asked {
-    /// What it uses: its status, its class and the members of the class.
-    Status,
-    /// The link of each signalling link selection (Q.704 clause 2.3).
-    Links,
-    /// The transfer messages in force from its point (Q.704 clauses 13.2 to 13.4).
-    Messages,
-    /// The octets of the message in force from its point to this one (Q.704 clauses 15.7 to 15.9).
-    Octets(PointCode),
-}
-
-/// That a point has no row.
-fn write_no_row(alloc: Global) -> Result<String, AllocError>
-    ensures text { IfOk result (λ text. string_bytes text ≡ codes "refused 29 NoRow") }
-    ensures plain { IfOk result (λ text. line_count (string_bytes text) ≡ 0) }
-{
-    String::from_str(alloc, "refused 29 NoRow")
-}
 
 /// What a point uses by a routing.
 fn answer_status(alloc: Global, routing: &Routing, point: PointCode) -> Result<String, AllocError>
     ensures text { IfOk result (λ text. string_bytes text ≡
-        option_map_or (λ state. status_text state.choice) (state_at routing.now point) (codes "refused 29 NoRow")) }
+        option_map_or (λ state. status_text state.choice) (state_at routing.now point) no_row) }
     ensures plain { IfOk result (λ text. line_count (string_bytes text) ≡ 0) }
 {
     match routing.choice(point) {
@@ -55,7 +37,7 @@ fn answer_status(alloc: Global, routing: &Routing, point: PointCode) -> Result<S
 /// The links of a point by a routing.
 fn answer_links(alloc: Global, routing: &Routing, point: PointCode) -> Result<String, AllocError>
     ensures text { IfOk result (λ text. string_bytes text ≡
-        option_map_or links_text (state_at routing.now point) (codes "refused 29 NoRow")) }
+        option_map_or links_text (state_at routing.now point) no_row) }
     ensures plain { IfOk result (λ text. line_count (string_bytes text) ≡ 0) }
 {
     match (routing.choice(point), routing.links(point)) {
@@ -67,7 +49,7 @@ fn answer_links(alloc: Global, routing: &Routing, point: PointCode) -> Result<St
 /// The messages in force from a point by a routing.
 fn answer_messages(alloc: Global, routing: &Routing, point: PointCode) -> Result<String, AllocError>
     ensures text { IfOk result (λ text. string_bytes text ≡
-        option_map_or (λ state. messages_text state.messages) (state_at routing.now point) (codes "refused 29 NoRow")) }
+        option_map_or (λ state. messages_text state.messages) (state_at routing.now point) no_row) }
     ensures plain { IfOk result (λ text. line_count (string_bytes text) ≡ 0) }
 {
     match routing.messages(alloc, point)? {
@@ -87,7 +69,7 @@ fn answer_octets(
     requires { ni < 4 }
     ensures text { IfOk result (λ text. string_bytes text ≡
         option_map_or (λ state. octets_text (octets_to ni routing.now.plan.dest state z))
-        (state_at routing.now point) (codes "refused 29 NoRow")) }
+        (state_at routing.now point) no_row) }
     ensures plain { IfOk result (λ text. line_count (string_bytes text) ≡ 0) }
 {
     match routing.messages(alloc, point)? {
@@ -99,7 +81,7 @@ fn answer_octets(
 /// The answer about the row of a point by a routing.
 fn answer_row(
     alloc: Global,
-    asked: Asked,
+    asked: Question,
     ni: u8,
     routing: &Routing,
     point: PointCode,
@@ -110,18 +92,18 @@ fn answer_row(
     ensures plain { IfOk result (λ text. line_count (string_bytes text) ≡ 0) }
 {
     match asked {
-        Asked::Status => answer_status(alloc, routing, point),
-        Asked::Links => answer_links(alloc, routing, point),
-        Asked::Messages => answer_messages(alloc, routing, point),
-        Asked::Octets(z) => answer_octets(alloc, ni, routing, point, z),
+        Question::Status => answer_status(alloc, routing, point),
+        Question::Links => answer_links(alloc, routing, point),
+        Question::Messages => answer_messages(alloc, routing, point),
+        Question::Octets(z) => answer_octets(alloc, ni, routing, point, z),
     }
 }
 
 /// The answer about the row of a point in the table of a destination, without a line feed. It is refused 26 NoPlan
-/// where the destination has no plan, then 29 NoRow where the point has no row.
+/// if the destination has no plan, then 29 NoRow if the point has no row.
 pub fn answer_about(
     alloc: Global,
-    asked: Asked,
+    asked: Question,
     version: &Version,
     point: PointCode,
     dest: PointCode,
@@ -133,6 +115,6 @@ pub fn answer_about(
     net.validity();
     match version.routing(dest) {
         Some(routing) => answer_row(alloc, asked, net.net().ni(), routing, point),
-        None => String::from_str(alloc, "refused 26 NoPlan"),
+        None => write_no_plan(alloc),
     }
 }

@@ -5,7 +5,7 @@ ghost use Rattle.std.specs.List.{flat_map};
 ghost use Rattle.answers.specs.Status.{far_text, member_text, status_text};
 ghost use Rattle.answers.specs.Text.{line_count};
 
-use crate::codes::put_code;
+use crate::codes::write_code;
 use point_codes::PointCode;
 use route_choice::{Choice, Far};
 use std::alloc::{AllocError, Global};
@@ -32,7 +32,7 @@ fn put_member(text: &mut String, member: Option<PointCode>) -> Result<(), AllocE
     // The proof reads the code's range from this.
     let _number = code.number();
     text.push_str(" ")?;
-    put_code(text, code)
+    write_code(text, code)
 }
 
 /// Adds the members of a choice.

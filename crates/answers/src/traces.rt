@@ -8,13 +8,13 @@ ghost use Rattle.path_trace.specs.Traces.{trace_at};
 ghost use Rattle.answers.specs.Text.{line_count};
 ghost use Rattle.answers.specs.Traces.{hop_text, trace_answer, trace_text};
 
-use crate::codes::put_code;
+use crate::codes::write_code;
+use crate::plain::{write_no_plan, write_no_row};
 use itoa::Buffer;
 use net_versions::Version;
 use path_trace::{TraceFault, trace};
 use point_codes::PointCode;
-use profile::hops::{Hop, Trace};
-use profile::tables::LinkRef;
+use profile::{Hop, LinkRef, Trace};
 use std::alloc::{AllocError, Global};
 
 /// Adds a link after a space, by the id of its set and its link code.
@@ -38,7 +38,7 @@ fn put_hop(text: &mut String, hop: Hop) -> Result<(), AllocError>
     let _number = to.number();
     put_link(text, link)?;
     text.push('>')?;
-    put_code(text, to)
+    write_code(text, to)
 }
 
 /// Adds hops, each after a space.
@@ -68,7 +68,7 @@ fn write_trace(alloc: Global, trace: &Trace) -> Result<String, AllocError>
 }
 
 /// The trace of a signalling link selection `s`, 0 to 15, from a point to a destination, without a line feed (Q.704
-/// clause 2.3). It is refused 26 NoPlan where the destination has no plan, then 29 NoRow where the point has no row.
+/// clause 2.3). It is refused 26 NoPlan if the destination has no plan, then 29 NoRow if the point has no row.
 pub fn answer_trace(
     alloc: Global,
     version: &Version,
@@ -82,8 +82,8 @@ pub fn answer_trace(
 {
     match trace(alloc, version, point, dest, s) {
         Ok(trace) => write_trace(alloc, &trace),
-        Err(TraceFault::NoPlan) => String::from_str(alloc, "refused 26 NoPlan"),
-        Err(TraceFault::NoRow) => String::from_str(alloc, "refused 29 NoRow"),
+        Err(TraceFault::NoPlan) => write_no_plan(alloc),
+        Err(TraceFault::NoRow) => write_no_row(alloc),
         Err(TraceFault::OutOfMemory) => Err(AllocError),
     }
 }

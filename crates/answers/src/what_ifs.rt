@@ -91,7 +91,7 @@ pub fn answer_what_if(
     match what_if(alloc, version, events) {
         Ok(report) => write_report(alloc, &report),
         Err(refused) => {
-            // No other refusal than want of memory has place 0.
+            // No other refusal than out of memory has place 0.
             if refused.place == 0 {
                 return Err(AllocError);
             }

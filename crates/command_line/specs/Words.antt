@@ -15,9 +15,13 @@ net_rule = record (new_rule (codes "net")) { required = true; value_names = 1 }
 abbrev pub save_rule : Rule
 save_rule = record (new_rule (codes "save")) { long = Some (codes "save"); value_names = 1 }
 
+-- a command of this name with NET
+abbrev pub net_app : Text → App
+net_app name = with_rule (new_app name) net_rule
+
 -- `run NET --save FILE`
 abbrev pub run_app : App
-run_app = with_rule (with_rule (new_app (codes "run")) net_rule) save_rule
+run_app = with_rule (net_app (codes "run")) save_rule
 
 -- STEPS is required
 abbrev pub steps_rule : Rule
@@ -25,7 +29,7 @@ steps_rule = record (new_rule (codes "steps")) { required = true; value_names = 
 
 -- `play NET STEPS`
 abbrev pub files_app : App
-files_app = with_rule (with_rule (new_app (codes "play")) net_rule) steps_rule
+files_app = with_rule (net_app (codes "play")) steps_rule
 
 -- `play NET STEPS --save FILE`
 abbrev pub play_app : App
@@ -33,11 +37,19 @@ play_app = with_rule files_app save_rule
 
 -- `check NET`
 abbrev pub check_app : App
-check_app = with_rule (new_app (codes "check")) net_rule
+check_app = net_app (codes "check")
+
+-- `route_desk` with `run` alone
+abbrev pub desk_app_of_run : App
+desk_app_of_run = with_subcommand (new_app (codes "route_desk")) run_app.top
+
+-- `route_desk` with the commands that answer a script
+abbrev pub desk_app_of_scripts : App
+desk_app_of_scripts = with_subcommand desk_app_of_run play_app.top
 
 -- `route_desk`
 abbrev pub desk_app : App
-desk_app = with_subcommand (with_subcommand (with_subcommand (new_app (codes "route_desk")) run_app.top) play_app.top) check_app.top
+desk_app = with_subcommand desk_app_of_scripts check_app.top
 
 -- the order is what the subcommand's matches say
 abbrev pub IsOrder : Order → Option (Text × List Row) → Type 0

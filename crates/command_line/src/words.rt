@@ -1,10 +1,10 @@
 //! The words of a command line.
 
-ghost use Rattle.std.specs.Prelude.{◌≡◌, List, Option, ◌∷◌, IfOk, IfErr, IfSome, OnOk, option_map, map, false, []};
+ghost use Rattle.std.specs.Prelude.{◌≡◌, List, Option, Some, ◌∷◌, codes, IfOk, IfErr, IfSome, OnOk, option_map, map, false, []};
 ghost use Rattle.clap.specs.declared.builder.command.Command.TheViews.{out-Command};
-ghost use Rattle.clap.specs.Words.{app_of, first_of, FailsBy, HasKind, fault_of, found_of, rows_of, subcommand_of, subcommand_rows_of};
+ghost use Rattle.clap.specs.Words.{app_of, first_of, FailsBy, HasKind, fault_of, found_of, rows_of, rule_of, subcommand_of, subcommand_rows_of};
 ghost use Rattle.clap.specs.declared.error.kind.ErrorKind.TheVariants.{MissingSubcommand};
-ghost use Rattle.command_line.specs.Words.{check_app, desk_app, files_app, play_app, run_app, IsOrder, IsWordFault};
+ghost use Rattle.command_line.specs.Words.{net_rule, steps_rule, save_rule, net_app, run_app, files_app, play_app, check_app, desk_app_of_run, desk_app_of_scripts, desk_app, IsOrder, IsWordFault};
 
 use clap::error::ErrorKind;
 use clap::{Arg, ArgMatches, Command, Error};
@@ -14,12 +14,12 @@ use std::alloc::{AllocError, Global};
 #[derive(Clone, Copy, Debug, PartialEq, Eq)]
 pub enum Order<'a> {
     /// To answer the script on standard input from the network of a file, or of standard input itself where the file's
-    /// name is `-`, and to write the network to a file then, where one is named.
+    /// name is `-`, and to write the network to a file then, if one is named.
     Run {
         net: &'a str,
         save: Option<&'a str>,
     },
-    /// To answer the script of the file STEPS from the network of a file, and to write the network to a file then, where one is
+    /// To answer the script of the file STEPS from the network of a file, and to write the network to a file then, if one is
     /// named.
     Play {
         net: &'a str,
@@ -39,21 +39,65 @@ pub enum WordFault {
     Clap(Error),
 }
 
+/// The argument NET, which is required.
+fn net_argument<'a>(alloc: Global, help: &'a str) -> Arg<'a>
+    ensures rule { rule_of result ≡ net_rule }
+    ensures local { result.global ≡ false }
+{
+    Arg::new(alloc, "net")
+        .required(true)
+        .value_name("NET")
+        .help(help)
+}
+
+/// The argument STEPS, which is required.
+fn steps_argument<'a>(alloc: Global) -> Arg<'a>
+    ensures rule { rule_of result ≡ steps_rule }
+    ensures local { result.global ≡ false }
+{
+    Arg::new(alloc, "steps")
+        .required(true)
+        .value_name("STEPS")
+        .help("File with the script")
+}
+
+/// The option `--save FILE`.
+fn save_argument<'a>(alloc: Global) -> Arg<'a>
+    ensures rule { rule_of result ≡ save_rule }
+    ensures local { result.global ≡ false }
+{
+    Arg::new(alloc, "save").long("save").value_name("FILE").help(
+        "Write the network to this file after a script that ended without a fault",
+    )
+}
+
+/// A command with the argument NET.
+fn net_command<'a>(
+    alloc: Global,
+    name: &'a str,
+    about: &'a str,
+    net_help: &'a str,
+) -> Result<Command<'a>, AllocError>
+    ensures app { IfOk result (λ c. app_of c ≡ net_app name.entry.now) }
+    ensures local { IfOk result (λ c. (out-Command c).has_globals ≡ false) }
+{
+    Command::new(alloc, name)
+        .about(about)
+        .arg(net_argument(alloc, net_help))
+}
+
 /// The command `run`.
 fn run_command<'a>(alloc: Global) -> Result<Command<'a>, AllocError>
     ensures app { IfOk result (λ c. app_of c ≡ run_app) }
     ensures local { IfOk result (λ c. (out-Command c).has_globals ≡ false) }
 {
-    let net = Arg::new(alloc, "net").required(true).value_name("NET").help(
+    let command = net_command(
+        alloc,
+        "run",
+        "Answer a script of commands, read from standard input",
         "File with the network, or - for standard input up to the line %%",
-    );
-    let save = Arg::new(alloc, "save").long("save").value_name("FILE").help(
-        "Write the network to this file after a script that ended without a fault",
-    );
-    Command::new(alloc, "run")
-        .about("Answer a script of commands, read from standard input")
-        .arg(net)?
-        .arg(save)
+    )?;
+    command.arg(save_argument(alloc))
 }
 
 /// The command `play` with its two files.
@@ -61,18 +105,13 @@ fn files_command<'a>(alloc: Global) -> Result<Command<'a>, AllocError>
     ensures app { IfOk result (λ c. app_of c ≡ files_app) }
     ensures local { IfOk result (λ c. (out-Command c).has_globals ≡ false) }
 {
-    let net = Arg::new(alloc, "net")
-        .required(true)
-        .value_name("NET")
-        .help("File with the network");
-    let steps = Arg::new(alloc, "steps")
-        .required(true)
-        .value_name("STEPS")
-        .help("File with the script");
-    Command::new(alloc, "play")
-        .about("Answer a script of commands, read from a file")
-        .arg(net)?
-        .arg(steps)
+    let command = net_command(
+        alloc,
+        "play",
+        "Answer a script of commands, read from a file",
+        "File with the network",
+    )?;
+    command.arg(steps_argument(alloc))
 }
 
 /// The command `play`.
@@ -81,10 +120,7 @@ fn play_command<'a>(alloc: Global) -> Result<Command<'a>, AllocError>
     ensures local { IfOk result (λ c. (out-Command c).has_globals ≡ false) }
 {
     let command = files_command(alloc)?;
-    let save = Arg::new(alloc, "save").long("save").value_name("FILE").help(
-        "Write the network to this file after a script that ended without a fault",
-    );
-    command.arg(save)
+    command.arg(save_argument(alloc))
 }
 
 /// The command `check`.
@@ -92,29 +128,40 @@ fn check_command<'a>(alloc: Global) -> Result<Command<'a>, AllocError>
     ensures app { IfOk result (λ c. app_of c ≡ check_app) }
     ensures local { IfOk result (λ c. (out-Command c).has_globals ≡ false) }
 {
-    let net = Arg::new(alloc, "net")
-        .required(true)
-        .value_name("NET")
-        .help("File with the network");
-    Command::new(alloc, "check")
-        .about("Work out the tables of all destinations, and check each by the local rule")
-        .arg(net)
+    net_command(
+        alloc,
+        "check",
+        "Work out the tables of all destinations, and check each by the local rule",
+        "File with the network",
+    )
+}
+
+/// The command `route_desk` with `run` alone.
+fn desk_with_run<'a>(alloc: Global) -> Result<Command<'a>, AllocError>
+    ensures app { IfOk result (λ c. app_of c ≡ desk_app_of_run) }
+{
+    let run = run_command(alloc)?;
+    Command::new(alloc, "route_desk")
+        .about(
+            "Settled routing state of a Signalling System No. 7 network (ITU-T Q.704, MTP level 3)",
+        )
+        .subcommand(run)
+}
+
+/// The command `route_desk` with the commands that answer a script.
+fn desk_with_scripts<'a>(alloc: Global) -> Result<Command<'a>, AllocError>
+    ensures app { IfOk result (λ c. app_of c ≡ desk_app_of_scripts) }
+{
+    let desk = desk_with_run(alloc)?;
+    desk.subcommand(play_command(alloc)?)
 }
 
 /// The whole command.
 fn desk_command<'a>(alloc: Global) -> Result<Command<'a>, AllocError>
     ensures app { IfOk result (λ c. app_of c ≡ desk_app) }
 {
-    let run = run_command(alloc)?;
-    let play = play_command(alloc)?;
-    let check = check_command(alloc)?;
-    Command::new(alloc, "route_desk")
-        .about(
-            "Settled routing state of a Signalling System No. 7 network (ITU-T Q.704, MTP level 3)",
-        )
-        .subcommand(run)?
-        .subcommand(play)?
-        .subcommand(check)
+    let desk = desk_with_scripts(alloc)?;
+    desk.subcommand(check_command(alloc)?)
 }
 
 /// What `clap` makes of the words.
@@ -143,25 +190,44 @@ fn value_at<'a>(matches: &ArgMatches<'a>, id: &str) -> Option<&'a str>
     matches.get_str(id)
 }
 
+/// What the matches of `run` order.
+fn run_order<'a>(matches: &ArgMatches<'a>) -> Option<Order<'a>>
+    ensures { IfSome result (λ order. IsOrder order (Some (codes "run", rows_of (found_of matches.now)))) }
+{
+    let net = value_at(matches, "net")?;
+    let save = value_at(matches, "save");
+    Some(Order::Run { net, save })
+}
+
+/// What the matches of `play` order.
+fn play_order<'a>(matches: &ArgMatches<'a>) -> Option<Order<'a>>
+    ensures { IfSome result (λ order. IsOrder order (Some (codes "play", rows_of (found_of matches.now)))) }
+{
+    let net = value_at(matches, "net")?;
+    let steps = value_at(matches, "steps")?;
+    let save = value_at(matches, "save");
+    Some(Order::Play { net, steps, save })
+}
+
+/// What the matches of `check` order.
+fn check_order<'a>(matches: &ArgMatches<'a>) -> Option<Order<'a>>
+    ensures { IfSome result (λ order. IsOrder order (Some (codes "check", rows_of (found_of matches.now)))) }
+{
+    let net = value_at(matches, "net")?;
+    Some(Order::Check { net })
+}
+
 /// What the matches order.
 fn order_of<'a>(matches: &ArgMatches<'a>) -> Option<Order<'a>>
     ensures { IfSome result (λ order. IsOrder order (subcommand_rows_of matches.now)) }
 {
     let (name, inner) = entered(matches)?;
-    let net = value_at(inner, "net")?;
-    if name == "run" {
-        let save = value_at(inner, "save");
-        return Some(Order::Run { net, save });
+    match name {
+        "run" => run_order(inner),
+        "play" => play_order(inner),
+        "check" => check_order(inner),
+        _ => None,
     }
-    if name == "play" {
-        let steps = value_at(inner, "steps")?;
-        let save = value_at(inner, "save");
-        return Some(Order::Play { net, steps, save });
-    }
-    if name == "check" {
-        return Some(Order::Check { net });
-    }
-    None
 }
 
 /// The error of a command line without what it needs.

@@ -1,31 +1,31 @@
 -- What more lines do to the answers.
 use Rattle.std.proofs.Common.{◌≡◌, ℕ, List, [], ◌∷◌, ◌++◌, sym, ap, subst, refl, ◌∙◌, append_assoc, append-nil}
-use Rattle.desk_console.specs.Console.{Standing}
+use Rattle.desk_console.specs.Console.{ConsoleValue}
 use Rattle.console.specs.Lines.{whole_lines, rest_of}
 use Rattle.console.specs.Answers.{Replies, Answered}
 use Rattle.console.specs.Run.{IsAnsweredInPart}
 use Rattle.console.proofs.LineLemmas.{cut_ended}
 
 -- answers in two parts
-pub Answered-append : (c mid new : Standing) (ls ms : List (List ℕ)) (t u : List ℕ) → Answered c ls t mid → Answered mid ms u new → Answered c (ls ++ ms) (t ++ u) new
+pub Answered-append : (c mid new : ConsoleValue) (ls ms : List (List ℕ)) (t u : List ℕ) → Answered c ls t mid → Answered mid ms u new → Answered c (ls ++ ms) (t ++ u) new
 Answered-append c mid new [] ms t u one two =
     let from : Answered c ms u new = subst (λ m. Answered m ms u new) one.1 two in
     subst (λ x. Answered c ms (x ++ u) new) (sym one.0) from
 Answered-append c mid new (l ∷ ls) ms t u one two =
     (one.0, one.1, one.2 ++ u, one.3, Answered-append one.1 mid new ls ms one.2 u one.4 two, ap (λ x. x ++ u) one.5 ∙ append_assoc one.0 one.2 u)
 
-Answered-one : (c new : Standing) (line text : List ℕ) → Replies line c text new → Answered c (line ∷ []) text new
+Answered-one : (c new : ConsoleValue) (line text : List ℕ) → Replies line c text new → Answered c (line ∷ []) text new
 Answered-one c new line text reply = (text, new, [], reply, (refl, refl), sym (append-nil text))
 
 -- the answers to what was read and one line feed more
-pub ended_answers : (start mid new : Standing) (read text more : List ℕ) → Answered start (whole_lines read) text mid → Replies (rest_of read) mid more new
+pub ended_answers : (start mid new : ConsoleValue) (read text more : List ℕ) → Answered start (whole_lines read) text mid → Replies (rest_of read) mid more new
     → Answered start (whole_lines (read ++ 10 ∷ [])) (text ++ more) new
 ended_answers start mid new read text more before reply =
     subst (λ c. Answered start c (text ++ more) new) (sym (ap (λ c. c.whole) (cut_ended read)))
     (Answered-append start mid new (whole_lines read) (rest_of read ∷ []) text more before (Answered-one mid new (rest_of read) more reply))
 
 -- all of some lines were answered
-pub part_whole : (start after : Standing) (asked : List (List ℕ)) (text written : List ℕ) → Answered start asked text after → text ≡ written → IsAnsweredInPart start asked written
+pub part_whole : (start after : ConsoleValue) (asked : List (List ℕ)) (text written : List ℕ) → Answered start asked text after → text ≡ written → IsAnsweredInPart start asked written
 part_whole start after asked text written answered same = record {
   done = asked;
   left = [];
@@ -37,7 +37,7 @@ part_whole start after asked text written answered same = record {
 }
 
 -- more lines were asked
-pub part_of_more : (start : Standing) (written : List ℕ) (ls ms all : List (List ℕ)) → all ≡ ls ++ ms → IsAnsweredInPart start ls written → IsAnsweredInPart start all written
+pub part_of_more : (start : ConsoleValue) (written : List ℕ) (ls ms all : List (List ℕ)) → all ≡ ls ++ ms → IsAnsweredInPart start ls written → IsAnsweredInPart start all written
 part_of_more start written ls ms all e part = record {
   done = part.done;
   left = part.left ++ ms;
@@ -49,7 +49,7 @@ part_of_more start written ls ms all e part = record {
 }
 
 -- less was written
-pub part_less : (start : Standing) (asked : List (List ℕ)) (written less more : List ℕ) → written ≡ less ++ more → IsAnsweredInPart start asked written → IsAnsweredInPart start asked less
+pub part_less : (start : ConsoleValue) (asked : List (List ℕ)) (written less more : List ℕ) → written ≡ less ++ more → IsAnsweredInPart start asked written → IsAnsweredInPart start asked less
 part_less start asked written less more e part = record {
   done = part.done;
   left = part.left;
@@ -61,5 +61,5 @@ part_less start asked written less more e part = record {
 }
 
 -- nothing was asked
-pub Answered-none : (start : Standing) → Answered start [] [] start
+pub Answered-none : (start : ConsoleValue) → Answered start [] [] start
 Answered-none start = (refl, refl)

@@ -9,7 +9,7 @@ use Rattle.std.specs.Io.KnownBytes.{Consumes, prepend_known}
 use Rattle.std.proofs.KnownBytes.{Appends-nil}
 use Rattle.net_data.specs.Network.{Network}
 use Rattle.net_text.specs.Reading.{Says}
-use Rattle.desk_console.specs.Console.{Standing, opening as console_opening, net_of}
+use Rattle.desk_console.specs.Console.{ConsoleValue, opening as console_opening, net_of}
 use Rattle.console.specs.Answers.{Answered}
 use Rattle.console.specs.Run.{IsOutcome, Ran}
 use Rattle.console.specs.declared.faults.Fault.{Fault}
@@ -250,7 +250,7 @@ ran_unloaded unread left held o text cause fault lines net opening same is zero 
     }
 
 -- the input ended with the network text
-pub ran_ended : (unread left held : Option (List ℕ)) (o : Opening) (c : Standing) (fault : Option Fault) (lines : ℕ) (net : Option Network)
+pub ran_ended : (unread left held : Option (List ℕ)) (o : Opening) (c : ConsoleValue) (fault : Option Fault) (lines : ℕ) (net : Option Network)
     → IsOpening unread left o → o.script ≡ None → IsOpened (take o.text o.bytes.items) c → lines ≡ 0 → fault ≡ None → net ≡ Some (net_of c)
     → RanInput unread left held held fault lines net
 ran_ended unread left held o c fault lines net opening no_script opened zero none some =
@@ -290,7 +290,7 @@ consumes_first None rest = tt
 consumes_first (Some y) rest = refl
 
 -- the script was run
-pub ran_script : (unread middle left held holds : Option (List ℕ)) (o : Opening) (script : ℕ) (c : Standing) (rest : List ℕ) (fault : Option Fault) (lines : ℕ) (net : Option Network)
+pub ran_script : (unread middle left held holds : Option (List ℕ)) (o : Opening) (script : ℕ) (c : ConsoleValue) (rest : List ℕ) (fault : Option Fault) (lines : ℕ) (net : Option Network)
     → IsOpening unread middle o → o.script ≡ Some script → IsOpened (take o.text o.bytes.items) c → rest ≡ drop script o.bytes.items
     → Ran c (prepend_known rest middle) left held holds fault lines net
     → RanInput unread left held holds fault lines net

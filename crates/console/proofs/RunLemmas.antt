@@ -5,7 +5,7 @@ use Rattle.std.specs.Io.KnownBytes.{Appends, Consumes, Keeps, IsAtEnd}
 use Rattle.std.proofs.KnownBytes.{Appends-trans, Appends-nil, Consumes-nil, Consumes-trans, Consumes-kept}
 use Rattle.point_codes.proofs.CodeLemmas.{lacks}
 use Rattle.net_data.specs.Network.{Network}
-use Rattle.desk_console.specs.Console.{Standing, net_of}
+use Rattle.desk_console.specs.Console.{ConsoleValue, net_of}
 use Rattle.console.specs.Lines.{cut, whole_lines, rest_of, lines_of}
 use Rattle.console.specs.Answers.{Replies, Answered}
 use Rattle.answers.specs.Text.{line_count}
@@ -18,7 +18,7 @@ use Rattle.console.proofs.AnswerLemmas.{Answered-none, ended_answers, part_whole
 use Rattle.answers.proofs.PlainLemmas.{line_count-append}
 
 -- a line was ended and answered
-pub taken_line : (start : Standing) (read written : List ℕ) (s t : Session) (text : List ℕ) → IsTaken start read written s
+pub taken_line : (start : ConsoleValue) (read written : List ℕ) (s t : Session) (text : List ℕ) → IsTaken start read written s
     → Replies (rest_of read) s.state text t.state → t.answers.items ≡ s.answers.items ++ text → IsLine t.line []
     → IsTaken start (read ++ 10 ∷ []) written t
 taken_line start read written s t text at reply said empty = record {
@@ -29,7 +29,7 @@ taken_line start read written s t text at reply said empty = record {
 }
 
 -- bytes of a line were taken
-pub taken_piece : (start : Standing) (all read written : List ℕ) (s t : Session) (bytes : List ℕ) → read ++ bytes ≡ all → IsTaken start read written s
+pub taken_piece : (start : ConsoleValue) (all read written : List ℕ) (s t : Session) (bytes : List ℕ) → read ++ bytes ≡ all → IsTaken start read written s
     → lacks 10 bytes ≡ true → t.answers.items ≡ s.answers.items → t.state ≡ s.state → IsLine t.line (rest_of read ++ bytes)
     → IsTaken start all written t
 taken_piece start all read written s t bytes e at none said same rest =
@@ -41,7 +41,7 @@ taken_piece start all read written s t bytes e at none said same rest =
     }
 
 -- what is answered of a part are answers to the first lines of all
-pub taken_part : (start : Standing) (all read more written : List ℕ) (s : Session) (waiting : List ℕ) → read ++ more ≡ all → IsTaken start read written s
+pub taken_part : (start : ConsoleValue) (all read more written : List ℕ) (s : Session) (waiting : List ℕ) → read ++ more ≡ all → IsTaken start read written s
     → waiting ≡ s.answers.items → IsAnsweredInPart start (whole_lines all) (written ++ waiting)
 taken_part start all read more written s waiting e at same =
     let rest = whole_more read more in
@@ -49,7 +49,7 @@ taken_part start all read more written s waiting e at same =
     (part_whole start s.state (whole_lines read) (written ++ s.answers.items) (written ++ waiting) at.answered (ap (λ x. written ++ x) (sym same)))
 
 -- between two reads nothing waits
-pub at_taken : (start : Standing) (read : List ℕ) (held holds : Option (List ℕ)) (s : Session) → (at : IsAt start read held holds s)
+pub at_taken : (start : ConsoleValue) (read : List ℕ) (held holds : Option (List ℕ)) (s : Session) → (at : IsAt start read held holds s)
     → IsTaken start read at.written s
 at_taken start read held holds s at = record {
   answered = subst (λ x. Answered start (whole_lines read) x s.state) (sym (ap (λ x. at.written ++ x) at.none ∙ append-nil at.written)) at.answered;
@@ -57,7 +57,7 @@ at_taken start read held holds s at = record {
 }
 
 -- what waited was written
-pub flushed : (start : Standing) (read written : List ℕ) (held before holds : Option (List ℕ)) (s t : Session) → IsTaken start read written s
+pub flushed : (start : ConsoleValue) (read written : List ℕ) (held before holds : Option (List ℕ)) (s t : Session) → IsTaken start read written s
     → Appends held before written → s.lines ≡ line_count written → Appends before holds s.answers.items
     → t.answers.items ≡ [] → t.lines ≡ s.lines + line_count s.answers.items → t.state ≡ s.state → t.line ≡ s.line
     → IsAt start read held holds t
@@ -73,7 +73,7 @@ flushed start read written held before holds s t taken had counted wrote none mo
     }
 
 -- a part of what waited was written
-pub flushed_part : (start : Standing) (asked : List (List ℕ)) (written waiting : List ℕ) (held before holds : Option (List ℕ)) (n had lines : ℕ)
+pub flushed_part : (start : ConsoleValue) (asked : List (List ℕ)) (written waiting : List ℕ) (held before holds : Option (List ℕ)) (n had lines : ℕ)
     → IsAnsweredInPart start asked (written ++ waiting) → Appends held before written → had ≡ line_count written
     → Appends before holds (take n waiting) → lines ≡ had + line_count (take n waiting)
     → IsCutOff start asked held holds lines
@@ -87,7 +87,7 @@ flushed_part start asked written waiting held before holds n had lines part kept
       counted = omega arith;
     }
 
-pub flushed_whole : (start : Standing) (asked : List (List ℕ)) (written waiting : List ℕ) (held before holds : Option (List ℕ)) (had lines : ℕ)
+pub flushed_whole : (start : ConsoleValue) (asked : List (List ℕ)) (written waiting : List ℕ) (held before holds : Option (List ℕ)) (had lines : ℕ)
     → IsAnsweredInPart start asked (written ++ waiting) → Appends held before written → had ≡ line_count written
     → Appends before holds waiting → lines ≡ had + line_count waiting
     → IsCutOff start asked held holds lines
@@ -96,7 +96,7 @@ flushed_whole start asked written waiting held before holds had lines part kept 
     record { written = written ++ waiting; appended = Appends-trans held before holds _ _ kept wrote; part = part; counted = omega arith }
 
 -- a run that has read nothing
-pub at_start : (start : Standing) (held : Option (List ℕ)) (s : Session) → s.state ≡ start → IsLine s.line [] → s.answers.items ≡ [] → s.lines ≡ 0 → IsAt start [] held held s
+pub at_start : (start : ConsoleValue) (held : Option (List ℕ)) (s : Session) → s.state ≡ start → IsLine s.line [] → s.answers.items ≡ [] → s.lines ≡ 0 → IsAt start [] held held s
 at_start start held s same empty none zero = record {
   written = [];
   answered = (refl, same);
@@ -106,7 +106,7 @@ at_start start held s same empty none zero = record {
   rest = empty;
 }
 
-pub at_first : (start : Standing) (unread held : Option (List ℕ)) (s : Session) → s.state ≡ start → IsLine s.line [] → s.answers.items ≡ [] → s.lines ≡ 0
+pub at_first : (start : ConsoleValue) (unread held : Option (List ℕ)) (s : Session) → s.state ≡ start → IsLine s.line [] → s.answers.items ≡ [] → s.lines ≡ 0
     → HasAnswered start unread unread held held s
 at_first start unread held s same empty none zero = record {
   read = [];
@@ -115,7 +115,7 @@ at_first start unread held s same empty none zero = record {
 }
 
 -- no desk was made
-pub ran_nothing : (start : Standing) (unread held : Option (List ℕ)) (fault : Option Fault) (lines : ℕ) (net : Option Network)
+pub ran_nothing : (start : ConsoleValue) (unread held : Option (List ℕ)) (fault : Option Fault) (lines : ℕ) (net : Option Network)
     → lines ≡ 0 → fault ≡ Some OutOfMemory → net ≡ None → Ran start unread unread held held fault lines net
 ran_nothing start unread held fault lines net zero some none = record {
   read = [];
@@ -127,7 +127,7 @@ ran_nothing start unread held fault lines net zero some none = record {
 }
 
 -- all was answered, at the end of the input
-pub ran_whole : (start : Standing) (unread left held holds : Option (List ℕ)) (s : Session) (read ended : List ℕ) (fault : Option Fault) (lines : ℕ) (net : Option Network)
+pub ran_whole : (start : ConsoleValue) (unread left held holds : Option (List ℕ)) (s : Session) (read ended : List ℕ) (fault : Option Fault) (lines : ℕ) (net : Option Network)
     → lines_of read ≡ whole_lines ended → IsAt start ended held holds s → Consumes unread left read → IsAtEnd left
     → lines ≡ s.lines → fault ≡ None → net ≡ Some (net_of s.state)
     → Ran start unread left held holds fault lines net
@@ -146,7 +146,7 @@ ran_whole start unread left held holds s read ended fault lines net e at consume
 }
 
 -- no more can be read
-pub ran_unread : (start : Standing) (unread left held holds : Option (List ℕ)) (s : Session) (fault : Option Fault) (lines : ℕ) (net : Option Network)
+pub ran_unread : (start : ConsoleValue) (unread left held holds : Option (List ℕ)) (s : Session) (fault : Option Fault) (lines : ℕ) (net : Option Network)
     → HasAnswered start unread left held holds s → lines ≡ s.lines → fault ≡ Some Read → net ≡ None
     → Ran start unread left held holds fault lines net
 ran_unread start unread left held holds s fault lines net has same some none = record {
@@ -158,7 +158,7 @@ ran_unread start unread left held holds s fault lines net has same some none = r
   outcome = subst (λ f. IsOutcome f start left has.read has.at.written net) (sym some) ((s.state, has.at.answered), none);
 }
 
-part_outcome : (fault : Fault) → CutsOff fault → (start : Standing) (left : Option (List ℕ)) (read written : List ℕ) (net : Option Network)
+part_outcome : (fault : Fault) → CutsOff fault → (start : ConsoleValue) (left : Option (List ℕ)) (read written : List ℕ) (net : Option Network)
     → IsAnsweredInPart start (lines_of read) written → net ≡ None → IsOutcome (Some fault) start left read written net
 part_outcome OutOfMemory cuts start left read written net part none = (part, none)
 part_outcome Read cuts start left read written net part none = absurd cuts
@@ -166,7 +166,7 @@ part_outcome Write cuts start left read written net part none = (part, none)
 part_outcome (Load e) cuts start left read written net part none = absurd cuts
 
 -- the answers were cut off
-pub ran_cut_off : (start : Standing) (unread left held holds : Option (List ℕ)) (read : List ℕ) (asked more : List (List ℕ)) (cause : Fault) (had : ℕ) (fault : Option Fault) (lines : ℕ) (net : Option Network)
+pub ran_cut_off : (start : ConsoleValue) (unread left held holds : Option (List ℕ)) (read : List ℕ) (asked more : List (List ℕ)) (cause : Fault) (had : ℕ) (fault : Option Fault) (lines : ℕ) (net : Option Network)
     → lines_of read ≡ asked ++ more → CutsOff cause → IsCutOff start asked held holds had → Consumes unread left read
     → lines ≡ had → fault ≡ Some cause → net ≡ None
     → Ran start unread left held holds fault lines net
@@ -181,7 +181,7 @@ ran_cut_off start unread left held holds read asked more cause had fault lines n
 }
 
 -- a piece was read and answered
-pub answered_more : (start : Standing) (unread left more held holds more_holds : Option (List ℕ)) (s t : Session) (chunk : List ℕ)
+pub answered_more : (start : ConsoleValue) (unread left more held holds more_holds : Option (List ℕ)) (s t : Session) (chunk : List ℕ)
     → HasAnswered start unread left held holds s → Consumes left more chunk
     → ((read : List ℕ) → IsAt start read held holds s → IsAt start (read ++ chunk) held more_holds t)
     → HasAnswered start unread more held more_holds t
@@ -192,7 +192,7 @@ answered_more start unread left more held holds more_holds s t chunk has took st
 }
 
 -- nothing was read
-pub answered_same : (start : Standing) (unread left more held holds : Option (List ℕ)) (s : Session) (chunk : List ℕ)
+pub answered_same : (start : ConsoleValue) (unread left more held holds : Option (List ℕ)) (s : Session) (chunk : List ℕ)
     → HasAnswered start unread left held holds s → Consumes left more chunk → chunk ≡ [] → HasAnswered start unread more held holds s
 answered_same start unread left more held holds s chunk has took none = record {
   read = has.read;
@@ -200,7 +200,7 @@ answered_same start unread left more held holds s chunk has took none = record {
   at = has.at;
 }
 
-pub answered_kept : (start : Standing) (unread left more held holds : Option (List ℕ)) (s : Session)
+pub answered_kept : (start : ConsoleValue) (unread left more held holds : Option (List ℕ)) (s : Session)
     → HasAnswered start unread left held holds s → Keeps left more → HasAnswered start unread more held holds s
 answered_kept start unread left more held holds s has kept = record {
   read = has.read;

@@ -7,7 +7,7 @@ use Rattle.net_text.specs.Reading.{Says}
 use Rattle.net_text.specs.declared.faults.LoadFault.{LoadFault}
 use Rattle.console.specs.Lines.{trimmed, whole_lines, rest_of}
 use Rattle.answers.specs.Text.{line_count}
-use Rattle.desk_console.specs.Console.{Standing, opening}
+use Rattle.desk_console.specs.Console.{ConsoleValue, opening}
 use Rattle.console.specs.Run.{IsOutcome}
 use Rattle.console.specs.declared.faults.Fault.{Fault}
 use Rattle.console.specs.declared.faults.Fault.TheVariants.{OutOfMemory, Read, Write, Load}
@@ -63,7 +63,7 @@ pub record IsScriptWritten (fault : Option Fault) (read : List ℕ) (left : Opti
   pub says : Says (text_part read) (Ok start)
   pub outcome : IsOutcome fault (opening start) left (script_part read) written net
 
--- a fault of the text itself: want of memory and of reading are faults of the run
+-- a fault of the text itself: out of memory and of reading are faults of the run
 abbrev pub IsOfText : LoadFault → Type 0
 IsOfText e = (e ≢ LoadFault.OutOfMemory) × (e ≢ LoadFault.Read)
 
@@ -75,7 +75,7 @@ IsLoadFault text Write = ⊥
 IsLoadFault text (Load e) = IsOfText e × Says text (Err e)
 
 -- a text says a network, and a new desk stands over it
-abbrev pub IsOpened : List ℕ → Standing → Type 0
+abbrev pub IsOpened : List ℕ → ConsoleValue → Type 0
 IsOpened text c = (net : Network) × Says text (Ok net) × (c ≡ opening net)
 
 -- why no network came of what was read
@@ -115,7 +115,7 @@ pub record IsMarkAt (bytes : List ℕ) (line at : ℕ) : Type 0 where
   pub feed : slice_index bytes at ≡ 10
   pub mark : is_mark (rest_of (take at bytes)) ≡ true
 
--- what was read is the network text, and the start of the script where there is one
+-- what was read is the network text, and the start of the script if there is one
 abbrev pub IsSplit : Option ℕ → Option (List ℕ) → List ℕ → ℕ → Type 0
 IsSplit (Some script) left bytes text = (at : ℕ) × (script ≡ at + 1) × IsMarkAt bytes text at
 IsSplit None left bytes text = IsAtEnd left × (text_part bytes ≡ take text bytes) × (script_part bytes ≡ [])

@@ -3,7 +3,7 @@ use Rattle.std.specs.Prelude.{◌≡◌, ℕ, ◌<◌, ◌≤◌, Bool, true, fa
 use Rattle.std.specs.Io.KnownBytes.{Consumes, Appends, IsAtEnd}
 use Rattle.net_data.specs.Network.{Network}
 use Rattle.answers.specs.Text.{line_count}
-use Rattle.desk_console.specs.Console.{Standing, net_of}
+use Rattle.desk_console.specs.Console.{ConsoleValue, net_of}
 use Rattle.console.specs.Lines.{whole_lines, rest_of, lines_of}
 use Rattle.console.specs.Answers.{Answered}
 use Rattle.console.specs.declared.faults.Fault.{Fault}
@@ -12,8 +12,8 @@ use Rattle.console.specs.declared.lines.Line.{Line}
 use Rattle.console.specs.declared.session.Session.{Session}
 
 -- more could follow
-abbrev pub IsFrontOf : List ℕ → List ℕ → Type 0
-IsFrontOf front all = (more : List ℕ) × (all ≡ front ++ more)
+abbrev pub IsPrefixOf : List ℕ → List ℕ → Type 0
+IsPrefixOf front all = (more : List ℕ) × (all ≡ front ++ more)
 
 -- the bytes kept of a line so far, which do not count once it is too long
 abbrev pub IsKept : List ℕ → Bool → List ℕ → Type 0
@@ -25,12 +25,12 @@ abbrev pub IsLine : Line → List ℕ → Type 0
 IsLine line rest = IsKept line.bytes.items line.too_long rest
 
 -- between two bytes: what was written, and then what waits to be written, are the answers to all whole lines of what was read
-pub record IsTaken (start : Standing) (read written : List ℕ) (s : Session) : Type 0 where
+pub record IsTaken (start : ConsoleValue) (read written : List ℕ) (s : Session) : Type 0 where
   pub answered : Answered start (whole_lines read) (written ++ s.answers.items) s.state
   pub rest : IsLine s.line (rest_of read)
 
 -- between two reads: the answers to all whole lines of what was read are written
-pub record IsAt (start : Standing) (read : List ℕ) (held holds : Option (List ℕ)) (s : Session) : Type 0 where
+pub record IsAt (start : ConsoleValue) (read : List ℕ) (held holds : Option (List ℕ)) (s : Session) : Type 0 where
   pub written : List ℕ
   pub answered : Answered start (whole_lines read) written s.state
   pub appended : Appends held holds written
@@ -39,7 +39,7 @@ pub record IsAt (start : Standing) (read : List ℕ) (held holds : Option (List 
   pub rest : IsLine s.line (rest_of read)
 
 -- some bytes were read, and the answers to their whole lines are written
-pub record HasAnswered (start : Standing) (unread left held holds : Option (List ℕ)) (s : Session) : Type 0 where
+pub record HasAnswered (start : ConsoleValue) (unread left held holds : Option (List ℕ)) (s : Session) : Type 0 where
   pub read : List ℕ
   pub consumed : Consumes unread left read
   pub at : IsAt start read held holds s
@@ -51,40 +51,40 @@ CutsOff Read = ⊥
 CutsOff Write = Unit {0}
 CutsOff (Load e) = ⊥
 
--- the first of some lines were answered, and this is a front of their answers
-pub record IsAnsweredInPart (start : Standing) (asked : List (List ℕ)) (written : List ℕ) : Type 0 where
+-- the first of some lines were answered, and this is a prefix of their answers
+pub record IsAnsweredInPart (start : ConsoleValue) (asked : List (List ℕ)) (written : List ℕ) : Type 0 where
   pub done : List (List ℕ)
   pub left : List (List ℕ)
   pub whole : asked ≡ done ++ left
   pub text : List ℕ
-  pub after : Standing
+  pub after : ConsoleValue
   pub answered : Answered start done text after
-  pub front : IsFrontOf written text
+  pub front : IsPrefixOf written text
 
 -- a run that ended within the answers to some lines
-pub record IsCutOff (start : Standing) (asked : List (List ℕ)) (held holds : Option (List ℕ)) (lines : ℕ) : Type 0 where
+pub record IsCutOff (start : ConsoleValue) (asked : List (List ℕ)) (held holds : Option (List ℕ)) (lines : ℕ) : Type 0 where
   pub written : List ℕ
   pub appended : Appends held holds written
   pub part : IsAnsweredInPart start asked written
   pub counted : lines ≡ line_count written
 
 -- all lines were answered to the end, and the network that comes back is the one after their events
-pub record IsWhole (start : Standing) (left : Option (List ℕ)) (read written : List ℕ) (net : Option Network) : Type 0 where
+pub record IsWhole (start : ConsoleValue) (left : Option (List ℕ)) (read written : List ℕ) (net : Option Network) : Type 0 where
   pub at_end : IsAtEnd left
-  pub after : Standing
+  pub after : ConsoleValue
   pub answered : Answered start (lines_of read) written after
   pub comes_back : net ≡ Some (net_of after)
 
 -- what was written after these bytes were read, by the fault that ended the run, and the network that comes back
-abbrev pub IsOutcome : Option Fault → Standing → Option (List ℕ) → List ℕ → List ℕ → Option Network → Type 0
+abbrev pub IsOutcome : Option Fault → ConsoleValue → Option (List ℕ) → List ℕ → List ℕ → Option Network → Type 0
 IsOutcome None start left read written net = IsWhole start left read written net
-IsOutcome (Some Read) start left read written net = ((after : Standing) × Answered start (whole_lines read) written after) × (net ≡ None)
+IsOutcome (Some Read) start left read written net = ((after : ConsoleValue) × Answered start (whole_lines read) written after) × (net ≡ None)
 IsOutcome (Some Write) start left read written net = IsAnsweredInPart start (lines_of read) written × (net ≡ None)
 IsOutcome (Some OutOfMemory) start left read written net = IsAnsweredInPart start (lines_of read) written × (net ≡ None)
 IsOutcome (Some (Load e)) start left read written net = ⊥
 
 -- a run from a start: some bytes were read, and the answers to them were written
-pub record Ran (start : Standing) (unread left held holds : Option (List ℕ)) (fault : Option Fault) (lines : ℕ) (net : Option Network) : Type 0 where
+pub record Ran (start : ConsoleValue) (unread left held holds : Option (List ℕ)) (fault : Option Fault) (lines : ℕ) (net : Option Network) : Type 0 where
   pub read : List ℕ
   pub consumed : Consumes unread left read
   pub written : List ℕ

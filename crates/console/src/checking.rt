@@ -5,7 +5,7 @@ ghost use Rattle.console.specs.Checking.{right_text, wrong_text, verdict_text};
 
 use all_tables::{Wrong, check_tables, tables_of};
 use answers::put_complaint;
-use frozen_nets::Frozen;
+use excerpts::Frozen;
 use std::alloc::{AllocError, Global};
 use std::thread::Threads;
 
@@ -39,7 +39,7 @@ fn write_verdict(alloc: Global, count: usize, wrong: Option<Wrong>) -> Result<St
 
 /// Works out the settled tables of all planned destinations, checks each by the local rule, and says `ok P` for P plans
 /// or `bad X Y c` for the first wrong one: its destination, and the point and the letter of the first complaint. That
-/// it always says `ok P` is its contract. It fails where memory is refused.
+/// it always says `ok P` is its contract. It fails if memory is refused.
 pub fn check_net(
     rt: &(impl Threads + Sync),
     alloc: Global,

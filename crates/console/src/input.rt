@@ -1,12 +1,10 @@
 //! A run of an input that starts with the network text.
 
-ghost use Rattle.std.specs.Prelude.{◌≡◌, ℕ, ◌*◌, ◌≤◌, ◌++◌, List, length, take, [], IfOk, OnOk, MatchResult, IfSome, Option, None, Some, Ok, ◌∷◌, codes, false};
+ghost use Rattle.std.specs.Prelude.{◌≡◌, ℕ, ◌-◌, ◌*◌, ◌≤◌, min, ◌++◌, List, length, take, [], IfOk, OnOk, MatchResult, IfSome, Option, None, Some, Ok};
 ghost use Rattle.std.specs.Io.KnownBytes.{Consumes, IsAtEnd};
-ghost use Rattle.net_data.specs.Network.{Network};
 ghost use Rattle.net_text.specs.Reading.{Says};
 ghost use Rattle.desk_console.specs.Console.{opening};
-ghost use Rattle.console.specs.Lines.{whole_lines, rest_of};
-ghost use Rattle.console.specs.Input.{is_mark, has_mark, IsOpenAt, IsMarkAt, IsOpening, IsUnopened, IsLoadFault, IsOpened, RanInput, text_part, script_part};
+ghost use Rattle.console.specs.Input.{is_mark, IsOpenAt, IsMarkAt, IsOpening, IsUnopened, IsLoadFault, IsOpened, RanInput, text_part, script_part};
 
 use crate::faults::Fault;
 use crate::lines::without_return;
@@ -143,6 +141,14 @@ impl Head {
     }
 }
 
+/// How many bytes the next read may take, where this many were read.
+fn room_after(read: usize) -> usize
+    requires { read ≤ 134217732 }
+    ensures { result ≡ min (134217732 - read) 65536 }
+{
+    (TEXT_LIMIT + MARK_LEN - read).min(CHUNK)
+}
+
 /// Reads the network text, up to the mark or the end of the input.
 fn read_text<R: Read>(alloc: Global, reader: &mut R) -> Result<Opening, Fault>
     ensures { MatchResult result (IsOpening (R.remaining reader.old) (R.remaining reader.new))
@@ -154,7 +160,7 @@ fn read_text<R: Read>(alloc: Global, reader: &mut R) -> Result<Opening, Fault>
     };
     let mut chunk = [0u8; CHUNK];
     for turn in 0..READ_LIMIT {
-        let room = (TEXT_LIMIT + MARK_LEN - head.bytes.len()).min(CHUNK);
+        let room = room_after(head.bytes.len());
         if room == 0 {
             return Err(Fault::Read);
         }
@@ -245,10 +251,3 @@ pub fn run_input<R: Read, W: Write>(alloc: Global, reader: &mut R, writer: &mut 
         Err(fault) => ended_by(fault, 0),
     }
 }
-
-/// The law: an input that is put together from a text, whose lines are ended and are not `%%`, the line `%%`, and a
-/// script, has them as its parts.
-pub fn parts_of_input()
-    ensures { (text script : List ℕ) → has_mark (whole_lines text) ≡ false → rest_of text ≡ []
-        → (text_part (text ++ codes "%%" ++ 10 ∷ script) ≡ text) × (script_part (text ++ codes "%%" ++ 10 ∷ script) ≡ script) }
-{}

@@ -5,6 +5,7 @@ ghost use Rattle.console.specs.Faults.{key_text, load_text, fault_text};
 
 use crate::faults::Fault;
 use answers::put_refusal;
+use net_data::Refusal;
 use net_text::{Key, LoadFault};
 use std::alloc::{AllocError, Global};
 
@@ -24,6 +25,21 @@ fn key_word(key: Key) -> &'static str
     }
 }
 
+/// A refused entry of a network text.
+fn write_refused(
+    alloc: Global,
+    key: Key,
+    place: usize,
+    refusal: Refusal,
+) -> Result<String, AllocError>
+    ensures { IfOk result (λ text. string_bytes text ≡ load_text (LoadFault.Refused key place refusal)) }
+{
+    let word = key_word(key);
+    let mut text = format!(in alloc; "{word} {place}: ")?;
+    put_refusal(alloc, &mut text, &refusal)?;
+    Ok(text)
+}
+
 /// A fault of a network text.
 fn write_load_fault(alloc: Global, fault: LoadFault) -> Result<String, AllocError>
     ensures { IfOk result (λ text. string_bytes text ≡ load_text fault) }
@@ -38,12 +54,7 @@ fn write_load_fault(alloc: Global, fault: LoadFault) -> Result<String, AllocErro
             let word = key_word(key);
             format!(in alloc; "62 BadLine {word} {place}")
         }
-        LoadFault::Refused(key, place, refusal) => {
-            let word = key_word(key);
-            let mut text = format!(in alloc; "{word} {place}: ")?;
-            put_refusal(alloc, &mut text, &refusal)?;
-            Ok(text)
-        }
+        LoadFault::Refused(key, place, refusal) => write_refused(alloc, key, place, refusal),
         LoadFault::Read => String::from_str(alloc, "63 Read"),
         LoadFault::OutOfMemory => String::from_str(alloc, "1 OutOfMemory"),
     }

@@ -2,7 +2,7 @@
 
 ghost use Rattle.std.specs.Prelude.{◌≡◌, ℕ, ◌+◌, ◌*◌, ◌^◌, ◌<◌, ◌≤◌, List, Option, Some, None};
 ghost use Rattle.std.specs.Io.KnownBytes.{IsAtEnd};
-ghost use Rattle.desk_console.specs.Console.{Standing, net_of, opening};
+ghost use Rattle.desk_console.specs.Console.{ConsoleValue, net_of, opening};
 ghost use Rattle.answers.specs.Text.{line_count};
 ghost use Rattle.console.specs.Run.{HasAnswered, Ran};
 
@@ -18,7 +18,7 @@ use std::io::{ErrorKind, Read, Write};
 pub struct ScriptEnd {
     /// How many answers were written whole.
     pub lines: u64,
-    /// Why the run ended early, where it did.
+    /// Why the run ended early, if it did.
     pub fault: Option<Fault>,
     /// The network after all accepted events; none after a fault.
     pub net: Option<Net>,
@@ -69,7 +69,7 @@ impl Session {
     /// Answers a last line that no line feed ends.
     fn finish<W: Write>(mut self, alloc: Global, writer: &mut W) -> ScriptEnd
         requires { self.lines + line_count self.answers.items + 1 < 2 ^ 64 }
-        ensures { (start : Standing) (unread left held : Option (List ℕ))
+        ensures { (start : ConsoleValue) (unread left held : Option (List ℕ))
             → HasAnswered start unread left held (W.contents writer.old) self → IsAtEnd left
             → Ran start unread left held (W.contents writer.new) result.fault result.lines result.net }
     {
@@ -91,7 +91,7 @@ impl Session {
         reads: u64,
     ) -> ScriptEnd
         requires { self.lines + line_count self.answers.items ≤ reads * 65536 }
-        ensures { (start : Standing) (unread held : Option (List ℕ))
+        ensures { (start : ConsoleValue) (unread held : Option (List ℕ))
             → HasAnswered start unread (R.remaining reader.old) held (W.contents writer.old) self
             → Ran start unread (R.remaining reader.new) held (W.contents writer.new) result.fault result.lines result.net }
     {

@@ -2,7 +2,7 @@
 
 ghost use Rattle.std.specs.Prelude.{◌≡◌, ℕ, ◌+◌, ◌^◌, ◌<◌, ◌≤◌, [], ◌∷◌, ◌++◌, List, length, take, IfOk, IfErr, OnOk, OnErr, Err, string_bytes, Option};
 ghost use Rattle.std.specs.Io.KnownBytes.{Appends};
-ghost use Rattle.desk_console.specs.Console.{Standing};
+ghost use Rattle.desk_console.specs.Console.{ConsoleValue};
 ghost use Rattle.console.specs.Lines.{whole_lines};
 ghost use Rattle.console.specs.Answers.{Replies};
 ghost use Rattle.answers.specs.Text.{line_count};
@@ -83,7 +83,7 @@ impl Session {
 
     /// Ends the line: its answer waits with the others.
     fn end_line(&mut self, alloc: Global) -> Result<(), AllocError>
-        ensures ok { OnOk result ((start : Standing) (read written : List ℕ)
+        ensures ok { OnOk result ((start : ConsoleValue) (read written : List ℕ)
             → IsTaken start read written self.old → IsTaken start (read ++ 10 ∷ []) written self.new) }
         ensures err { OnErr result (self.new.answers.items ≡ self.old.answers.items) }
         ensures one { line_count self.new.answers.items ≤ line_count self.old.answers.items + 1 }
@@ -97,9 +97,9 @@ impl Session {
 
     /// Takes the bytes of one read.
     fn feed(&mut self, alloc: Global, chunk: &[u8]) -> Result<(), AllocError>
-        ensures ok { OnOk result ((start : Standing) (read written : List ℕ)
+        ensures ok { OnOk result ((start : ConsoleValue) (read written : List ℕ)
             → IsTaken start read written self.old → IsTaken start (read ++ chunk.now) written self.new) }
-        ensures front { (start : Standing) (read written : List ℕ) → IsTaken start read written self.old
+        ensures front { (start : ConsoleValue) (read written : List ℕ) → IsTaken start read written self.old
             → IsAnsweredInPart start (whole_lines (read ++ chunk.now)) (written ++ self.new.answers.items) }
         ensures few { line_count self.new.answers.items ≤ line_count self.old.answers.items + length chunk.now }
         ensures lines { self.new.lines ≡ self.old.lines }
@@ -141,9 +141,9 @@ impl Session {
         chunk: &[u8],
     ) -> Result<(), Fault>
         requires { self.old.lines + line_count self.old.answers.items + length chunk.now < 2 ^ 64 }
-        ensures ok { OnOk result ((start : Standing) (read : List ℕ) (held : Option (List ℕ))
+        ensures ok { OnOk result ((start : ConsoleValue) (read : List ℕ) (held : Option (List ℕ))
             → IsAt start read held (W.contents writer.old) self.old → IsAt start (read ++ chunk.now) held (W.contents writer.new) self.new) }
-        ensures err { OnErr result ((start : Standing) (read : List ℕ) (held : Option (List ℕ))
+        ensures err { OnErr result ((start : ConsoleValue) (read : List ℕ) (held : Option (List ℕ))
             → IsAt start read held (W.contents writer.old) self.old
             → IsCutOff start (whole_lines (read ++ chunk.now)) held (W.contents writer.new) self.new.lines) }
         ensures fault { IfErr result CutsOff }

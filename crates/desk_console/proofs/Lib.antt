@@ -1,1 +1,4 @@
 pub mod SlotLemmas
+pub mod TaskLemmas
+pub mod StepLemmas
+pub mod KeptLemmas

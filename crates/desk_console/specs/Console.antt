@@ -2,15 +2,15 @@
 use Rattle.std.specs.Prelude.{ℕ, List, [], Option, None, replicate, slice_index_or}
 use Rattle.net_data.specs.Network.{Network}
 use Rattle.work_units.specs.Work.{Work}
-use Rattle.desk_core.specs.Desk.{State, net_now, no_post}
+use Rattle.desk_core.specs.Desk.{DeskValue, net_now, no_post}
 
 -- a desk, and 32 slots for results
-pub record Standing : Type 0 where
-  pub desk : State
+pub record ConsoleValue : Type 0 where
+  pub desk : DeskValue
   pub slots : List (Option Work)
 
 -- a desk that has accepted nothing, over a network
-abbrev pub new_desk : Network → State
+abbrev pub new_desk : Network → DeskValue
 new_desk net = record {
   published = record { number = 0; batch = []; network = net };
   pending = [];
@@ -20,13 +20,13 @@ new_desk net = record {
 }
 
 -- a new desk over a network, and empty slots
-abbrev pub opening : Network → Standing
+abbrev pub opening : Network → ConsoleValue
 opening net = record { desk = new_desk net; slots = replicate 32 None }
 
 -- the network after all accepted events
-abbrev pub net_of : Standing → Network
+abbrev pub net_of : ConsoleValue → Network
 net_of c = net_now c.desk
 
 -- the result in a slot
-abbrev pub slot_of : Standing → ℕ → Option Work
+abbrev pub slot_of : ConsoleValue → ℕ → Option Work
 slot_of c k = slice_index_or c.slots k None

@@ -1,56 +1,53 @@
--- What an order does at a console, and the text of its answer (own).
+-- What a command does at a console, and the text of its answer (own).
 use Rattle.std.specs.Prelude.{◌≡◌, ◌≢◌, ℕ, ◌+◌, ◌-◌, ◌^◌, ◌==◌, Bool, true, false, List, Option, Some, None, Result, Ok, Err, length, slice_set, codes}
 use Rattle.net_data.specs.declared.events.Event.{Event}
 use Rattle.work_units.specs.Work.{Work}
 use Rattle.desk_core.specs.declared.replies.Posted.{Posted}
 use Rattle.desk_core.specs.declared.replies.Refusal.{Refusal}
 use Rattle.desk_core.specs.declared.replies.Refusal.TheVariants.{OutOfMemory, EndOfNumbers}
-use Rattle.desk_core.specs.Desk.{State, accepted}
+use Rattle.desk_core.specs.Desk.{DeskValue, accepted}
 use Rattle.desk_core.specs.Steps.{last_of, Posts, Opens, Takes, Gives, Abandons, Publishes}
-use Rattle.desk_sync.specs.Sync.{synced}
-use Rattle.desk_replies.specs.Replies.{refused_text, posted_text, opened_text, job_text, given_text, abandoned_text, published_text, synced_text, version_text}
+use Rattle.desk_console.specs.Sync.{synced}
+use Rattle.answers.specs.Replies.{refused_text, posted_text, opened_text, job_text, given_text, abandoned_text, published_text, synced_text, version_text}
 use Rattle.path_trace.specs.Traces.{trace_at}
 use Rattle.what_if.specs.Reports.{report_of}
+use Rattle.answers.specs.Plain.{bad_line}
 use Rattle.answers.specs.Rows.{answer_about}
 use Rattle.answers.specs.Traces.{trace_answer}
 use Rattle.answers.specs.WhatIfs.{what_if_text}
 use Rattle.answers.specs.Audits.{audit_right}
-use Rattle.orders.specs.declared.orders.Order.{Order}
-use Rattle.orders.specs.declared.orders.Order.TheVariants as order
-use Rattle.desk_console.specs.Console.{Standing, slot_of}
+use Rattle.script_words.specs.declared.commands.Command.{Command}
+use Rattle.script_words.specs.declared.commands.Command.TheVariants as command
+use Rattle.desk_console.specs.Console.{ConsoleValue, slot_of}
 
 -- ---- what is told
 
 -- a text is told, and nothing changes
-abbrev pub Tells : List ℕ → Standing → List ℕ → Standing → Type 0
+abbrev pub Tells : List ℕ → ConsoleValue → List ℕ → ConsoleValue → Type 0
 Tells told c text new = (text ≡ told) × (new ≡ c)
 
--- a line that is no order, or whose slot is empty
-abbrev pub bad_line : List ℕ
-bad_line = codes "refused 62 BadLine"
-
 -- `version`
-abbrev pub version_of : State → List ℕ
+abbrev pub version_of : DeskValue → List ℕ
 version_of s = version_text s.published.number (accepted s)
 
 -- ---- calls of the desk
 
--- memory was not wanting
+-- memory did not run out
 abbrev pub HasMemory : {T : Type 0} → Result T Refusal → Type 0
 HasMemory result = result ≢ Err OutOfMemory
 
 -- a call of the desk gives a reply, which is told; the slots stay
-abbrev pub Calls : {T : Type 0} → (State → Result T Refusal → State → Type 0) → (Result T Refusal → List ℕ) → Standing → List ℕ → Standing → Type 0
+abbrev pub Calls : {T : Type 0} → (DeskValue → Result T Refusal → DeskValue → Type 0) → (Result T Refusal → List ℕ) → ConsoleValue → List ℕ → ConsoleValue → Type 0
 Calls {T} Step text_of c text new =
     (result : Result T Refusal) × Step c.desk result new.desk × HasMemory result × (text ≡ text_of result) × (new.slots ≡ c.slots)
 
 -- the sequence number after collector 0's last one is a number, or there is none
-abbrev pub PostsAfter : Bool → Event → Standing → List ℕ → Standing → Type 0
+abbrev pub PostsAfter : Bool → Event → ConsoleValue → List ℕ → ConsoleValue → Type 0
 PostsAfter true event c = Tells (refused_text EndOfNumbers) c
 PostsAfter false event c = Calls (λ s. Posts s 0 ((last_of s 0).seq + 1) event) posted_text c
 
 -- an event: collector 0 posts it, under the sequence number after its last one
-abbrev pub PostsNext : Event → Standing → List ℕ → Standing → Type 0
+abbrev pub PostsNext : Event → ConsoleValue → List ℕ → ConsoleValue → Type 0
 PostsNext event c = PostsAfter ((last_of c.desk 0).seq == 2 ^ 64 - 1) event c
 
 -- ---- slots
@@ -61,57 +58,57 @@ slots_taken k slots (Ok job) = slice_set slots k (Some job)
 slots_taken k slots (Err refusal) = slots
 
 -- a job is taken and done, and its result kept in the slot
-abbrev pub TakesTo : ℕ → Standing → List ℕ → Standing → Type 0
+abbrev pub TakesTo : ℕ → ConsoleValue → List ℕ → ConsoleValue → Type 0
 TakesTo k c text new =
     (result : Result Work Refusal) × Takes c.desk result new.desk × HasMemory result × (text ≡ job_text result) × (new.slots ≡ slots_taken k c.slots result)
 
--- the slots after a result was given: its slot is empty, or keeps it where it was refused
+-- the slots after a result was given: its slot is empty, or keeps it if it was refused
 abbrev pub slots_given : ℕ → List (Option Work) → Result (Unit {0}) (Work × Refusal) → List (Option Work)
 slots_given k slots (Ok done) = slice_set slots k None
 slots_given k slots (Err back) = slots
 
 -- the result in the slot is given
-abbrev pub GivesFrom : ℕ → Option Work → Standing → List ℕ → Standing → Type 0
+abbrev pub GivesFrom : ℕ → Option Work → ConsoleValue → List ℕ → ConsoleValue → Type 0
 GivesFrom k None c text new = Tells bad_line c text new
 GivesFrom k (Some work) c text new =
     (result : Result (Unit {0}) (Work × Refusal)) × Gives c.desk work result new.desk × (text ≡ given_text result) × (new.slots ≡ slots_given k c.slots result)
 
 -- the destination of the result in the slot is abandoned, for the version of that result
-abbrev pub AbandonsOf : Option Work → Standing → List ℕ → Standing → Type 0
+abbrev pub AbandonsOf : Option Work → ConsoleValue → List ℕ → ConsoleValue → Type 0
 AbandonsOf None c = Tells bad_line c
-AbandonsOf (Some work) c = Calls (λ s. Abandons s work.version work.extract.plan.dest) abandoned_text c
+AbandonsOf (Some work) c = Calls (λ s. Abandons s work.version work.excerpt.plan.dest) abandoned_text c
 
--- ---- all orders
+-- ---- all commands
 
 -- all that is accepted is published
-abbrev pub Syncs : Standing → List ℕ → Standing → Type 0
+abbrev pub Syncs : ConsoleValue → List ℕ → ConsoleValue → Type 0
 Syncs c text new = (text ≡ synced_text (accepted c.desk)) × (new ≡ record c { desk = synced c.desk })
 
--- what an order does; what is asked is answered from the published version
-abbrev pub Does : Order → Standing → List ℕ → Standing → Type 0
+-- what a command does; what is asked is answered from the published version
+abbrev pub Does : Command → ConsoleValue → List ℕ → ConsoleValue → Type 0
 -- EVENT
-Does (order.Event event) c = PostsNext event c
+Does (command.Event event) c = PostsNext event c
 -- `post C SEQ EVENT`
-Does (order.Post collector seq event) c = Calls (λ s. Posts s collector seq event) posted_text c
+Does (command.Post collector seq event) c = Calls (λ s. Posts s collector seq event) posted_text c
 -- `open`
-Does order.Open c = Calls Opens opened_text c
+Does command.Open c = Calls Opens opened_text c
 -- `take K`
-Does (order.Take k) c = TakesTo k c
+Does (command.Take k) c = TakesTo k c
 -- `give K`
-Does (order.Give k) c = GivesFrom k (slot_of c k) c
+Does (command.Give k) c = GivesFrom k (slot_of c k) c
 -- `abandon K`
-Does (order.Abandon k) c = AbandonsOf (slot_of c k) c
+Does (command.Abandon k) c = AbandonsOf (slot_of c k) c
 -- `publish`
-Does order.Publish c = Calls Publishes published_text c
+Does command.Publish c = Calls Publishes published_text c
 -- `sync`
-Does order.Sync c = Syncs c
+Does command.Sync c = Syncs c
 -- `version`
-Does order.Version c = Tells (version_of c.desk) c
+Does command.Version c = Tells (version_of c.desk) c
 -- `status Y X`, `sls Y X`, `messages Y X` and `octets Y Z X`
-Does (order.About asked y x) c = Tells (answer_about asked c.desk.published.network y x) c
+Does (command.About asked y x) c = Tells (answer_about asked c.desk.published.network y x) c
 -- `trace Y X S`
-Does (order.Trace y x s) c = Tells (trace_answer (trace_at c.desk.published.network y x s)) c
+Does (command.Trace y x s) c = Tells (trace_answer (trace_at c.desk.published.network y x s)) c
 -- `whatif EVENT ; EVENT ..`
-Does (order.WhatIf events) c = Tells (what_if_text (report_of c.desk.published.network events)) c
+Does (command.WhatIf events) c = Tells (what_if_text (report_of c.desk.published.network events)) c
 -- `audit`
-Does order.Audit c = Tells (audit_right (length c.desk.published.network.plans)) c
+Does command.Audit c = Tells (audit_right (length c.desk.published.network.plans)) c

@@ -1,3 +1,5 @@
 pub mod Console
 pub mod Does
 pub mod Commands
+pub mod Sync
+pub mod Settling

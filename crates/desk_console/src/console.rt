@@ -5,9 +5,10 @@ ghost use Rattle.answers.specs.Text.{line_count};
 ghost use Rattle.desk_console.specs.Commands.{Commands};
 ghost use Rattle.desk_console.specs.Console.{net_of, opening};
 
+use answers::write_bad_line;
 use desk_core::Desk;
 use net_data::Net;
-use orders::read_order;
+use script_words::read_command;
 use std::alloc::{AllocError, Global};
 use std::marker::Model;
 use tokens::split_words;
@@ -25,9 +26,9 @@ pub struct Console {
 
 impl Model for Console {
     ghost use Rattle.std.specs.Prelude.{◌≡◌, length};
-    ghost use Rattle.desk_console.specs.Console.{Standing};
+    ghost use Rattle.desk_console.specs.Console.{ConsoleValue};
 
-    ghost Value = { Standing };
+    ghost Value = { ConsoleValue };
 
     ghost view = { λ c. record { desk = c.desk; slots = c.slots.items } };
 
@@ -69,15 +70,15 @@ impl Console {
         self.desk.into_net()
     }
 
-    /// Does what a line says, and gives the text of its answer, without a line feed. It fails where memory is refused.
+    /// Does what a line says, and gives the text of its answer, without a line feed. It fails if memory is refused.
     pub fn answer(&mut self, alloc: Global, line: &[u8]) -> Result<String, AllocError>
         ensures command { IfOk result (λ text. Commands line.now self.old (string_bytes text) self.new) }
         ensures plain { IfOk result (λ text. line_count (string_bytes text) ≡ 0) }
     {
         let words = split_words(alloc, line)?;
-        let Some(order) = read_order(alloc, words.as_slice())? else {
-            return String::from_str(alloc, "refused 62 BadLine");
+        let Some(command) = read_command(alloc, words.as_slice())? else {
+            return write_bad_line(alloc);
         };
-        self.obey(alloc, order)
+        self.obey(alloc, command)
     }
 }

@@ -1,4 +1,4 @@
-//! What each order does.
+//! What each command does.
 
 ghost use Rattle.std.specs.Prelude.{◌≡◌, ◌<◌, ◌↔◌, IfOk, IsTrue, length, string_bytes};
 ghost use Rattle.answers.specs.Audits.{audit_right};
@@ -7,22 +7,22 @@ ghost use Rattle.answers.specs.Text.{line_count};
 ghost use Rattle.answers.specs.Traces.{trace_answer};
 ghost use Rattle.answers.specs.WhatIfs.{what_if_text};
 ghost use Rattle.desk_core.specs.Steps.{Opens, Posts, Publishes};
-ghost use Rattle.desk_replies.specs.Replies.{opened_text, posted_text, published_text};
-ghost use Rattle.orders.specs.Orders.{IsWithin};
+ghost use Rattle.answers.specs.Replies.{opened_text, posted_text, published_text};
+ghost use Rattle.script_words.specs.Commands.{IsWithin};
 ghost use Rattle.path_trace.specs.Traces.{trace_at};
 ghost use Rattle.what_if.specs.Reports.{report_of};
 ghost use Rattle.desk_console.specs.Does.{Calls, Does, HasMemory, PostsNext, Syncs, version_of};
 
 use crate::console::Console;
-use answers::{Asked, answer_about, answer_audit, answer_trace, answer_what_if};
-use desk_core::Refusal;
-use desk_replies::{
-    write_opened, write_posted, write_published, write_refused, write_synced, write_version,
+use crate::sync;
+use answers::{
+    answer_about, answer_audit, answer_trace, answer_what_if, write_opened, write_posted,
+    write_published, write_refused, write_synced, write_version,
 };
-use desk_sync::sync;
+use desk_core::Refusal;
 use net_data::Event;
-use orders::Order;
 use point_codes::PointCode;
+use script_words::{Command, Question};
 use std::alloc::{AllocError, Global};
 
 /// Whether memory sufficed for a reply of the desk.
@@ -111,7 +111,7 @@ impl Console {
     fn ask_row(
         &self,
         alloc: Global,
-        asked: Asked,
+        asked: Question,
         y: PointCode,
         x: PointCode,
     ) -> Result<String, AllocError>
@@ -152,26 +152,26 @@ impl Console {
         answer_audit(alloc, self.desk.published())
     }
 
-    /// Does what an order says.
-    pub(crate) fn obey(&mut self, alloc: Global, order: Order) -> Result<String, AllocError>
-        requires { IsWithin order }
-        ensures does { IfOk result (λ text. Does order self.old (string_bytes text) self.new) }
+    /// Does what a command says.
+    pub(crate) fn obey(&mut self, alloc: Global, command: Command) -> Result<String, AllocError>
+        requires { IsWithin command }
+        ensures does { IfOk result (λ text. Does command self.old (string_bytes text) self.new) }
         ensures plain { IfOk result (λ text. line_count (string_bytes text) ≡ 0) }
     {
-        match order {
-            Order::Event(event) => self.post_next(alloc, event),
-            Order::Post(collector, seq, event) => self.post(alloc, collector, seq, event),
-            Order::Open => self.open(alloc),
-            Order::Take(slot) => self.take(alloc, slot),
-            Order::Give(slot) => self.give(alloc, slot),
-            Order::Abandon(slot) => self.abandon(alloc, slot),
-            Order::Publish => self.publish(alloc),
-            Order::Sync => self.sync(alloc),
-            Order::Version => self.version(alloc),
-            Order::About(asked, y, x) => self.ask_row(alloc, asked, y, x),
-            Order::Trace(y, x, s) => self.ask_trace(alloc, y, x, s),
-            Order::WhatIf(events) => self.ask_what_if(alloc, events.as_slice()),
-            Order::Audit => self.ask_audit(alloc),
+        match command {
+            Command::Event(event) => self.post_next(alloc, event),
+            Command::Post(collector, seq, event) => self.post(alloc, collector, seq, event),
+            Command::Open => self.open(alloc),
+            Command::Take(slot) => self.take(alloc, slot),
+            Command::Give(slot) => self.give(alloc, slot),
+            Command::Abandon(slot) => self.abandon(alloc, slot),
+            Command::Publish => self.publish(alloc),
+            Command::Sync => self.sync(alloc),
+            Command::Version => self.version(alloc),
+            Command::About(asked, y, x) => self.ask_row(alloc, asked, y, x),
+            Command::Trace(y, x, s) => self.ask_trace(alloc, y, x, s),
+            Command::WhatIf(events) => self.ask_what_if(alloc, events.as_slice()),
+            Command::Audit => self.ask_audit(alloc),
         }
     }
 }

@@ -1,4 +1,4 @@
-//! The slots, and the orders that use them.
+//! The slots, and the commands that use them.
 
 ghost use Rattle.std.specs.Prelude.{◌≡◌, ◌<◌, IfOk, None, Some, length, slice_index_or, slice_set, string_bytes};
 ghost use Rattle.answers.specs.Text.{line_count};
@@ -7,25 +7,35 @@ ghost use Rattle.desk_console.specs.Does.{AbandonsOf, GivesFrom, TakesTo};
 
 use crate::console::Console;
 use crate::obeying::has_memory;
-use desk_replies::{write_abandoned, write_given, write_job, write_refused};
+use answers::{write_abandoned, write_bad_line, write_given, write_job, write_refused};
 use std::alloc::{AllocError, Global};
-use work_units::{Settled, settle};
+use work_units::{Job, Settled, settle};
 
 /// Takes the result out of a slot.
-fn take_out(slots: &mut Vec<Option<Settled>>, place: usize) -> Option<Settled>
-    requires { place < length slots.old.items }
-    ensures value { result ≡ slice_index_or slots.old.items place None }
-    ensures rest { slots.new.items ≡ slice_set slots.old.items place None }
+fn take_out(slots: &mut Vec<Option<Settled>>, position: usize) -> Option<Settled>
+    requires { position < length slots.old.items }
+    ensures value { result ≡ slice_index_or slots.old.items position None }
+    ensures rest { slots.new.items ≡ slice_set slots.old.items position None }
 {
-    slots[place].take()
+    slots[position].take()
 }
 
 /// Puts a result in a slot.
-fn put_in(slots: &mut Vec<Option<Settled>>, place: usize, settled: Settled)
-    requires { place < length slots.old.items }
-    ensures { slots.new.items ≡ slice_set slots.old.items place (Some settled) }
+fn put_in(slots: &mut Vec<Option<Settled>>, position: usize, settled: Settled)
+    requires { position < length slots.old.items }
+    ensures { slots.new.items ≡ slice_set slots.old.items position (Some settled) }
 {
-    slots[place] = Some(settled);
+    slots[position] = Some(settled);
+}
+
+/// The result of a job.
+fn result_of(alloc: Global, job: Job) -> Result<Settled, AllocError>
+    ensures { IfOk result (λ settled. settled ≡ job) }
+{
+    match settle(alloc, job) {
+        Ok(settled) => Ok(settled),
+        Err((_, refused)) => Err(refused),
+    }
 }
 
 impl Console {
@@ -42,10 +52,7 @@ impl Console {
         match reply {
             Ok(job) => {
                 let text = write_job(alloc, &job)?;
-                let settled = match settle(alloc, job) {
-                    Ok(settled) => settled,
-                    Err((_, refused)) => return Err(refused),
-                };
+                let settled = result_of(alloc, job)?;
                 put_in(&mut self.slots, usize::from(slot), settled);
                 Ok(text)
             }
@@ -60,14 +67,14 @@ impl Console {
         ensures call { IfOk result (λ text. GivesFrom slot (slot_of self.old slot) self.old (string_bytes text) self.new) }
         ensures plain { IfOk result (λ text. line_count (string_bytes text) ≡ 0) }
     {
-        let place = usize::from(slot);
-        let Some(settled) = take_out(&mut self.slots, place) else {
-            return String::from_str(alloc, "refused 62 BadLine");
+        let position = usize::from(slot);
+        let Some(settled) = take_out(&mut self.slots, position) else {
+            return write_bad_line(alloc);
         };
         match self.desk.give(settled) {
             Ok(()) => write_given(alloc, &Ok(())),
             Err((settled, refusal)) => {
-                put_in(&mut self.slots, place, settled);
+                put_in(&mut self.slots, position, settled);
                 write_refused(alloc, refusal)
             }
         }
@@ -84,7 +91,7 @@ impl Console {
                 let reply = self.desk.abandon(settled.version(), settled.dest());
                 write_abandoned(alloc, reply)
             }
-            None => String::from_str(alloc, "refused 62 BadLine"),
+            None => write_bad_line(alloc),
         }
     }
 }

@@ -12,25 +12,25 @@ use Rattle.excerpts.specs.Excerpts.{content_at}
 use Rattle.dirty_sets.specs.Touch.{IsIndex, touches}
 use Rattle.dirty_sets.specs.Marks.{Marked, IsClear, IsNoted}
 use Rattle.dirty_sets.specs.Waiting.{Task}
-use Rattle.dirty_sets.proofs.UntouchedLaw.{law}
-use Rattle.net_versions.specs.Versions.{Published}
-use Rattle.desk_core.specs.Desk.{State, OpenTarget, accepted, net_at, net_now, replay, touched_by, next_version}
+use Rattle.dirty_sets.proofs.UntouchedLemmas.{law}
+use Rattle.net_versions.specs.Versions.{VersionValue}
+use Rattle.desk_core.specs.Desk.{DeskValue, OpenTarget, accepted, net_at, net_now, replay, touched_by, next_version}
 use Rattle.desk_core.specs.Steps.{with_post, with_target, with_tasks, with_version}
-use Rattle.desk_core.specs.Targets.{OpenNet}
+use Rattle.desk_core.specs.Targets.{TargetValue}
 use Rattle.desk_core.specs.Inside.{IsAhead, IsInside, IsOpened, IsSameMarked, count, fixed, since}
-use Rattle.desk_core.proofs.Replays.{replay-append, replay-push, touched_by-push}
+use Rattle.desk_core.proofs.ReplayLemmas.{replay-append, replay-push, touched_by-push}
 
 or_false : (a b : Bool) → (a || b) ≡ false → (a ≡ false) × (b ≡ false)
 or_false true b e = absurd (cc)
 or_false false b e = (refl, e)
 
-module _ (s : State) (latest : Network) (marked : Marked) (opened : Option OpenNet) (i : IsInside s latest marked opened) where
+module _ (s : DeskValue) (latest : Network) (marked : Marked) (opened : Option TargetValue) (i : IsInside s latest marked opened) where
   -- the fixed network has no more than the accepted events
-  few_fixed : (o : Option OpenNet) → IsOpened s o → count s o ≤ length s.pending
+  few_fixed : (o : Option TargetValue) → IsOpened s o → count s o ≤ length s.pending
   few_fixed None ahead = omega arith
   few_fixed (Some t) ahead = let within = ahead.within in let after = ahead.after in omega arith
 
-  fixed_is : (o : Option OpenNet) → IsOpened s o → fixed s o ≡ replay s.published.network (take (count s o) s.pending)
+  fixed_is : (o : Option TargetValue) → IsOpened s o → fixed s o ≡ replay s.published.network (take (count s o) s.pending)
   fixed_is None ahead = refl
   fixed_is (Some t) ahead = ahead.network
 
@@ -45,10 +45,10 @@ module _ (s : State) (latest : Network) (marked : Marked) (opened : Option OpenN
   -- ---- a post
 
   module _ (collector seq : ℕ) (event : Event) where
-    abbrev after : State
+    abbrev after : DeskValue
     after = with_post s collector seq event
 
-    ahead_after : (o : Option OpenNet) → IsOpened s o → IsOpened after o
+    ahead_after : (o : Option TargetValue) → IsOpened s o → IsOpened after o
     ahead_after None ahead = tt
     ahead_after (Some t) ahead =
         let within = ahead.within in let low = ahead.after in
@@ -58,11 +58,11 @@ module _ (s : State) (latest : Network) (marked : Marked) (opened : Option OpenN
           network = ahead.network ∙ ap (replay s.published.network) (sym (take-append-le (t.number - s.published.number) s.pending (event ∷ []) (omega arith)));
         }
 
-    since_after : (o : Option OpenNet) → IsOpened s o → since after o ≡ since s o ++ event ∷ []
+    since_after : (o : Option TargetValue) → IsOpened s o → since after o ≡ since s o ++ event ∷ []
     since_after None ahead = refl
     since_after (Some t) ahead = drop-append-le (t.number - s.published.number) s.pending (event ∷ []) (few_fixed (Some t) ahead)
 
-    fixed_after : (o : Option OpenNet) → fixed after o ≡ fixed s o
+    fixed_after : (o : Option TargetValue) → fixed after o ≡ fixed s o
     fixed_after None = refl
     fixed_after (Some t) = refl
 
@@ -105,7 +105,7 @@ module _ (s : State) (latest : Network) (marked : Marked) (opened : Option OpenN
 
 -- ---- an opening
 
-pub inside_open : (s : State) (latest : Network) (marked marked' : Marked) (tasks : List Task) → IsInside s latest marked None → marked'.index ≡ marked.index → IsClear marked'
+pub inside_open : (s : DeskValue) (latest : Network) (marked marked' : Marked) (tasks : List Task) → IsInside s latest marked None → marked'.index ≡ marked.index → IsClear marked'
     → IsInside (with_target s) latest marked' (Some (record { number = accepted s; network = latest; tasks = tasks }))
 inside_open s latest marked marked' tasks i same clear =
     let all : accepted s - s.published.number ≡ length s.pending = omega arith in
@@ -130,7 +130,7 @@ inside_open s latest marked marked' tasks i same clear =
 
 -- ---- other tasks
 
-pub inside_tasks : (s : State) (latest : Network) (marked : Marked) (t : OpenNet) (tasks : List Task) (change : List Task → List Task) → IsInside s latest marked (Some t)
+pub inside_tasks : (s : DeskValue) (latest : Network) (marked : Marked) (t : TargetValue) (tasks : List Task) (change : List Task → List Task) → IsInside s latest marked (Some t)
     → IsInside (with_tasks s change) latest marked (Some (record t { tasks = tasks }))
 inside_tasks s latest marked t tasks change i = record {
   is_now = i.is_now;
@@ -145,11 +145,11 @@ inside_tasks s latest marked t tasks change i = record {
 
 -- ---- a publication
 
-pub inside_version : (s : State) (latest : Network) (marked : Marked) (t : OpenNet) (version : Published) → IsInside s latest marked (Some t) → version ≡ next_version s t.number
+pub inside_version : (s : DeskValue) (latest : Network) (marked : Marked) (t : TargetValue) (version : VersionValue) → IsInside s latest marked (Some t) → version ≡ next_version s t.number
     → IsInside (with_version s version) latest marked None
 inside_version s latest marked t version i is =
-    let number : version.number ≡ t.number = ap (λ (v : Published). v.number) is in
-    let network : version.network ≡ t.network = ap (λ (v : Published). v.network) is ∙ sym i.ahead.network in
+    let number : version.number ≡ t.number = ap (λ (v : VersionValue). v.number) is in
+    let network : version.network ≡ t.network = ap (λ (v : VersionValue). v.network) is ∙ sym i.ahead.network in
     let dropped : drop (version.number - s.published.number) s.pending ≡ since s (Some t) = ap (λ n. drop (n - s.published.number) s.pending) number in
     let left : length (drop (version.number - s.published.number) s.pending) ≡ length s.pending - (version.number - s.published.number) = length-drop (version.number - s.published.number) s.pending in
     let after = i.ahead.after in let within = i.ahead.within in let few = i.few in let counted = i.counted in
@@ -166,7 +166,7 @@ inside_version s latest marked t version i is =
 
 -- ---- the same version and events
 
-pub inside_alike : (s s' : State) (latest : Network) (marked : Marked) (opened : Option OpenNet) → s'.published ≡ s.published → s'.pending ≡ s.pending → length s'.lasts ≡ 256
+pub inside_alike : (s s' : DeskValue) (latest : Network) (marked : Marked) (opened : Option TargetValue) → s'.published ≡ s.published → s'.pending ≡ s.pending → length s'.lasts ≡ 256
     → IsInside s latest marked opened → IsInside s' latest marked opened
 inside_alike s s' latest marked opened published pending collectors i =
     subst (λ v. IsInside (with_both v s'.pending) latest marked opened) (sym published) (subst (λ es. IsInside (with_both s.published es) latest marked opened) (sym pending) (record {
@@ -180,25 +180,25 @@ inside_alike s s' latest marked opened published pending collectors i =
       kept = i.kept;
     }))
   where
-    with_both : Published → List Event → State
+    with_both : VersionValue → List Event → DeskValue
     with_both v es = record { published = v; pending = es; lasts = s'.lasts; target = s'.target; spare = s'.spare }
 
-    ahead : (o : Option OpenNet) → IsOpened s o → IsOpened (with_both s.published s.pending) o
+    ahead : (o : Option TargetValue) → IsOpened s o → IsOpened (with_both s.published s.pending) o
     ahead None a = tt
     ahead (Some t) a = record { after = a.after; within = a.within; network = a.network }
 
 -- what the open target keeps
-pub steady_is : (s : State) (latest : Network) (marked : Marked) (opened : Option OpenNet) → IsInside s latest marked opened
-    → MatchOption (option_map (λ (t : OpenNet). record { number = t.number; tasks = t.tasks }) opened) (Unit {0}) (λ (t : OpenTarget). (s.published.number ≤ t.number) × (t.number ≤ accepted s))
+pub steady_is : (s : DeskValue) (latest : Network) (marked : Marked) (opened : Option TargetValue) → IsInside s latest marked opened
+    → MatchOption (option_map (λ (t : TargetValue). record { number = t.number; tasks = t.tasks }) opened) (Unit {0}) (λ (t : OpenTarget). (s.published.number ≤ t.number) × (t.number ≤ accepted s))
 steady_is s latest marked opened i = go opened i.ahead
   where
-    go : (o : Option OpenNet) → IsOpened s o → MatchOption (option_map (λ (t : OpenNet). record { number = t.number; tasks = t.tasks }) o) (Unit {0}) (λ (t : OpenTarget). (s.published.number ≤ t.number) × (t.number ≤ accepted s))
+    go : (o : Option TargetValue) → IsOpened s o → MatchOption (option_map (λ (t : TargetValue). record { number = t.number; tasks = t.tasks }) o) (Unit {0}) (λ (t : OpenTarget). (s.published.number ≤ t.number) × (t.number ≤ accepted s))
     go None a = tt
     go (Some t) a = (a.after, a.within)
 
 -- a publication, whatever the open target
-pub inside_next : (s : State) (latest : Network) (marked : Marked) (opened : Option OpenNet) (version : Published) → IsInside s latest marked opened
-    → MatchOption (option_map (λ (t : OpenNet). record { number = t.number; tasks = t.tasks }) opened) ⊥ (λ (t : OpenTarget). version ≡ next_version s t.number)
+pub inside_next : (s : DeskValue) (latest : Network) (marked : Marked) (opened : Option TargetValue) (version : VersionValue) → IsInside s latest marked opened
+    → MatchOption (option_map (λ (t : TargetValue). record { number = t.number; tasks = t.tasks }) opened) ⊥ (λ (t : OpenTarget). version ≡ next_version s t.number)
     → IsInside (with_version s version) latest marked None
 inside_next s latest marked None version i next = absurd next
 inside_next s latest marked (Some t) version i next = inside_version s latest marked t version i next

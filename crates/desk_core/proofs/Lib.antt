@@ -1,5 +1,5 @@
 pub mod TargetLemmas
-pub mod Replays
+pub mod ReplayLemmas
 pub mod InsideLemmas
 pub mod RunLemmas
 pub mod OpeningLemmas

@@ -11,8 +11,8 @@ use Rattle.net_items.specs.Lookups.{has_point, plan_at, point_at}
 use Rattle.net_items.proofs.KeyedLemmas.{found_holds, All-then}
 use Rattle.net_data.specs.Network.{Network}
 use Rattle.net_data.specs.Valid.{IsValid, IsRightPlan}
-use Rattle.excerpts.specs.Excerpts.{Extract, excerpt_at, excerpt_in}
-use Rattle.transfer_state.specs.Routing.{Seat}
+use Rattle.excerpts.specs.Excerpts.{ExcerptValue, excerpt_at, excerpt_in}
+use Rattle.transfer_state.specs.Routing.{RoutingSlotValue}
 use Rattle.dirty_sets.specs.Touch.{is_planned}
 use Rattle.dirty_sets.specs.Marks.{Marked}
 use Rattle.dirty_sets.specs.Waiting.{Task, all_waiting, waiting, waiting_task}
@@ -21,10 +21,10 @@ use Rattle.plan_rows.specs.Causes.{when, first}
 use Rattle.desk_core.specs.declared.replies.Opened.{Opened}
 use Rattle.desk_core.specs.declared.replies.Refusal.{Refusal}
 use Rattle.desk_core.specs.declared.replies.Refusal.TheVariants.{Busy, Nothing}
-use Rattle.desk_core.specs.Desk.{State, OpenTarget, accepted, net_now, to_settle, touched_by}
+use Rattle.desk_core.specs.Desk.{DeskValue, OpenTarget, accepted, net_now, to_settle, touched_by}
 use Rattle.desk_core.specs.Steps.{IsReply, Opens, with_target}
 use Rattle.desk_core.specs.Inside.{IsInside}
-use Rattle.desk_core.specs.Targets.{AreFilled, IsFilled, IsPlaceOf, is_task, seat_of}
+use Rattle.desk_core.specs.Targets.{AreFilled, IsFilled, IsSlotFor, is_task, slot_of}
 
 -- ---- lists
 
@@ -66,11 +66,11 @@ waiting_all (x ∷ xs) = ap (λ ys. x ∷ ys) (waiting_all xs)
 
 -- ---- a place
 
-pub seat_is : (net : Network) (plan : Plan) (settled : Bool) (seat : Seat) → plan_at net.plans plan.dest ≡ Some plan → IsPlaceOf net plan.dest settled seat → seat ≡ record { extract = excerpt_in net plan; settled = settled }
-seat_is net plan settled seat at is =
-    let here : Some (excerpt_in net plan) ≡ Some seat.extract = sym (ap (option_map (excerpt_in net)) at) ∙ is.0 in
-    let same : excerpt_in net plan ≡ seat.extract = cc in
-    ap (λ (x : Extract). record { extract = x; settled = seat.settled }) (sym same) ∙ ap (λ b. record { extract = excerpt_in net plan; settled = b }) is.1
+pub slot_is : (net : Network) (plan : Plan) (settled : Bool) (slot : RoutingSlotValue) → plan_at net.plans plan.dest ≡ Some plan → IsSlotFor net plan.dest settled slot → slot ≡ record { excerpt = excerpt_in net plan; settled = settled }
+slot_is net plan settled slot at is =
+    let here : Some (excerpt_in net plan) ≡ Some slot.excerpt = sym (ap (option_map (excerpt_in net)) at) ∙ is.0 in
+    let same : excerpt_in net plan ≡ slot.excerpt = cc in
+    ap (λ (x : ExcerptValue). record { excerpt = x; settled = slot.settled }) (sym same) ∙ ap (λ b. record { excerpt = excerpt_in net plan; settled = b }) is.1
 
 pub planned_is : (net : Network) (plan : Plan) (x : ℕ) → plan_at net.plans x ≡ Some plan → is_planned net x ≡ true
 planned_is net plan x at = ap is_some at
@@ -101,11 +101,11 @@ touched_wait touched (x ∷ xs) = go (touched x) refl (touched_wait touched xs)
         let is : filter touched (x ∷ xs) ≡ filter touched xs = rw e refl in
         subst Wait (sym is) ((λ t. absurd (let f : false ≡ true = sym e ∙ t in cc)), rec)
 
-places_filled : (net : Network) (touched : ℕ → Bool) (tasks : List Task) (plans : List Plan) → AllByRecursion (λ x. touched x ≡ true → is_task tasks x ≡ true) (dests plans) → AllByRecursion (IsFilled tasks) (map (seat_of net touched) plans)
+places_filled : (net : Network) (touched : ℕ → Bool) (tasks : List Task) (plans : List Plan) → AllByRecursion (λ x. touched x ≡ true → is_task tasks x ≡ true) (dests plans) → AllByRecursion (IsFilled tasks) (map (slot_of net touched) plans)
 places_filled net touched tasks [] all = tt
 places_filled net touched tasks (p ∷ ps) all = (go (touched p.dest) refl, places_filled net touched tasks ps all.1)
   where
-    go : (b : Bool) → touched p.dest ≡ b → IsFilled tasks (seat_of net touched p)
+    go : (b : Bool) → touched p.dest ≡ b → IsFilled tasks (slot_of net touched p)
     go true e = rw e (all.0 e)
     go false e = rw e refl
 
@@ -125,14 +125,14 @@ plans_found (p ∷ ps) = (
   All-then (λ (q : Plan). q.dest) (λ q. is_some (plan_at ps q.dest) ≡ true) (λ q. is_some (plan_at (p ∷ ps) q.dest) ≡ true) (λ q h. still_found p ps q.dest h) ps (plans_found ps),
 )
 
-extracts_of : (net : Network) (touched : ℕ → Bool) (plans : List Plan) → map (λ (s : Seat). s.extract) (map (seat_of net touched) plans) ≡ map (excerpt_in net) plans
-extracts_of net touched [] = refl
-extracts_of net touched (p ∷ ps) = ap (λ xs. excerpt_in net p ∷ xs) (extracts_of net touched ps)
+excerpts_of : (net : Network) (touched : ℕ → Bool) (plans : List Plan) → map (λ (s : RoutingSlotValue). s.excerpt) (map (slot_of net touched) plans) ≡ map (excerpt_in net) plans
+excerpts_of net touched [] = refl
+excerpts_of net touched (p ∷ ps) = ap (λ xs. excerpt_in net p ∷ xs) (excerpts_of net touched ps)
 
 -- the places of a target, of which the touched wait
-pub opened_filled : (net : Network) (touched : ℕ → Bool) → AreFilled net (all_waiting (filter touched (dests net.plans))) (map (seat_of net touched) net.plans)
+pub opened_filled : (net : Network) (touched : ℕ → Bool) → AreFilled net (all_waiting (filter touched (dests net.plans))) (map (slot_of net touched) net.plans)
 opened_filled net touched = record {
-  all = extracts_of net touched net.plans;
+  all = excerpts_of net touched net.plans;
   filled = places_filled net touched _ net.plans (touched_wait touched (dests net.plans));
   planned = All-map (λ (t : Task). is_planned net t.dest ≡ true) waiting_task (filter touched (dests net.plans))
       (All-filter (λ x. is_planned net x ≡ true) touched (dests net.plans) (All-map (λ x. is_planned net x ≡ true) (λ (p : Plan). p.dest) net.plans (plans_found net.plans)));
@@ -153,20 +153,20 @@ filter-same p q [] all same = refl
 filter-same p q (x ∷ xs) all same = ap (λ b. cond b (x ∷ filter p xs) (filter p xs)) (same x all.0) ∙ ap (λ ys. cond (q x) (x ∷ ys) ys) (filter-same p q xs all.1 same)
 
 -- the destinations that were touched are those to settle
-pub to_settle_is : (s : State) (latest : Network) (marked : Marked) → IsInside s latest marked None → IsValid latest → filter marked.touched (dests latest.plans) ≡ to_settle s
+pub to_settle_is : (s : DeskValue) (latest : Network) (marked : Marked) → IsInside s latest marked None → IsValid latest → filter marked.touched (dests latest.plans) ≡ to_settle s
 to_settle_is s latest marked i valid =
     filter-same marked.touched (touched_by s.published.network s.pending) (dests latest.plans)
     (All-map (λ x. x < 16384) (λ (p : Plan). p.dest) latest.plans (All-then (λ (p : Plan). p.dest) (IsRightPlan latest.points latest.sets) (λ p. p.dest < 16384) (λ p right. coded latest.points p.dest valid.codes_small right.is_there) latest.plans valid.plans_right))
     (λ x low. i.since x low)
     ∙ ap (λ (n : Network). filter (touched_by s.published.network s.pending) (dests n.plans)) i.is_now
 
--- what an opening answers, where it isn't refused
-pub opens_is : (s new : State) (answer : Opened) → s.target ≡ None → eqb (length s.pending) 0 ≡ false → answer ≡ record { target = accepted s; waiting = length (to_settle s) } → new ≡ with_target s → Opens s (Ok answer) new
+-- what an opening answers, if it isn't refused
+pub opens_is : (s new : DeskValue) (answer : Opened) → s.target ≡ None → eqb (length s.pending) 0 ≡ false → answer ≡ record { target = accepted s; waiting = length (to_settle s) } → new ≡ with_target s → Opens s (Ok answer) new
 opens_is s new answer none some is left =
     subst (λ (o : Option OpenTarget). IsReply (first (when (is_some o) Busy ∷ when (eqb (length s.pending) 0) Nothing ∷ [])) Change s (Ok answer) new) (sym none)
     (subst (λ b. IsReply (first (when b Nothing ∷ [])) Change s (Ok answer) new) (sym some) (is, left))
   where
-    Change : Opened → State → Type 0
+    Change : Opened → DeskValue → Type 0
     Change reply after = (reply ≡ record { target = accepted s; waiting = length (to_settle s) }) × (after ≡ with_target s)
 
 pub is_none : {X : Type 0} (o : Option X) → is_some o ≡ false → o ≡ None

@@ -10,7 +10,7 @@ use Rattle.net_items.specs.declared.items.Plan.{Plan}
 use Rattle.net_items.specs.Lookups.{plan_at}
 use Rattle.profile.specs.Whole.{scratch}
 use Rattle.excerpts.specs.Excerpts.{excerpt_in, network_source, source_of, table_at}
-use Rattle.net_versions.specs.Versions.{Published, table_told}
+use Rattle.net_versions.specs.Versions.{VersionValue, table_told}
 use Rattle.path_trace.specs.Traces.{trace_at}
 use Rattle.desk_core.specs.declared.replies.Last.{Last}
 use Rattle.desk_core.specs.declared.replies.Opened.{Opened}
@@ -22,13 +22,13 @@ use Rattle.desk_core.specs.declared.steps.Step.{Step}
 use Rattle.desk_core.specs.declared.steps.Step.TheVariants as step
 use Rattle.desk_core.specs.declared.steps.Reply.{Reply}
 use Rattle.desk_core.specs.declared.steps.Reply.TheVariants as reply
-use Rattle.desk_core.specs.Desk.{State, OpenTarget, accepted, replay, next_version}
+use Rattle.desk_core.specs.Desk.{DeskValue, OpenTarget, accepted, replay, next_version}
 use Rattle.desk_core.specs.Steps.{IsReply, IsPost, IsJobOf, IsGiven, IsGiveReply, IsAbandonReply, IsNext, Posts, Opens, Takes, Gives, Abandons, Publishes, is_last, last_of, post_refusal, open_refusal, out_refusal, publish_refusal, repeated, first_of, with_post, with_target, with_tasks, with_version}
 use Rattle.desk_core.specs.Runs.{Steps, Runs, event_taken, accepted_by, accepted_in, events_up_to, network_at, Numbers, numbers_by, numbers_after, first_numbers, batch_of, IsRightVersion, IsRightThroughout, IsSteady}
-use Rattle.desk_core.proofs.Replays.{replay-append}
+use Rattle.desk_core.proofs.ReplayLemmas.{replay-append}
 
 -- a desk after steps from another: what it has published and what is pending are the accepted events
-record Tracks (start : State) (more : List Event) (numbers : Numbers) (s : State) : Type 0 where
+record Tracks (start : DeskValue) (more : List Event) (numbers : Numbers) (s : DeskValue) : Type 0 where
   number : s.published.number ≡ numbers.now
   batch : s.published.batch ≡ batch_of start more numbers
   low : start.published.number ≤ s.published.number
@@ -65,7 +65,7 @@ drop-take (suc a) b [] = let e : suc a + b ≡ suc (a + b) = omega arith in rw e
 drop-take (suc a) b (x ∷ xs) = let e : suc a + b ≡ suc (a + b) = omega arith in rw e (drop-take a b xs)
 
 -- more events don't change what a version came with
-batch_grown : (start : State) (more es : List Event) (numbers : Numbers) → numbers.now - start.published.number ≤ length (start.pending ++ more) → batch_of start more numbers ≡ batch_of start (more ++ es) numbers
+batch_grown : (start : DeskValue) (more es : List Event) (numbers : Numbers) → numbers.now - start.published.number ≤ length (start.pending ++ more) → batch_of start more numbers ≡ batch_of start (more ++ es) numbers
 batch_grown start more es numbers within = go numbers.before
   where
     same : events_up_to start more numbers.now ≡ events_up_to start (more ++ es) numbers.now
@@ -78,27 +78,27 @@ batch_grown start more es numbers within = go numbers.before
     go None = refl
     go (Some low) = ap (drop (low - start.published.number)) same
 
-module _ (start : State) (more : List Event) (numbers : Numbers) (old : State) (t : Tracks start more numbers old) where
+module _ (start : DeskValue) (more : List Event) (numbers : Numbers) (old : DeskValue) (t : Tracks start more numbers old) where
   -- the events that the published version came with, after more
   batch_after : (es : List Event) → old.published.batch ≡ batch_of start (more ++ es) numbers
   batch_after es = t.batch ∙ batch_grown start more es numbers (let w = t.within in let n = t.number in omega arith)
 
   -- nothing is accepted, and what is published and pending stays
-  stays : (new : State) → new.published ≡ old.published → new.pending ≡ old.pending → IsSteady new → Tracks start (more ++ []) numbers new
+  stays : (new : DeskValue) → new.published ≡ old.published → new.pending ≡ old.pending → IsSteady new → Tracks start (more ++ []) numbers new
   stays new published pending steady =
-      let number : new.published.number ≡ old.published.number = ap (λ (v : Published). v.number) published in
+      let number : new.published.number ≡ old.published.number = ap (λ (v : VersionValue). v.number) published in
       let back : more ++ [] ≡ more = append-nil more in
       record {
         number = number ∙ t.number;
-        batch = ap (λ (v : Published). v.batch) published ∙ batch_after [];
+        batch = ap (λ (v : VersionValue). v.batch) published ∙ batch_after [];
         low = let l = t.low in omega arith;
         within = let w = t.within in rw back (omega arith);
         pending = rw (back, number) (pending ∙ t.pending);
-        network = rw (back, number) (ap (λ (v : Published). v.network) published ∙ t.network);
+        network = rw (back, number) (ap (λ (v : VersionValue). v.network) published ∙ t.network);
         steady = steady;
       }
 
-  unchanged : (new : State) → new ≡ old → Tracks start (more ++ []) numbers new
+  unchanged : (new : DeskValue) → new ≡ old → Tracks start (more ++ []) numbers new
   unchanged new same = subst (λ s. Tracks start (more ++ []) numbers s) (sym same) (stays old refl refl t.steady)
 
   -- one event more
@@ -134,15 +134,15 @@ module _ (start : State) (more : List Event) (numbers : Numbers) (old : State) (
       steady_tasked (Some target) is = is
 
   -- a publication
-  published : (o : Option OpenTarget) → MatchOption o (Unit {0}) (λ t. (old.published.number ≤ t.number) × (t.number ≤ accepted old)) → (version : Published)
+  published : (o : Option OpenTarget) → MatchOption o (Unit {0}) (λ t. (old.published.number ≤ t.number) × (t.number ≤ accepted old)) → (version : VersionValue)
       → MatchOption o ⊥ (λ t. version ≡ next_version old t.number) → Tracks start (more ++ []) (record { now = version.number; before = Some numbers.now }) (with_version old version)
   published None is version next = absurd next
   published (Some target) is version next =
       let back : more ++ [] ≡ more = append-nil more in
       let a : ℕ = old.published.number - start.published.number in
       let b : ℕ = version.number - old.published.number in
-      let number : version.number ≡ target.number = ap (λ (v : Published). v.number) next in
-      let network : version.network ≡ replay old.published.network (take (target.number - old.published.number) old.pending) = ap (λ (v : Published). v.network) next in
+      let number : version.number ≡ target.number = ap (λ (v : VersionValue). v.number) next in
+      let network : version.network ≡ replay old.published.network (take (target.number - old.published.number) old.pending) = ap (λ (v : VersionValue). v.network) next in
       let same : target.number - old.published.number ≡ b = ap (λ n. n - old.published.number) (sym number) in
       let low = t.low in let first = is.0 in let second = is.1 in
       let sum : a + b ≡ version.number - start.published.number = omega arith in
@@ -153,7 +153,7 @@ module _ (start : State) (more : List Event) (numbers : Numbers) (old : State) (
       record {
         number = refl;
         batch =
-            ap (λ (v : Published). v.batch) next ∙ ap (λ n. take n old.pending) same ∙ ap (take b) t.pending ∙ drop-take a b (start.pending ++ more)
+            ap (λ (v : VersionValue). v.batch) next ∙ ap (λ n. take n old.pending) same ∙ ap (take b) t.pending ∙ drop-take a b (start.pending ++ more)
             ∙ ap (λ n. drop a (take n (start.pending ++ more))) sum
             ∙ ap (λ es. drop a (take (version.number - start.published.number) es)) (sym tail)
             ∙ ap (λ n. drop (n - start.published.number) (take (version.number - start.published.number) (start.pending ++ (more ++ [])))) t.number;
@@ -171,7 +171,7 @@ module _ (start : State) (more : List Event) (numbers : Numbers) (old : State) (
 
   -- ---- the steps
 
-  posted : (collector seq : ℕ) (event : Event) (result : Result Posted Refusal) (new : State) (o : Option Refusal)
+  posted : (collector seq : ℕ) (event : Event) (result : Result Posted Refusal) (new : DeskValue) (o : Option Refusal)
       → IsReply o (λ reply after. (reply ≡ Taken (accepted old + 1)) × (after ≡ with_post old collector seq event)) old result new
       → Tracks start (more ++ event_taken event (reply.Post result)) numbers new
   posted collector seq event result new (Some refusal) is = subst (λ r. Tracks start (more ++ event_taken event (reply.Post r)) numbers new) (sym is.0) (unchanged new is.1)
@@ -179,56 +179,56 @@ module _ (start : State) (more : List Event) (numbers : Numbers) (old : State) (
       subst (λ q. Tracks start (more ++ event_taken event (reply.Post (Ok q))) numbers new) (sym is.0) (subst (λ n. Tracks start (more ++ event ∷ []) numbers n) (sym is.1) (grown collector seq event))
   posted collector seq event (Err e) new None is = unchanged new is.1
 
-  again : (event : Event) (last : Last) (result : Result Posted Refusal) (new : State) (same : Bool) → result ≡ repeated last same → new ≡ old → Tracks start (more ++ event_taken event (reply.Post result)) numbers new
+  again : (event : Event) (last : Last) (result : Result Posted Refusal) (new : DeskValue) (same : Bool) → result ≡ repeated last same → new ≡ old → Tracks start (more ++ event_taken event (reply.Post result)) numbers new
   again event last result new true is left = subst (λ r. Tracks start (more ++ event_taken event (reply.Post r)) numbers new) (sym is) (unchanged new left)
   again event last result new false is left = subst (λ r. Tracks start (more ++ event_taken event (reply.Post r)) numbers new) (sym is) (unchanged new left)
 
-  post_step : (collector seq : ℕ) (event : Event) (result : Result Posted Refusal) (new : State) (b : Bool) → IsPost b old collector seq event result new → Tracks start (more ++ event_taken event (reply.Post result)) numbers new
+  post_step : (collector seq : ℕ) (event : Event) (result : Result Posted Refusal) (new : DeskValue) (b : Bool) → IsPost b old collector seq event result new → Tracks start (more ++ event_taken event (reply.Post result)) numbers new
   post_step collector seq event result new true is = again event (last_of old collector) result new is.0 is.2 is.3
   post_step collector seq event result new false is = posted collector seq event result new (post_refusal old collector seq event) is
 
   -- a step that accepts nothing
-  settled : {T : Type 0} (o : Option Refusal) (Changes : T → State → Type 0) (result : Result T Refusal) (new : State) → IsReply o Changes old result new
+  settled : {T : Type 0} (o : Option Refusal) (Changes : T → DeskValue → Type 0) (result : Result T Refusal) (new : DeskValue) → IsReply o Changes old result new
       → ((r : T) → Changes r new → Tracks start (more ++ []) numbers new) → Tracks start (more ++ []) numbers new
   settled (Some refusal) Changes result new is change = unchanged new is.1
   settled None Changes (Ok r) new is change = change r is
   settled None Changes (Err e) new is change = unchanged new is.1
 
-  open_step : (result : Result Opened Refusal) (new : State) → Opens old result new → Tracks start (more ++ []) numbers new
+  open_step : (result : Result Opened Refusal) (new : DeskValue) → Opens old result new → Tracks start (more ++ []) numbers new
   open_step result new is =
       settled (open_refusal old) _ result new is
       (λ r changed. subst (λ s. Tracks start (more ++ []) numbers s) (sym changed.1) (stays (with_target old) refl refl (let l = t.low in (omega arith, omega arith))))
 
-  take_step : (result : Result Work Refusal) (new : State) → Takes old result new → Tracks start (more ++ []) numbers new
+  take_step : (result : Result Work Refusal) (new : DeskValue) → Takes old result new → Tracks start (more ++ []) numbers new
   take_step result new = go (first_of old)
     where
       go : (o : Option ℕ) → MatchOption o ((result ≡ Err Refusal.Nothing) × (new ≡ old)) (λ x. IsReply None (λ job after. IsJobOf old x job × (after ≡ with_tasks old taken)) old result new) → Tracks start (more ++ []) numbers new
       go None is = unchanged new is.1
       go (Some x) is = settled None (λ job after. IsJobOf old x job × (after ≡ with_tasks old taken)) result new is (λ r changed. subst (λ s. Tracks start (more ++ []) numbers s) (sym changed.1) (tasked taken))
 
-  give_step : (work : Work) (result : Result (Unit {0}) (Work × Refusal)) (new : State) → Gives old work result new → Tracks start (more ++ []) numbers new
-  give_step work result new = go (out_refusal old work.version work.extract.plan.dest)
+  give_step : (work : Work) (result : Result (Unit {0}) (Work × Refusal)) (new : DeskValue) → Gives old work result new → Tracks start (more ++ []) numbers new
+  give_step work result new = go (out_refusal old work.version work.excerpt.plan.dest)
     where
       given : (same : Bool) → IsGiven same old work result new → Tracks start (more ++ []) numbers new
-      given true is = subst (λ s. Tracks start (more ++ []) numbers s) (sym is.1) (tasked (without_task work.extract.plan.dest))
+      given true is = subst (λ s. Tracks start (more ++ []) numbers s) (sym is.1) (tasked (without_task work.excerpt.plan.dest))
       given false is = unchanged new is.1
 
       go : (o : Option Refusal) → IsGiveReply o old work result new → Tracks start (more ++ []) numbers new
       go (Some refusal) is = unchanged new is.1
       go None is = given is.0 is.2
 
-  abandon_step : (version dest : ℕ) (result : Result (Unit {0}) Refusal) (new : State) → Abandons old version dest result new → Tracks start (more ++ []) numbers new
+  abandon_step : (version dest : ℕ) (result : Result (Unit {0}) Refusal) (new : DeskValue) → Abandons old version dest result new → Tracks start (more ++ []) numbers new
   abandon_step version dest result new = go (out_refusal old version dest)
     where
       go : (o : Option Refusal) → IsAbandonReply o old dest result new → Tracks start (more ++ []) numbers new
       go (Some refusal) is = unchanged new is.1
       go None is = subst (λ s. Tracks start (more ++ []) numbers s) (sym is.1) (tasked (put_last dest))
 
-  publish_step : (result : Result ℕ Refusal) (new : State) → Publishes old result new → Tracks start (more ++ []) (numbers_by numbers (reply.Publish result)) new
+  publish_step : (result : Result ℕ Refusal) (new : DeskValue) → Publishes old result new → Tracks start (more ++ []) (numbers_by numbers (reply.Publish result)) new
   publish_step result new = go (publish_refusal old) result
     where
-      Changes : ℕ → State → Type 0
-      Changes number after = (version : Published) × IsNext old version × (number ≡ version.number) × (after ≡ with_version old version)
+      Changes : ℕ → DeskValue → Type 0
+      Changes number after = (version : VersionValue) × IsNext old version × (number ≡ version.number) × (after ≡ with_version old version)
 
       go : (o : Option Refusal) (result : Result ℕ Refusal) → IsReply o Changes old result new → Tracks start (more ++ []) (numbers_by numbers (reply.Publish result)) new
       go (Some refusal) result is = subst (λ r. Tracks start (more ++ []) (numbers_by numbers (reply.Publish r)) new) (sym is.0) (unchanged new is.1)
@@ -237,7 +237,7 @@ module _ (start : State) (more : List Event) (numbers : Numbers) (old : State) (
           (subst (λ s. Tracks start (more ++ []) (record { now = is.0.number; before = Some numbers.now }) s) (sym is.3) (published old.target t.steady is.0 is.1))
       go None (Err e) is = unchanged new is.1
 
-  track_step : (one : Step) (answer : Reply) (new : State) → Steps old one answer new → Tracks start (more ++ accepted_by one answer) (numbers_by numbers answer) new
+  track_step : (one : Step) (answer : Reply) (new : DeskValue) → Steps old one answer new → Tracks start (more ++ accepted_by one answer) (numbers_by numbers answer) new
   track_step (step.Post collector seq event) answer new is =
       subst (λ a. Tracks start (more ++ event_taken event a) (numbers_by numbers a) new) (sym is.1) (post_step collector seq event is.0 new (is_last old collector seq) is.2)
   track_step step.Open answer new is = subst (λ a. Tracks start (more ++ []) (numbers_by numbers a) new) (sym is.1) (open_step is.0 new is.2)
@@ -248,7 +248,7 @@ module _ (start : State) (more : List Event) (numbers : Numbers) (old : State) (
 
 -- ---- runs
 
-track_run : (start : State) (steps : List Step) (replies : List Reply) (more : List Event) (numbers : Numbers) (old new : State) → Tracks start more numbers old → Runs old steps replies new
+track_run : (start : DeskValue) (steps : List Step) (replies : List Reply) (more : List Event) (numbers : Numbers) (old new : DeskValue) → Tracks start more numbers old → Runs old steps replies new
     → Tracks start (more ++ accepted_in steps replies) (numbers_after numbers replies) new
 track_run start [] [] more numbers old new t run = unchanged start more numbers old t new run
 track_run start [] (r ∷ rs) more numbers old new t run = absurd run
@@ -257,7 +257,7 @@ track_run start (s ∷ ss) (r ∷ rs) more numbers old new t run =
     subst (λ es. Tracks start es (numbers_after (numbers_by numbers r) rs) new) (append_assoc more (accepted_by s r) (accepted_in ss rs))
     (track_run start ss rs (more ++ accepted_by s r) (numbers_by numbers r) run.0 new (track_step start more numbers old t s r run.0 run.1) run.2)
 
-begins : (start : State) → IsSteady start → Tracks start [] (first_numbers start) start
+begins : (start : DeskValue) → IsSteady start → Tracks start [] (first_numbers start) start
 begins start steady =
     let none : start.published.number - start.published.number ≡ 0 = omega arith in
     record {
@@ -271,7 +271,7 @@ begins start steady =
     }
 
 -- what is tracked is right
-right_version : (start : State) (more : List Event) (numbers : Numbers) (s : State) → Tracks start more numbers s → IsRightVersion start more numbers s.published
+right_version : (start : DeskValue) (more : List Event) (numbers : Numbers) (s : DeskValue) → Tracks start more numbers s → IsRightVersion start more numbers s.published
 right_version start more numbers s t =
     let network : s.published.network ≡ network_at start more numbers.now = t.network ∙ ap (λ n. network_at start more n) t.number in
     record {
@@ -282,7 +282,7 @@ right_version start more numbers s t =
       traces = λ y x k. ap (λ net. trace_at net y x k) network;
     }
   where
-    table_is : (v : Published) (x : ℕ) → table_told v x ≡ table_at v.network x
+    table_is : (v : VersionValue) (x : ℕ) → table_told v x ≡ table_at v.network x
     table_is v x = go (plan_at v.network.plans x)
       where
         go : (o : Option Plan) → option_map (λ e. scratch (source_of e)) (option_map (excerpt_in v.network) o) ≡ option_map (λ plan. scratch (network_source v.network plan)) o
@@ -290,13 +290,13 @@ right_version start more numbers s t =
         go (Some plan) = refl
 
 -- at every point of a run the published version is the one of its number
-pub right_throughout : (start : State) → IsSteady start → (steps : List Step) (replies : List Reply) → IsRightThroughout start steps replies
+pub right_throughout : (start : DeskValue) → IsSteady start → (steps : List Step) (replies : List Reply) → IsRightThroughout start steps replies
 right_throughout start steady steps replies = λ k mid run.
     right_version start (accepted_in (take k steps) (take k replies)) (numbers_after (first_numbers start) (take k replies)) mid
     (track_run start (take k steps) (take k replies) [] (first_numbers start) start mid (begins start steady) run)
 
 -- a run goes on by one step
-pub runs-push : (old mid new : State) (steps : List Step) (replies : List Reply) (one : Step) (answer : Reply) → Runs old steps replies mid → Steps mid one answer new → Runs old (steps ++ one ∷ []) (replies ++ answer ∷ []) new
+pub runs-push : (old mid new : DeskValue) (steps : List Step) (replies : List Reply) (one : Step) (answer : Reply) → Runs old steps replies mid → Steps mid one answer new → Runs old (steps ++ one ∷ []) (replies ++ answer ∷ []) new
 runs-push old mid new [] [] one answer run last = (new, subst (λ s. Steps s one answer new) run last, refl)
 runs-push old mid new (s ∷ ss) (r ∷ rs) one answer run last = (run.0, run.1, runs-push run.0 mid new ss rs one answer run.2 last)
 runs-push old mid new [] (r ∷ rs) one answer run last = absurd run

@@ -8,17 +8,17 @@ use Rattle.net_items.specs.declared.items.Plan.{Plan}
 use Rattle.net_items.specs.Keyed.{IsRising, IsFoundAt, IsGapAt, at_key, edit}
 use Rattle.net_items.specs.Lookups.{plan_at}
 use Rattle.net_data.specs.Network.{Network}
-use Rattle.profile.proofs.Certificate.{find-map}
-use Rattle.excerpts.specs.Excerpts.{Content, Extract, content_at, content_in, content_of, excerpt_at, excerpt_in}
+use Rattle.profile.proofs.CertificateLemmas.{find-map}
+use Rattle.excerpts.specs.Excerpts.{Content, ExcerptValue, content_at, content_in, content_of, excerpt_at, excerpt_in}
 use Rattle.excerpts.specs.declared.faults.ExcerptFault.{ExcerptFault}
 use Rattle.excerpts.specs.declared.faults.ExcerptFault.TheVariants.{NoPlan, OutOfMemory}
-use Rattle.transfer_state.specs.Routing.{Seat}
+use Rattle.transfer_state.specs.Routing.{RoutingSlotValue}
 use Rattle.work_units.specs.Work.{IsJob, Work}
 use Rattle.dirty_sets.specs.Touch.{is_planned}
 use Rattle.dirty_sets.specs.Waiting.{Task, waiting_task, out, is_out, first_waiting, taken, put_last, without_task}
 use Rattle.net_versions.specs.Versions.{excerpts}
-use Rattle.net_versions.proofs.Planned.{excerpts_rise, excerpt_found}
-use Rattle.desk_core.specs.Targets.{OpenNet, is_task, IsFilled, AreFilled}
+use Rattle.net_versions.proofs.PlannedLemmas.{excerpts_rise, excerpt_found}
+use Rattle.desk_core.specs.Targets.{TargetValue, is_task, IsFilled, AreFilled}
 
 -- ---- tasks
 
@@ -119,29 +119,29 @@ is_task-put_last x tasks y is = go (eqb y x) refl
 -- ---- places
 
 -- a place stays filled where tasks stay
-still_filled : (tasks tasks' : List Task) → ((y : ℕ) → is_task tasks y ≡ true → is_task tasks' y ≡ true) → (seat : Seat) → IsFilled tasks seat → IsFilled tasks' seat
-still_filled tasks tasks' stay seat filled = go seat.settled refl
+still_filled : (tasks tasks' : List Task) → ((y : ℕ) → is_task tasks y ≡ true → is_task tasks' y ≡ true) → (slot : RoutingSlotValue) → IsFilled tasks slot → IsFilled tasks' slot
+still_filled tasks tasks' stay slot filled = go slot.settled refl
   where
-    go : (b : Bool) → seat.settled ≡ b → IsFilled tasks' seat
+    go : (b : Bool) → slot.settled ≡ b → IsFilled tasks' slot
     go true e = rw e refl
-    go false e = rw e (stay seat.extract.plan.dest (rw e at filled))
+    go false e = rw e (stay slot.excerpt.plan.dest (rw e at filled))
 
-All-filled : (tasks tasks' : List Task) → ((y : ℕ) → is_task tasks y ≡ true → is_task tasks' y ≡ true) → (seats : List Seat) → AllByRecursion (IsFilled tasks) seats → AllByRecursion (IsFilled tasks') seats
+All-filled : (tasks tasks' : List Task) → ((y : ℕ) → is_task tasks y ≡ true → is_task tasks' y ≡ true) → (slots : List RoutingSlotValue) → AllByRecursion (IsFilled tasks) slots → AllByRecursion (IsFilled tasks') slots
 All-filled tasks tasks' stay [] all = tt
 All-filled tasks tasks' stay (s ∷ ss) all = (still_filled tasks tasks' stay s all.0, All-filled tasks tasks' stay ss all.1)
 
-module _ (net : Network) (tasks : List Task) (seats : List Seat) (are : AreFilled net tasks seats) where
-  pub filled-taken : AreFilled net (taken tasks) seats
+module _ (net : Network) (tasks : List Task) (slots : List RoutingSlotValue) (are : AreFilled net tasks slots) where
+  pub filled-taken : AreFilled net (taken tasks) slots
   filled-taken = record {
     all = are.all;
-    filled = All-filled tasks (taken tasks) (λ y is. is_task-taken tasks y ∙ is) seats are.filled;
+    filled = All-filled tasks (taken tasks) (λ y is. is_task-taken tasks y ∙ is) slots are.filled;
     planned = All-taken (λ x. is_planned net x ≡ true) tasks are.planned;
   }
 
-  pub filled-put_last : (x : ℕ) → is_out tasks x ≡ true → AreFilled net (put_last x tasks) seats
+  pub filled-put_last : (x : ℕ) → is_out tasks x ≡ true → AreFilled net (put_last x tasks) slots
   filled-put_last x is = record {
     all = are.all;
-    filled = All-filled tasks (put_last x tasks) (is_task-put_last x tasks) seats are.filled;
+    filled = All-filled tasks (put_last x tasks) (is_task-put_last x tasks) slots are.filled;
     planned = All-append (λ (t : Task). is_planned net t.dest ≡ true) (without_task x tasks) (waiting_task x ∷ []) (All-without (λ (t : Task). is_planned net t.dest ≡ true) x tasks are.planned)
         (task_has (λ y. is_planned net y ≡ true) tasks x are.planned (out_is_task tasks x is), tt);
   }
@@ -150,7 +150,7 @@ module _ (net : Network) (tasks : List Task) (seats : List Seat) (are : AreFille
   pub first_planned : (x : ℕ) → first_waiting tasks ≡ Some x → is_planned net x ≡ true
   first_planned x first = task_has (λ y. is_planned net y ≡ true) tasks x are.planned (first_is_task tasks x first)
 
--- no job is refused for want of a plan where the destination is planned
+-- no job is refused for want of a plan if the destination is planned
 pub planned_job : (net : Network) (x version : ℕ) → is_planned net x ≡ true → IsJob version (excerpt_at net x) (Err NoPlan) → ⊥
 planned_job net x version planned answer = go (plan_at net.plans x) refl
   where
@@ -158,8 +158,8 @@ planned_job net x version planned answer = go (plan_at net.plans x) refl
     go None e = let none : false ≡ true = subst (λ (q : Option Plan). is_some q ≡ true) e planned in absurd (cc)
     go (Some plan) e = let wrong : NoPlan ≡ OutOfMemory = subst (λ (q : Option Plan). IsJob version (option_map (excerpt_in net) q) (Err NoPlan)) e answer in absurd (cc)
 
--- where nothing is waited for all have come
-pub all_settled : (seats : List Seat) → AllByRecursion (IsFilled []) seats → AllByRecursion (λ (s : Seat). s.settled ≡ true) seats
+-- if nothing is waited for all have come
+pub all_settled : (slots : List RoutingSlotValue) → AllByRecursion (IsFilled []) slots → AllByRecursion (λ (s : RoutingSlotValue). s.settled ≡ true) slots
 all_settled [] all = tt
 all_settled (s ∷ ss) all = (go s.settled refl, all_settled ss all.1)
   where
@@ -177,52 +177,52 @@ IsRising-unmap : {X Y : Type 0} (key : Y → ℕ) (f : X → Y) (xs : List X) �
 IsRising-unmap key f [] rising = tt
 IsRising-unmap key f (x ∷ xs) rising = (All-unmap (λ y. key (f x) < key y) f xs rising.0, IsRising-unmap key f xs rising.1)
 
-abbrev dest_of : Seat → ℕ
-dest_of s = s.extract.plan.dest
+abbrev dest_of : RoutingSlotValue → ℕ
+dest_of s = s.excerpt.plan.dest
 
-module _ (net : Network) (tasks : List Task) (seats : List Seat) (are : AreFilled net tasks seats) (rising : IsRising (λ (p : Plan). p.dest) net.plans) where
-  pub seats_rise : IsRising dest_of seats
-  seats_rise = IsRising-unmap (λ (x : Extract). x.plan.dest) (λ (s : Seat). s.extract) seats (subst (IsRising (λ (x : Extract). x.plan.dest)) (sym are.all) (excerpts_rise net rising))
+module _ (net : Network) (tasks : List Task) (slots : List RoutingSlotValue) (are : AreFilled net tasks slots) (rising : IsRising (λ (p : Plan). p.dest) net.plans) where
+  pub slots_rise : IsRising dest_of slots
+  slots_rise = IsRising-unmap (λ (x : ExcerptValue). x.plan.dest) (λ (s : RoutingSlotValue). s.excerpt) slots (subst (IsRising (λ (x : ExcerptValue). x.plan.dest)) (sym are.all) (excerpts_rise net rising))
 
   -- the extract of the place of a destination
-  seat_extract : (x : ℕ) → option_map (λ (s : Seat). s.extract) (at_key dest_of x seats) ≡ excerpt_at net x
-  seat_extract x =
-      sym (find-map (λ (e : Extract). eqb e.plan.dest x) (λ (s : Seat). eqb s.extract.plan.dest x) (λ (s : Seat). s.extract) (λ s. refl) seats)
-      ∙ ap (at_key (λ (e : Extract). e.plan.dest) x) are.all ∙ excerpt_found net x
+  slot_excerpt : (x : ℕ) → option_map (λ (s : RoutingSlotValue). s.excerpt) (at_key dest_of x slots) ≡ excerpt_at net x
+  slot_excerpt x =
+      sym (find-map (λ (e : ExcerptValue). eqb e.plan.dest x) (λ (s : RoutingSlotValue). eqb s.excerpt.plan.dest x) (λ (s : RoutingSlotValue). s.excerpt) (λ s. refl) slots)
+      ∙ ap (at_key (λ (e : ExcerptValue). e.plan.dest) x) are.all ∙ excerpt_found net x
 
   content_of_excerpt : (o : Option Plan) → option_map content_of (option_map (excerpt_in net) o) ≡ option_map (content_in net) o
   content_of_excerpt None = refl
   content_of_excerpt (Some p) = refl
 
-  seat_content : (x : ℕ) → option_map (λ (s : Seat). content_of s.extract) (at_key dest_of x seats) ≡ content_at net x
-  seat_content x = go (at_key dest_of x seats) ∙ ap (option_map content_of) (seat_extract x) ∙ content_of_excerpt (plan_at net.plans x)
+  slot_content : (x : ℕ) → option_map (λ (s : RoutingSlotValue). content_of s.excerpt) (at_key dest_of x slots) ≡ content_at net x
+  slot_content x = go (at_key dest_of x slots) ∙ ap (option_map content_of) (slot_excerpt x) ∙ content_of_excerpt (plan_at net.plans x)
     where
-      go : (o : Option Seat) → option_map (λ (s : Seat). content_of s.extract) o ≡ option_map content_of (option_map (λ (s : Seat). s.extract) o)
+      go : (o : Option RoutingSlotValue) → option_map (λ (s : RoutingSlotValue). content_of s.excerpt) o ≡ option_map content_of (option_map (λ (s : RoutingSlotValue). s.excerpt) o)
       go None = refl
       go (Some s) = refl
 
   -- the place that is found reads what the destination's table reads
-  pub found_content : (x : ℕ) (i : ℕ) (seat : Seat) (content : Content) → IsFoundAt dest_of x seats i → seat ≡ get_or seats i seat → content_at net x ≡ Some content → content ≡ content_of seat.extract
-  found_content x i seat content found is at =
-      let there : at_key dest_of x seats ≡ Some seat = found.finds seat ∙ ap Some (sym is) in
-      let both : Some (content_of seat.extract) ≡ Some content = sym (ap (option_map (λ (s : Seat). content_of s.extract)) there) ∙ seat_content x ∙ at in
+  pub found_content : (x : ℕ) (i : ℕ) (slot : RoutingSlotValue) (content : Content) → IsFoundAt dest_of x slots i → slot ≡ get_or slots i slot → content_at net x ≡ Some content → content ≡ content_of slot.excerpt
+  found_content x i slot content found is at =
+      let there : at_key dest_of x slots ≡ Some slot = found.finds slot ∙ ap Some (sym is) in
+      let both : Some (content_of slot.excerpt) ≡ Some content = sym (ap (option_map (λ (s : RoutingSlotValue). content_of s.excerpt)) there) ∙ slot_content x ∙ at in
       cc
 
-  pub nowhere_content : (x : ℕ) (i : ℕ) (content : Content) → IsGapAt dest_of x seats i → content_at net x ≡ Some content → ⊥
+  pub nowhere_content : (x : ℕ) (i : ℕ) (content : Content) → IsGapAt dest_of x slots i → content_at net x ≡ Some content → ⊥
   nowhere_content x i content gap at =
-      let both : None ≡ Some content = sym (ap (option_map (λ (s : Seat). content_of s.extract)) gap.absent) ∙ seat_content x ∙ at in
+      let both : None ≡ Some content = sym (ap (option_map (λ (s : RoutingSlotValue). content_of s.excerpt)) gap.absent) ∙ slot_content x ∙ at in
       absurd (cc)
 
-  map_edit : (x : ℕ) (f : Seat → Seat) → ((s : Seat) → (f s).extract ≡ s.extract) → (ss : List Seat) → map (λ (s : Seat). s.extract) (edit dest_of x f ss) ≡ map (λ (s : Seat). s.extract) ss
+  map_edit : (x : ℕ) (f : RoutingSlotValue → RoutingSlotValue) → ((s : RoutingSlotValue) → (f s).excerpt ≡ s.excerpt) → (ss : List RoutingSlotValue) → map (λ (s : RoutingSlotValue). s.excerpt) (edit dest_of x f ss) ≡ map (λ (s : RoutingSlotValue). s.excerpt) ss
   map_edit x f same [] = refl
   map_edit x f same (s ∷ ss) = go (eqb (dest_of s) x) refl (map_edit x f same ss)
     where
-      go : (b : Bool) → eqb (dest_of s) x ≡ b → map (λ (s : Seat). s.extract) (edit dest_of x f ss) ≡ map (λ (s : Seat). s.extract) ss
-          → map (λ (s : Seat). s.extract) (edit dest_of x f (s ∷ ss)) ≡ map (λ (s : Seat). s.extract) (s ∷ ss)
-      go true e rec = rw e (ap (λ y. y ∷ map (λ (s : Seat). s.extract) ss) (same s))
-      go false e rec = rw e (ap (λ ys. s.extract ∷ ys) rec)
+      go : (b : Bool) → eqb (dest_of s) x ≡ b → map (λ (s : RoutingSlotValue). s.excerpt) (edit dest_of x f ss) ≡ map (λ (s : RoutingSlotValue). s.excerpt) ss
+          → map (λ (s : RoutingSlotValue). s.excerpt) (edit dest_of x f (s ∷ ss)) ≡ map (λ (s : RoutingSlotValue). s.excerpt) (s ∷ ss)
+      go true e rec = rw e (ap (λ y. y ∷ map (λ (s : RoutingSlotValue). s.excerpt) ss) (same s))
+      go false e rec = rw e (ap (λ ys. s.excerpt ∷ ys) rec)
 
-  filled_others : (x : ℕ) (ss : List Seat) → AllByRecursion (λ (s : Seat). x < dest_of s) ss → AllByRecursion (IsFilled tasks) ss → AllByRecursion (IsFilled (without_task x tasks)) ss
+  filled_others : (x : ℕ) (ss : List RoutingSlotValue) → AllByRecursion (λ (s : RoutingSlotValue). x < dest_of s) ss → AllByRecursion (IsFilled tasks) ss → AllByRecursion (IsFilled (without_task x tasks)) ss
   filled_others x [] above all = tt
   filled_others x (s ∷ ss) above all = (go s.settled refl, filled_others x ss above.1 all.1)
     where
@@ -230,12 +230,12 @@ module _ (net : Network) (tasks : List Task) (seats : List Seat) (are : AreFille
       go true e = rw e refl
       go false e = rw e (is_task-without x tasks (dest_of s) (λ same. let higher : x < dest_of s = above.0 in omega (arith, higher, same)) ∙ rw e at all.0)
 
-  filled_edit : (x : ℕ) (ss : List Seat) → IsRising dest_of ss → AllByRecursion (IsFilled tasks) ss → AllByRecursion (IsFilled (without_task x tasks)) (edit dest_of x (λ s. record s { settled = true }) ss)
+  filled_edit : (x : ℕ) (ss : List RoutingSlotValue) → IsRising dest_of ss → AllByRecursion (IsFilled tasks) ss → AllByRecursion (IsFilled (without_task x tasks)) (edit dest_of x (λ s. record s { settled = true }) ss)
   filled_edit x [] up all = tt
   filled_edit x (s ∷ ss) up all = go (eqb (dest_of s) x) refl (filled_edit x ss up.1 all.1)
     where
       go : (b : Bool) → eqb (dest_of s) x ≡ b → AllByRecursion (IsFilled (without_task x tasks)) (edit dest_of x (λ s. record s { settled = true }) ss) → AllByRecursion (IsFilled (without_task x tasks)) (edit dest_of x (λ s. record s { settled = true }) (s ∷ ss))
-      go true e rec = rw e (refl, filled_others x ss (subst (λ y. AllByRecursion (λ (s : Seat). y < dest_of s) ss) (eqb-true (dest_of s) x e) up.0) all.1)
+      go true e rec = rw e (refl, filled_others x ss (subst (λ y. AllByRecursion (λ (s : RoutingSlotValue). y < dest_of s) ss) (eqb-true (dest_of s) x e) up.0) all.1)
       go false e rec = rw e (kept s.settled refl, rec)
         where
           kept : (b : Bool) → s.settled ≡ b → IsFilled (without_task x tasks) s
@@ -243,12 +243,12 @@ module _ (net : Network) (tasks : List Task) (seats : List Seat) (are : AreFille
           kept false t = rw t (is_task-without x tasks (dest_of s) (eqb-false (dest_of s) x e) ∙ rw t at all.0)
 
   -- a routing that has come to its place, whose destination is done
-  pub filled-done : (x i : ℕ) (seat : Seat) → IsFoundAt dest_of x seats i → seat ≡ get_or seats i seat → AreFilled net (without_task x tasks) (slice_set seats i (record seat { settled = true }))
-  filled-done x i seat found is =
-      let put : slice_set seats i (record seat { settled = true }) ≡ edit dest_of x (λ s. record s { settled = true }) seats
-      = ap (λ (s : Seat). slice_set seats i (record s { settled = true })) is ∙ found.edits (λ s. record s { settled = true }) seat in
+  pub filled-done : (x i : ℕ) (slot : RoutingSlotValue) → IsFoundAt dest_of x slots i → slot ≡ get_or slots i slot → AreFilled net (without_task x tasks) (slice_set slots i (record slot { settled = true }))
+  filled-done x i slot found is =
+      let put : slice_set slots i (record slot { settled = true }) ≡ edit dest_of x (λ s. record s { settled = true }) slots
+      = ap (λ (s : RoutingSlotValue). slice_set slots i (record s { settled = true })) is ∙ found.edits (λ s. record s { settled = true }) slot in
       subst (AreFilled net (without_task x tasks)) (sym put) (record {
-        all = map_edit x (λ s. record s { settled = true }) (λ s. refl) seats ∙ are.all;
-        filled = filled_edit x seats seats_rise are.filled;
+        all = map_edit x (λ s. record s { settled = true }) (λ s. refl) slots ∙ are.all;
+        filled = filled_edit x slots slots_rise are.filled;
         planned = All-without (λ (t : Task). is_planned net t.dest ≡ true) x tasks are.planned;
       })

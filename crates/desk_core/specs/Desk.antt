@@ -6,7 +6,7 @@ use Rattle.net_data.specs.Network.{Network}
 use Rattle.net_data.specs.Edits.{changed}
 use Rattle.dirty_sets.specs.Touch.{touches}
 use Rattle.dirty_sets.specs.Waiting.{Task}
-use Rattle.net_versions.specs.Versions.{Published}
+use Rattle.net_versions.specs.Versions.{VersionValue}
 use Rattle.desk_core.specs.declared.replies.Last.{Last}
 
 -- an open target: the number of the next version, and the destinations that wait for a result or are out
@@ -15,8 +15,8 @@ pub record OpenTarget : Type 0 where
   pub tasks : List Task
 
 -- the published version, the accepted events after it, each collector's last accepted post, the open target, and how many more posts take no memory
-pub record State : Type 0 where
-  pub published : Published
+pub record DeskValue : Type 0 where
+  pub published : VersionValue
   pub pending : List Event
   pub lasts : List Last
   pub target : Option OpenTarget
@@ -28,19 +28,19 @@ replay net [] = net
 replay net (e ∷ es) = replay (changed net e) es
 
 -- the number of accepted events
-abbrev pub accepted : State → ℕ
+abbrev pub accepted : DeskValue → ℕ
 accepted s = s.published.number + length s.pending
 
 -- the accepted events after the published version up to a number
-abbrev pub events_to : State → ℕ → List Event
+abbrev pub events_to : DeskValue → ℕ → List Event
 events_to s number = take (number - s.published.number) s.pending
 
 -- the network after the accepted events up to a number
-abbrev pub net_at : State → ℕ → Network
+abbrev pub net_at : DeskValue → ℕ → Network
 net_at s number = replay s.published.network (events_to s number)
 
 -- the network after all accepted events
-abbrev pub net_now : State → Network
+abbrev pub net_now : DeskValue → Network
 net_now s = replay s.published.network s.pending
 
 -- one of the events touches the destination
@@ -49,11 +49,11 @@ touched_by net [] x = false
 touched_by net (e ∷ es) x = touches net e x || touched_by (changed net e) es x
 
 -- the planned destinations of the network now that an event since the published version touches, in rising code
-abbrev pub to_settle : State → List ℕ
+abbrev pub to_settle : DeskValue → List ℕ
 to_settle s = filter (touched_by s.published.network s.pending) (map (λ (p : Plan). p.dest) (net_now s).plans)
 
 -- the version that an open target becomes
-abbrev pub next_version : State → ℕ → Published
+abbrev pub next_version : DeskValue → ℕ → VersionValue
 next_version s number = record { number = number; batch = events_to s number; network = net_at s number }
 
 -- nobody's post
@@ -61,7 +61,7 @@ abbrev pub no_post : Last
 no_post = record { seq = 0; number = 0; event = None }
 
 -- a desk over a network: version 0, with nothing accepted
-pub record IsStart (net : Network) (s : State) : Type 0 where
+pub record IsStart (net : Network) (s : DeskValue) : Type 0 where
   pub published : s.published ≡ record { number = 0; batch = []; network = net }
   pub pending : s.pending ≡ []
   pub lasts : s.lasts ≡ replicate 256 no_post

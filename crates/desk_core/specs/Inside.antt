@@ -7,8 +7,8 @@ use Rattle.net_data.specs.Network.{Network}
 use Rattle.excerpts.specs.Excerpts.{content_at}
 use Rattle.dirty_sets.specs.Touch.{IsIndex}
 use Rattle.dirty_sets.specs.Marks.{Marked}
-use Rattle.desk_core.specs.Desk.{State, accepted, net_at, net_now, touched_by}
-use Rattle.desk_core.specs.Targets.{OpenNet}
+use Rattle.desk_core.specs.Desk.{DeskValue, accepted, net_at, net_now, touched_by}
+use Rattle.desk_core.specs.Targets.{TargetValue}
 
 -- a change of a link's marks
 abbrev pub is_link : Event → Bool
@@ -32,30 +32,30 @@ pub record IsSameMarked (old new : Marked) : Type 0 where
   pub touched : new.touched ≡ old.touched
 
 -- the network of the open target, else of the published version
-abbrev pub fixed : State → Option OpenNet → Network
-fixed s opened = option_map_or (λ (t : OpenNet). t.network) opened s.published.network
+abbrev pub fixed : DeskValue → Option TargetValue → Network
+fixed s opened = option_map_or (λ (t : TargetValue). t.network) opened s.published.network
 
 -- the accepted events that the open target has, else none
-abbrev pub count : State → Option OpenNet → ℕ
-count s opened = option_map_or (λ (t : OpenNet). t.number - s.published.number) opened 0
+abbrev pub count : DeskValue → Option TargetValue → ℕ
+count s opened = option_map_or (λ (t : TargetValue). t.number - s.published.number) opened 0
 
 -- the accepted events after that network
-abbrev pub since : State → Option OpenNet → List Event
+abbrev pub since : DeskValue → Option TargetValue → List Event
 since s opened = drop (count s opened) s.pending
 
 -- an open target has the accepted events up to its number
-pub record IsAhead (s : State) (t : OpenNet) : Type 0 where
+pub record IsAhead (s : DeskValue) (t : TargetValue) : Type 0 where
   pub after : s.published.number ≤ t.number
   pub within : t.number ≤ accepted s
   pub network : t.network ≡ net_at s t.number
 
 -- an open target, if there is one, is ahead
-abbrev pub IsOpened : State → Option OpenNet → Type 0
+abbrev pub IsOpened : DeskValue → Option TargetValue → Type 0
 IsOpened s None = Unit {0}
 IsOpened s (Some t) = IsAhead s t
 
 -- the network now, what events touched since the network that is fixed, and the limits
-pub record IsInside (s : State) (latest : Network) (marked : Marked) (opened : Option OpenNet) : Type 0 where
+pub record IsInside (s : DeskValue) (latest : Network) (marked : Marked) (opened : Option TargetValue) : Type 0 where
   pub is_now : latest ≡ net_now s
   pub few : length s.pending ≤ 65536
   pub counted : accepted s ≤ 2 ^ 64 - 1

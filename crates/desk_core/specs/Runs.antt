@@ -5,7 +5,7 @@ use Rattle.net_data.specs.declared.events.Event.{Event}
 use Rattle.net_data.specs.Network.{Network}
 use Rattle.excerpts.specs.Excerpts.{table_at}
 use Rattle.work_units.specs.Work.{Work}
-use Rattle.net_versions.specs.Versions.{Published, table_told}
+use Rattle.net_versions.specs.Versions.{VersionValue, table_told}
 use Rattle.path_trace.specs.Traces.{trace_at}
 use Rattle.desk_core.specs.declared.replies.Posted.{Posted}
 use Rattle.desk_core.specs.declared.replies.Posted.TheVariants.{Taken}
@@ -15,11 +15,11 @@ use Rattle.desk_core.specs.declared.steps.Step.{Step}
 use Rattle.desk_core.specs.declared.steps.Step.TheVariants as step
 use Rattle.desk_core.specs.declared.steps.Reply.{Reply}
 use Rattle.desk_core.specs.declared.steps.Reply.TheVariants as reply
-use Rattle.desk_core.specs.Desk.{State, accepted, replay}
+use Rattle.desk_core.specs.Desk.{DeskValue, accepted, replay}
 use Rattle.desk_core.specs.Steps.{Posts, Opens, Takes, Gives, Abandons, Publishes}
 
 -- one step gives that reply, and leaves that desk
-abbrev pub Steps : State → Step → Reply → State → Type 0
+abbrev pub Steps : DeskValue → Step → Reply → DeskValue → Type 0
 Steps old (step.Post collector seq event) answer new = (result : Result Posted Refusal) × (answer ≡ reply.Post result) × Posts old collector seq event result new
 Steps old step.Open answer new = (result : Result Opened Refusal) × (answer ≡ reply.Open result) × Opens old result new
 Steps old step.Take answer new = (result : Result Work Refusal) × (answer ≡ reply.Take result) × Takes old result new
@@ -28,9 +28,9 @@ Steps old (step.Abandon version dest) answer new = (result : Result (Unit {0}) R
 Steps old step.Publish answer new = (result : Result ℕ Refusal) × (answer ≡ reply.Publish result) × Publishes old result new
 
 -- the steps give these replies, one after another
-abbrev pub Runs : State → List Step → List Reply → State → Type 0
+abbrev pub Runs : DeskValue → List Step → List Reply → DeskValue → Type 0
 Runs old [] [] new = new ≡ old
-Runs old (step ∷ steps) (reply ∷ replies) new = (mid : State) × Steps old step reply mid × Runs mid steps replies new
+Runs old (step ∷ steps) (reply ∷ replies) new = (mid : DeskValue) × Steps old step reply mid × Runs mid steps replies new
 Runs old [] (reply ∷ replies) new = ⊥
 Runs old (step ∷ steps) [] new = ⊥
 
@@ -54,14 +54,14 @@ accepted_in (step ∷ steps) (reply ∷ replies) = accepted_by step reply ++ acc
 accepted_in _ _ = []
 
 -- the accepted events of a desk and of the steps after it, up to a number
-abbrev pub events_up_to : State → List Event → ℕ → List Event
+abbrev pub events_up_to : DeskValue → List Event → ℕ → List Event
 events_up_to start more number = take (number - start.published.number) (start.pending ++ more)
 
 -- the network after the accepted events up to a number
-abbrev pub network_at : State → List Event → ℕ → Network
+abbrev pub network_at : DeskValue → List Event → ℕ → Network
 network_at start more number = replay start.published.network (events_up_to start more number)
 
--- the number of the published version, and of the one before it where that was published in the run
+-- the number of the published version, and of the one before it if that was published in the run
 pub record Numbers : Type 0 where
   pub now : ℕ
   pub before : Option ℕ
@@ -81,14 +81,14 @@ abbrev pub numbers_after : Numbers → List Reply → Numbers
 numbers_after numbers [] = numbers
 numbers_after numbers (reply ∷ replies) = numbers_after (numbers_by numbers reply) replies
 
--- the accepted events since the version before; those that the first version came with where none was published
-abbrev pub batch_of : State → List Event → Numbers → List Event
+-- the accepted events since the version before; those that the first version came with if none was published
+abbrev pub batch_of : DeskValue → List Event → Numbers → List Event
 batch_of start more numbers =
     option_map_or (λ before. drop (before - start.published.number) (events_up_to start more numbers.now)) numbers.before start.published.batch
 
 -- a published version is the one of its number: its events are those since the version before, its network is that after the accepted events up to it, and
 -- the table of each destination (statuses, choices, the link of each SLS, messages in force) and each trace are from scratch those of that network
-pub record IsRightVersion (start : State) (more : List Event) (numbers : Numbers) (version : Published) : Type 0 where
+pub record IsRightVersion (start : DeskValue) (more : List Event) (numbers : Numbers) (version : VersionValue) : Type 0 where
   pub number : version.number ≡ numbers.now
   pub batch : version.batch ≡ batch_of start more numbers
   pub network : version.network ≡ network_at start more numbers.now
@@ -96,15 +96,15 @@ pub record IsRightVersion (start : State) (more : List Event) (numbers : Numbers
   pub traces : (y x s : ℕ) → trace_at version.network y x s ≡ trace_at (network_at start more numbers.now) y x s
 
 -- the numbers before a run
-abbrev pub first_numbers : State → Numbers
+abbrev pub first_numbers : DeskValue → Numbers
 first_numbers start = record { now = start.published.number; before = None }
 
 -- at every point of a run the published version is the one of its number
-abbrev pub IsRightThroughout : State → List Step → List Reply → Type 0
+abbrev pub IsRightThroughout : DeskValue → List Step → List Reply → Type 0
 IsRightThroughout start steps replies =
-    (k : ℕ) (mid : State) → Runs start (take k steps) (take k replies) mid
+    (k : ℕ) (mid : DeskValue) → Runs start (take k steps) (take k replies) mid
     → IsRightVersion start (accepted_in (take k steps) (take k replies)) (numbers_after (first_numbers start) (take k replies)) mid.published
 
 -- an open target is not behind the published version, and not ahead of the accepted events
-abbrev pub IsSteady : State → Type 0
+abbrev pub IsSteady : DeskValue → Type 0
 IsSteady s = MatchOption s.target (Unit {0}) (λ t. (s.published.number ≤ t.number) × (t.number ≤ accepted s))

@@ -4,13 +4,13 @@ use Rattle.std.specs.List.{AllByRecursion, list_any}
 use Rattle.net_items.specs.declared.items.Plan.{Plan}
 use Rattle.net_data.specs.Network.{Network}
 use Rattle.excerpts.specs.Excerpts.{excerpt_at, excerpt_in}
-use Rattle.transfer_state.specs.Routing.{Seat}
+use Rattle.transfer_state.specs.Routing.{RoutingSlotValue}
 use Rattle.dirty_sets.specs.Touch.{is_planned}
 use Rattle.dirty_sets.specs.Waiting.{Task}
 use Rattle.net_versions.specs.Versions.{excerpts}
 
 -- an open target with its network
-pub record OpenNet : Type 0 where
+pub record TargetValue : Type 0 where
   pub number : ℕ
   pub network : Network
   pub tasks : List Task
@@ -20,19 +20,19 @@ abbrev pub is_task : List Task → ℕ → Bool
 is_task tasks x = list_any (λ (t : Task). t.dest == x) tasks
 
 -- the routing of a place has come, or its destination waits or is out
-abbrev pub IsFilled : List Task → Seat → Type 0
-IsFilled tasks seat = (seat.settled || is_task tasks seat.extract.plan.dest) ≡ true
+abbrev pub IsFilled : List Task → RoutingSlotValue → Type 0
+IsFilled tasks slot = (slot.settled || is_task tasks slot.excerpt.plan.dest) ≡ true
 
--- there is a place for each planned destination, filled where nothing is waited for, and only planned destinations wait
-pub record AreFilled (net : Network) (tasks : List Task) (seats : List Seat) : Type 0 where
-  pub all : map (λ (s : Seat). s.extract) seats ≡ excerpts net
-  pub filled : AllByRecursion (IsFilled tasks) seats
+-- there is a place for each planned destination, filled if nothing is waited for, and only planned destinations wait
+pub record AreFilled (net : Network) (tasks : List Task) (slots : List RoutingSlotValue) : Type 0 where
+  pub all : map (λ (s : RoutingSlotValue). s.excerpt) slots ≡ excerpts net
+  pub filled : AllByRecursion (IsFilled tasks) slots
   pub planned : AllByRecursion (λ (t : Task). is_planned net t.dest ≡ true) tasks
 
 -- the place of a planned destination, and whether its routing is there already
-abbrev pub IsPlaceOf : Network → ℕ → Bool → Seat → Type 0
-IsPlaceOf net dest settled seat = (excerpt_at net dest ≡ Some seat.extract) × (seat.settled ≡ settled)
+abbrev pub IsSlotFor : Network → ℕ → Bool → RoutingSlotValue → Type 0
+IsSlotFor net dest settled slot = (excerpt_at net dest ≡ Some slot.excerpt) × (slot.settled ≡ settled)
 
 -- the place of a plan: its routing is there where the destination wasn't touched
-abbrev pub seat_of : Network → (ℕ → Bool) → Plan → Seat
-seat_of net touched plan = record { extract = excerpt_in net plan; settled = not (touched plan.dest) }
+abbrev pub slot_of : Network → (ℕ → Bool) → Plan → RoutingSlotValue
+slot_of net touched plan = record { excerpt = excerpt_in net plan; settled = not (touched plan.dest) }

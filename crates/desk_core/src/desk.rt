@@ -1,16 +1,16 @@
 //! The desk.
 
-ghost use Rattle.std.specs.Prelude.{◌≡◌, ◌≢◌, ◌↔◌, IsTrue, ◌<◌, ◌≤◌, ◌+◌, ◌-◌, ◌^◌, [], true, None, Some, Err, OnOk, OnErr, IfOk, IfErr, IsOk, length, replicate, take};
+ghost use Rattle.std.specs.Prelude.{◌≡◌, ◌≢◌, ◌↔◌, IsTrue, ◌<◌, ◌≤◌, ◌+◌, ◌-◌, ◌^◌, [], true, None, Some, Err, OnOk, OnErr, IfOk, IfErr, IsOk, length, replicate, slice_set, take};
 ghost use Rattle.std.specs.Option.{option_map_or, option_and_then};
 ghost use Rattle.std.specs.Arc.{arc_value};
 ghost use Rattle.net_data.specs.Edits.{refusal_of};
 ghost use Rattle.dirty_sets.specs.Waiting.{least, out, waiting};
 ghost use Rattle.desk_core.specs.Desk.{IsStart, accepted, net_now, no_post};
-ghost use Rattle.desk_core.specs.Steps.{Abandons, Gives, IsNext, IsUnready, Opens, Posts, Publishes, Takes, last_of, left_of, out_refusal, publish_refusal, target_number, with_post, with_version};
+ghost use Rattle.desk_core.specs.Steps.{Abandons, Gives, IsNext, IsUnready, Opens, Posts, Publishes, Repeats, Takes, last_of, left_of, out_refusal, post_refusal, publish_refusal, target_number, with_post, with_version};
 ghost use Rattle.desk_core.specs.Inside.{is_link};
 ghost use Rattle.desk_core.specs.Runs.{IsSteady};
 
-use crate::following::{copy_of, drop_front, follow, make_room};
+use crate::following::{copy_of, drop_front, follow_with_copy};
 use crate::opening::new_target;
 use crate::replies::{Last, Opened, Posted, Refusal};
 use crate::targets::Target;
@@ -43,11 +43,11 @@ impl Model for Desk {
     ghost use Rattle.std.specs.Arc.{arc_value};
     ghost use Rattle.std.specs.Option.{option_map};
     ghost use Rattle.std.specs.Vec.{vec_len, vec_capacity};
-    ghost use Rattle.desk_core.specs.Desk.{State};
-    ghost use Rattle.dirty_sets.specs.Noted.{marked_of};
+    ghost use Rattle.desk_core.specs.Desk.{DeskValue};
+    ghost use Rattle.dirty_sets.specs.Touched.{marked_of};
     ghost use Rattle.desk_core.specs.Inside.{IsInside};
 
-    ghost Value = { State };
+    ghost Value = { DeskValue };
 
     ghost view = { λ d. record { published = arc_value d.published; pending = d.pending.items; lasts = d.lasts.items; target = option_map (λ t. record { number = t.number; tasks = t.tasks }) d.target; spare = d.spare } };
 
@@ -82,6 +82,14 @@ fn is_same(last: &Last, event: &Event) -> bool
     }
 }
 
+/// Notes a collector's last accepted post.
+fn note_last(lasts: &mut Vec<Last>, collector: u8, last: Last)
+    requires { length lasts.old.items ≡ 256 }
+    ensures { lasts.new.items ≡ slice_set lasts.old.items collector last }
+{
+    lasts[usize::from(collector)] = last;
+}
+
 /// Copies of events.
 fn copies(alloc: Global, events: &[Event]) -> Result<Vec<Event>, AllocError>
     ensures { IfOk result (λ v. v.items ≡ events.now) }
@@ -112,17 +120,33 @@ fn new_version(
     Ok(Arc::new(alloc, Version::new(target.number(), batch, net, routings))?)
 }
 
+/// The first version of a network.
+fn opening_version(alloc: Global, net: Net) -> Result<Arc<Version>, AllocError>
+    ensures { IfOk result (λ v. arc_value v ≡ record { number = 0; batch = []; network = net }) }
+{
+    let version = Version::opening(alloc, net)?;
+    Ok(Arc::new(alloc, version)?)
+}
+
 impl Desk {
     /// A desk over a network: version 0, and nothing accepted.
     pub fn start(alloc: Global, net: Net) -> Result<Desk, AllocError>
         ensures { IfOk result (IsStart net) }
     {
         let latest = net.copy(alloc)?;
-        let touched = Touched::new(alloc, &net)?;
+        let published = opening_version(alloc, net)?;
+        Desk::fresh(alloc, published, latest)
+    }
+
+    /// A desk over version 0 of a network, with nothing accepted.
+    fn fresh(alloc: Global, published: Arc<Version>, latest: Net) -> Result<Desk, AllocError>
+        requires { arc_value published ≡ record { number = 0; batch = []; network = latest } }
+        ensures { IfOk result (IsStart latest) }
+    {
+        let touched = Touched::new(alloc, &latest)?;
         let lasts = no_posts(alloc)?;
-        let version = Version::opening(alloc, net)?;
         Ok(Desk {
-            published: Arc::new(alloc, version)?,
+            published,
             latest,
             pending: Vec::new(alloc),
             lasts,
@@ -225,6 +249,37 @@ impl Desk {
         Ok(())
     }
 
+    /// The answer to a post with the sequence number of the collector's last accepted one.
+    fn repeat(&self, collector: u8, event: &Event) -> Result<Posted, Refusal>
+        ensures { Repeats self.now collector event.now result self.now }
+    {
+        let last = &self.lasts[usize::from(collector)];
+        if is_same(last, event) {
+            return Ok(Posted::Again(last.number));
+        }
+        Err(Refusal::Clash)
+    }
+
+    /// Why a post with another sequence number is refused, but because memory ran out.
+    fn post_refusal(&self, collector: u8, seq: u64, event: &Event) -> Option<Refusal>
+        ensures { result ≡ post_refusal self.now collector seq event.now }
+    {
+        let last = self.last_seq(collector);
+        if seq == 0 || seq < last {
+            return Some(Refusal::Old(last));
+        }
+        if seq - 1 > last {
+            return Some(Refusal::Gap(last + 1));
+        }
+        if self.accepted() == u64::MAX {
+            return Some(Refusal::EndOfNumbers);
+        }
+        if self.pending.len() >= BACKLOG_LIMIT {
+            return Some(Refusal::BacklogFull);
+        }
+        self.latest.refusal_of(event).map(Refusal::Edit)
+    }
+
     /// One post of a collector.
     pub fn post(
         &mut self,
@@ -236,27 +291,11 @@ impl Desk {
         ensures step { Posts self.old collector seq event result self.new }
         ensures no_memory { is_link event ≡ true → 0 < self.old.spare → result ≢ Err Refusal.OutOfMemory }
     {
-        let last = &self.lasts[usize::from(collector)];
-        if seq == 0 || seq < last.seq {
-            return Err(Refusal::Old(last.seq));
+        if seq != 0 && seq == self.last_seq(collector) {
+            return self.repeat(collector, &event);
         }
-        if seq == last.seq {
-            if is_same(last, &event) {
-                return Ok(Posted::Again(last.number));
-            }
-            return Err(Refusal::Clash);
-        }
-        if seq - 1 > last.seq {
-            return Err(Refusal::Gap(last.seq + 1));
-        }
-        if self.accepted() == u64::MAX {
-            return Err(Refusal::EndOfNumbers);
-        }
-        if self.pending.len() >= BACKLOG_LIMIT {
-            return Err(Refusal::BacklogFull);
-        }
-        if let Some(refusal) = self.latest.refusal_of(&event) {
-            return Err(Refusal::Edit(refusal));
+        if let Some(refusal) = self.post_refusal(collector, seq, &event) {
+            return Err(refusal);
         }
         match self.accept(alloc, collector, seq, event) {
             Ok(number) => Ok(Posted::Taken(number)),
@@ -281,18 +320,21 @@ impl Desk {
     {
         self.latest.validity();
         let number = self.accepted() + 1;
-        let copy = copy_of(alloc, &event)?;
-        make_room(&mut self.pending, self.spare)?;
-        follow(alloc, &mut self.latest, &mut self.touched, &event)?;
-        match self.pending.push(event) {
-            Ok(()) => {}
-            Err(_) => unreachable!(),
-        }
-        self.lasts[usize::from(collector)] = Last {
+        let copy = follow_with_copy(
+            alloc,
+            &mut self.pending,
+            self.spare,
+            &mut self.latest,
+            &mut self.touched,
+            &event,
+        )?;
+        self.pending.push_reserved(event);
+        let last = Last {
             seq,
             number,
             event: Some(copy),
         };
+        note_last(&mut self.lasts, collector, last);
         self.spare = self.spare.saturating_sub(1);
         Ok(number)
     }
@@ -386,7 +428,7 @@ impl Desk {
         }
     }
 
-    /// The version that the target becomes, where nothing waits and nothing is out.
+    /// The version that the target becomes, if nothing waits and nothing is out.
     pub fn ready(&self, alloc: Global) -> Result<Arc<Version>, Refusal>
         ensures ready { IfOk result (λ version. (publish_refusal self.now ≡ None) × IsNext self.now (arc_value version)) }
         ensures refused { IfErr result (IsUnready (publish_refusal self.now)) }

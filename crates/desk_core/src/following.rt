@@ -5,7 +5,7 @@ ghost use Rattle.std.specs.Vec.{vec_len, vec_capacity};
 ghost use Rattle.net_data.specs.Edits.{changed, refusal_of};
 ghost use Rattle.dirty_sets.specs.Touch.{IsIndex};
 ghost use Rattle.dirty_sets.specs.Marks.{IsNoted};
-ghost use Rattle.dirty_sets.specs.Noted.{marked_of};
+ghost use Rattle.dirty_sets.specs.Touched.{marked_of};
 ghost use Rattle.desk_core.specs.Inside.{is_link, IsSameMarked};
 
 use dirty_sets::Touched;
@@ -68,7 +68,7 @@ fn follow_edit(
 }
 
 /// Applies an accepted event. A refusal of memory leaves all as it was, and a change of a link meets none.
-pub(crate) fn follow(
+fn follow(
     alloc: Global,
     latest: &mut Net,
     touched: &mut Touched,
@@ -91,8 +91,8 @@ pub(crate) fn follow(
     }
 }
 
-/// Room for one more, where none was reserved.
-pub(crate) fn make_room(pending: &mut Vec<Event>, spare: u32) -> Result<(), AllocError>
+/// Room for one more, if none was reserved.
+fn make_room(pending: &mut Vec<Event>, spare: u32) -> Result<(), AllocError>
     requires { vec_len pending.old + spare ≤ vec_capacity pending.old }
     ensures items { pending.new.items ≡ pending.old.items }
     ensures ok { OnOk result (vec_len pending.new < vec_capacity pending.new) }
@@ -103,6 +103,52 @@ pub(crate) fn make_room(pending: &mut Vec<Event>, spare: u32) -> Result<(), Allo
         pending.reserve(1)?;
     }
     Ok(())
+}
+
+/// A copy of an event, and room for the event itself.
+fn copy_with_room(
+    alloc: Global,
+    pending: &mut Vec<Event>,
+    spare: u32,
+    event: &Event,
+) -> Result<Event, AllocError>
+    requires { vec_len pending.old + spare ≤ vec_capacity pending.old }
+    ensures copy { IfOk result (λ e. e ≡ event.now) }
+    ensures items { pending.new.items ≡ pending.old.items }
+    ensures room { OnOk result (vec_len pending.new < vec_capacity pending.new) }
+    ensures kept { vec_len pending.new + spare ≤ vec_capacity pending.new }
+    ensures no_memory { is_link event.now ≡ true → 0 < spare → IsOk result }
+{
+    make_room(pending, spare)?;
+    copy_of(alloc, event)
+}
+
+/// Applies an accepted event, and gives a copy of it and room for it among those that are pending. Memory first, so that a
+/// refusal leaves all as it was.
+pub(crate) fn follow_with_copy(
+    alloc: Global,
+    pending: &mut Vec<Event>,
+    spare: u32,
+    latest: &mut Net,
+    touched: &mut Touched,
+    event: &Event,
+) -> Result<Event, AllocError>
+    requires room { vec_len pending.old + spare ≤ vec_capacity pending.old }
+    requires index { IsIndex latest.old (marked_of touched.old).index }
+    requires accepted { refusal_of latest.old event.now ≡ None }
+    ensures copy { IfOk result (λ e. e ≡ event.now) }
+    ensures items { pending.new.items ≡ pending.old.items }
+    ensures room { OnOk result (vec_len pending.new < vec_capacity pending.new) }
+    ensures room_kept { vec_len pending.new + spare ≤ vec_capacity pending.new }
+    ensures latest { OnOk result (latest.new ≡ changed latest.old event.now) }
+    ensures noted { OnOk result (IsNoted latest.old event.now (marked_of touched.old) (marked_of touched.new)) }
+    ensures kept { OnErr result (latest.new ≡ latest.old) }
+    ensures same { OnErr result (IsSameMarked (marked_of touched.old) (marked_of touched.new)) }
+    ensures no_memory { is_link event.now ≡ true → 0 < spare → IsOk result }
+{
+    let copy = copy_with_room(alloc, pending, spare, event)?;
+    follow(alloc, latest, touched, event)?;
+    Ok(copy)
 }
 
 /// The events without the first ones. The room stays.

@@ -4,19 +4,18 @@ ghost use Rattle.std.specs.Prelude.{◌≡◌, ◌<◌, ℕ, true, false, not, I
 ghost use Rattle.net_items.specs.declared.items.Plan.{Plan};
 ghost use Rattle.excerpts.specs.Excerpts.{content_at};
 ghost use Rattle.dirty_sets.specs.Touch.{is_planned};
-ghost use Rattle.desk_core.specs.Targets.{IsPlaceOf, seat_of};
-ghost use Rattle.dirty_sets.specs.Noted.{marked_of};
+ghost use Rattle.desk_core.specs.Targets.{IsSlotFor, slot_of};
+ghost use Rattle.dirty_sets.specs.Touched.{marked_of};
 ghost use Rattle.dirty_sets.specs.Waiting.{all_waiting};
 
 use crate::targets::Target;
 use dirty_sets::{Touched, Waiting};
-use excerpts::Excerpt;
-use frozen_nets::Frozen;
+use excerpts::{Excerpt, Frozen};
 use net_data::Net;
 use net_versions::Version;
 use point_codes::PointCode;
 use std::alloc::{AllocError, Global};
-use transfer_state::Place;
+use transfer_state::RoutingSlot;
 
 /// The planned destinations that were touched, in rising code.
 fn touched_dests(alloc: Global, net: &Net, touched: &Touched) -> Result<Vec<PointCode>, AllocError>
@@ -24,8 +23,8 @@ fn touched_dests(alloc: Global, net: &Net, touched: &Touched) -> Result<Vec<Poin
 {
     let plans = net.plans();
     let mut dests = Vec::new(alloc);
-    for place in 0..plans.len() {
-        let dest = plans.at(place).dest;
+    for position in 0..plans.len() {
+        let dest = plans.at(position).dest;
         if touched.is_touched(dest) {
             dests.push(dest)?;
         }
@@ -33,17 +32,17 @@ fn touched_dests(alloc: Global, net: &Net, touched: &Touched) -> Result<Vec<Poin
     Ok(dests)
 }
 
-/// A place for the routing towards a planned destination. Where nothing touched it, the routing of the version before goes
+/// A place for the routing towards a planned destination. If nothing touched it, the routing of the version before goes
 /// in.
-fn place_of(
+fn slot_for(
     net: &Frozen,
     dest: PointCode,
     touched: &Touched,
     version: &Version,
-) -> Result<Place, AllocError>
+) -> Result<RoutingSlot, AllocError>
     requires planned { is_planned net.now dest ≡ true }
     requires kept { (x : ℕ) → x < 16384 → (marked_of touched.now).touched x ≡ false → content_at net.now x ≡ content_at version.now.network x }
-    ensures { IfOk result (λ p. IsPlaceOf net.now dest (not ((marked_of touched.now).touched dest)) p) }
+    ensures { IfOk result (λ p. IsSlotFor net.now dest (not ((marked_of touched.now).touched dest)) p) }
 {
     // The proof reads the code's range from this.
     let _number = dest.number();
@@ -52,49 +51,66 @@ fn place_of(
         Err(_) => return Err(AllocError),
     };
     if touched.is_touched(dest) {
-        return Ok(Place::new(excerpt));
+        return Ok(RoutingSlot::new(excerpt));
     }
     match version.routing(dest) {
-        Some(routing) => Place::of_same(excerpt, routing),
+        Some(routing) => RoutingSlot::of_same(excerpt, routing),
         None => unreachable!(),
     }
 }
 
 /// The place of the plan in a place of a network's plans.
-fn place_in(
+fn slot_at(
     net: &Frozen,
-    place: usize,
+    position: usize,
     touched: &Touched,
     version: &Version,
-) -> Result<Place, AllocError>
-    requires place { place < length net.now.plans }
+) -> Result<RoutingSlot, AllocError>
+    requires position { position < length net.now.plans }
     requires kept { (x : ℕ) → x < 16384 → (marked_of touched.now).touched x ≡ false → content_at net.now x ≡ content_at version.now.network x }
-    ensures { IfOk result (λ p. (d : Plan) → p ≡ seat_of net.now (marked_of touched.now).touched (slice_index_or net.now.plans place d)) }
+    ensures { IfOk result (λ p. (d : Plan) → p ≡ slot_of net.now (marked_of touched.now).touched (slice_index_or net.now.plans position d)) }
 {
     net.validity();
-    let dest = net.net().plans().at(place).dest;
-    match place_of(net, dest, touched, version) {
-        Ok(seat) => Ok(seat),
+    let dest = net.net().plans().at(position).dest;
+    match slot_for(net, dest, touched, version) {
+        Ok(slot) => Ok(slot),
         Err(refused) => Err(refused),
     }
 }
 
 /// The places of all planned destinations.
-fn all_places(
+fn all_slots(
     alloc: Global,
     net: &Frozen,
     touched: &Touched,
     version: &Version,
-) -> Result<Vec<Place>, AllocError>
+) -> Result<Vec<RoutingSlot>, AllocError>
     requires { (x : ℕ) → x < 16384 → (marked_of touched.now).touched x ≡ false → content_at net.now x ≡ content_at version.now.network x }
-    ensures { IfOk result (λ v. v.items ≡ map (seat_of net.now (marked_of touched.now).touched) net.now.plans) }
+    ensures { IfOk result (λ v. v.items ≡ map (slot_of net.now (marked_of touched.now).touched) net.now.plans) }
 {
     let plans = net.net().plans();
-    let mut places = Vec::with_capacity(alloc, plans.len())?;
-    for place in 0..plans.len() {
-        places.push(place_in(net, place, touched, version)?)?;
+    let mut slots = Vec::with_capacity(alloc, plans.len())?;
+    for position in 0..plans.len() {
+        slots.push(slot_at(net, position, touched, version)?)?;
     }
-    Ok(places)
+    Ok(slots)
+}
+
+/// A copy of a network, frozen.
+fn frozen_copy(alloc: Global, net: &Net) -> Result<Frozen, AllocError>
+    ensures { IfOk result (λ frozen. frozen ≡ net.now) }
+{
+    let copy = net.copy(alloc)?;
+    Frozen::new(alloc, copy)
+}
+
+/// The touched destinations, all of which wait.
+fn waiting_dests(alloc: Global, net: &Net, touched: &Touched) -> Result<Waiting, AllocError>
+    ensures { IfOk result (λ w. w ≡ all_waiting (filter (marked_of touched.now).touched (map (λ p. p.dest) net.now.plans))) }
+{
+    net.validity();
+    let dests = touched_dests(alloc, net, touched)?;
+    Waiting::fill(alloc, &dests)
 }
 
 /// The target of a number for a network, for which the touched destinations wait.
@@ -108,11 +124,8 @@ pub(crate) fn new_target(
     requires kept { (x : ℕ) → x < 16384 → (marked_of touched.now).touched x ≡ false → content_at latest.now x ≡ content_at version.now.network x }
     ensures { IfOk result (λ t. t ≡ record { number = number; network = latest.now; tasks = all_waiting (filter (marked_of touched.now).touched (map (λ p. p.dest) latest.now.plans)) }) }
 {
-    latest.validity();
-    let copy = latest.copy(alloc)?;
-    let net = Frozen::new(alloc, copy)?;
-    let dests = touched_dests(alloc, latest, touched)?;
-    let waiting = Waiting::fill(alloc, &dests)?;
-    let places = all_places(alloc, &net, touched, version)?;
-    Ok(Target::new(number, net, waiting, places))
+    let net = frozen_copy(alloc, latest)?;
+    let waiting = waiting_dests(alloc, latest, touched)?;
+    let slots = all_slots(alloc, &net, touched, version)?;
+    Ok(Target::new(number, net, waiting, slots))
 }

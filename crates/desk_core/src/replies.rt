@@ -31,7 +31,7 @@ pub struct Opened {
     pub waiting: usize,
 }
 
-/// Why a call of the desk is refused; want of memory comes last in each.
+/// Why a call of the desk is refused; out of memory comes last in each.
 #[derive(Clone, Copy, Debug, PartialEq, Eq)]
 pub enum Refusal {
     /// Memory was refused.

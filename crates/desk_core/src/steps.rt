@@ -31,7 +31,7 @@ pub enum Reply {
     Open(Result<Opened, Refusal>),
     /// To the taking of a job.
     Take(Result<Job, Refusal>),
-    /// To the giving of a result, which is handed back where it is refused.
+    /// To the giving of a result, which is handed back if it is refused.
     Give(Result<(), (Settled, Refusal)>),
     /// To an abandonment.
     Abandon(Result<(), Refusal>),

@@ -5,19 +5,18 @@ ghost use Rattle.std.specs.List.{AllByRecursion};
 ghost use Rattle.std.specs.Option.{MatchOption};
 ghost use Rattle.net_items.specs.Keyed.{IsRising, IsFoundAt, IsGapAt};
 ghost use Rattle.excerpts.specs.Excerpts.{content_at, content_of, excerpt_at};
-ghost use Rattle.transfer_state.specs.Routing.{Seat};
+ghost use Rattle.transfer_state.specs.Routing.{RoutingSlotValue};
 ghost use Rattle.dirty_sets.specs.Waiting.{first_waiting, taken, is_out as out_among, least, out, put_last, waiting, without_task};
 ghost use Rattle.net_versions.specs.Versions.{excerpts};
 ghost use Rattle.desk_core.specs.Targets.{AreFilled};
 
 use crate::replies::Refusal;
 use dirty_sets::Waiting;
-use excerpts::ExcerptFault;
-use frozen_nets::Frozen;
+use excerpts::{ExcerptFault, Frozen};
 use point_codes::PointCode;
 use std::alloc::{AllocError, Global};
 use std::marker::Model;
-use transfer_state::{Place, Routing};
+use transfer_state::{Routing, RoutingSlot};
 use work_units::{Job, Settled};
 
 /// An open target.
@@ -26,62 +25,62 @@ pub(crate) struct Target {
     number: u64,
     net: Frozen,
     waiting: Waiting,
-    places: Vec<Place>,
+    slots: Vec<RoutingSlot>,
 }
 
 impl Model for Target {
-    ghost use Rattle.desk_core.specs.Targets.{OpenNet, AreFilled};
+    ghost use Rattle.desk_core.specs.Targets.{TargetValue, AreFilled};
 
-    ghost Value = { OpenNet };
+    ghost Value = { TargetValue };
 
     ghost view = { λ t. record { number = t.number; network = t.net; tasks = t.waiting } };
 
-    ghost invariant = { λ t. AreFilled t.net t.waiting t.places.items };
+    ghost invariant = { λ t. AreFilled t.net t.waiting t.slots.items };
 }
 
 /// The place of a destination, or where it would go.
-fn place_of_seat(places: &[Place], dest: PointCode) -> Result<usize, usize>
-    requires { IsRising (λ s. s.extract.plan.dest) places.now }
-    ensures found { IfOk result (IsFoundAt (λ s. s.extract.plan.dest) dest places.now) }
-    ensures absent { IfErr result (IsGapAt (λ s. s.extract.plan.dest) dest places.now) }
+fn position_of_slot(slots: &[RoutingSlot], dest: PointCode) -> Result<usize, usize>
+    requires { IsRising (λ s. s.excerpt.plan.dest) slots.now }
+    ensures found { IfOk result (IsFoundAt (λ s. s.excerpt.plan.dest) dest slots.now) }
+    ensures absent { IfErr result (IsGapAt (λ s. s.excerpt.plan.dest) dest slots.now) }
 {
-    places.binary_search_by_key(&dest, |p| p.dest())
+    slots.binary_search_by_key(&dest, |p| p.dest())
 }
 
 /// The routing that has come to a place, shared.
-fn routing_of(place: &Place) -> Result<Routing, AllocError>
-    requires { place.now.settled ≡ true }
-    ensures { IfOk result (λ r. r ≡ place.now.extract) }
+fn routing_of(slot: &RoutingSlot) -> Result<Routing, AllocError>
+    requires { slot.now.settled ≡ true }
+    ensures { IfOk result (λ r. r ≡ slot.now.excerpt) }
 {
-    match place.routing()? {
+    match slot.routing()? {
         Some(routing) => Ok(routing),
         None => unreachable!(),
     }
 }
 
 /// The routings that have come to all places, shared.
-fn all_routings(alloc: Global, places: &[Place]) -> Result<Vec<Routing>, AllocError>
-    requires { AllByRecursion (λ s. s.settled ≡ true) places.now }
-    ensures { IfOk result (λ v. v.items ≡ map (λ s. s.extract) places.now) }
+fn all_routings(alloc: Global, slots: &[RoutingSlot]) -> Result<Vec<Routing>, AllocError>
+    requires { AllByRecursion (λ s. s.settled ≡ true) slots.now }
+    ensures { IfOk result (λ v. v.items ≡ map (λ s. s.excerpt) slots.now) }
 {
-    let mut routings = Vec::with_capacity(alloc, places.len())?;
-    for i in 0..places.len() {
-        routings.push(routing_of(&places[i])?)?;
+    let mut routings = Vec::with_capacity(alloc, slots.len())?;
+    for i in 0..slots.len() {
+        routings.push(routing_of(&slots[i])?)?;
     }
     Ok(routings)
 }
 
 impl Target {
     /// A target with its tasks, and a place for each planned destination.
-    pub(crate) fn new(number: u64, net: Frozen, waiting: Waiting, places: Vec<Place>) -> Target
-        requires { AreFilled net waiting places.items }
+    pub(crate) fn new(number: u64, net: Frozen, waiting: Waiting, slots: Vec<RoutingSlot>) -> Target
+        requires { AreFilled net waiting slots.items }
         ensures { result ≡ record { number = number; network = net; tasks = waiting } }
     {
         Target {
             number,
             net,
             waiting,
-            places,
+            slots,
         }
     }
 
@@ -131,7 +130,7 @@ impl Target {
     pub(crate) fn take(&mut self) -> Result<Job, Refusal>
         ensures none { first_waiting self.old.tasks ≡ None → (result ≡ Err Refusal.Nothing) × (self.new ≡ self.old) }
         ensures some { MatchOption (first_waiting self.old.tasks) (result ≡ Err Refusal.Nothing) (λ x. MatchResult result
-            (λ job. (job.version ≡ self.old.number) × (excerpt_at self.old.network x ≡ Some job.extract) × (self.new ≡ record self.old { tasks = taken self.old.tasks }))
+            (λ job. (job.version ≡ self.old.number) × (excerpt_at self.old.network x ≡ Some job.excerpt) × (self.new ≡ record self.old { tasks = taken self.old.tasks }))
             (λ refusal. (refusal ≡ Refusal.OutOfMemory) × (self.new ≡ self.old))) }
     {
         let Some(dest) = self.waiting.first() else {
@@ -149,21 +148,21 @@ impl Target {
 
     /// Whether a result is of what the target's network has for its destination.
     pub(crate) fn is_of(&self, settled: &Settled) -> bool
-        ensures { IsTrue result ↔ (content_at self.now.network settled.now.extract.plan.dest ≡ Some (content_of settled.now.extract)) }
+        ensures { IsTrue result ↔ (content_at self.now.network settled.now.excerpt.plan.dest ≡ Some (content_of settled.now.excerpt)) }
     {
         settled.excerpt().is_of(self.net.net(), settled.dest())
     }
 
     /// Takes in a result. It takes no memory.
     pub(crate) fn fill(&mut self, settled: Settled)
-        requires out { out_among self.old.tasks settled.extract.plan.dest ≡ true }
-        requires same { content_at self.old.network settled.extract.plan.dest ≡ Some (content_of settled.extract) }
-        ensures { self.new ≡ record self.old { tasks = without_task settled.extract.plan.dest self.old.tasks } }
+        requires out { out_among self.old.tasks settled.excerpt.plan.dest ≡ true }
+        requires same { content_at self.old.network settled.excerpt.plan.dest ≡ Some (content_of settled.excerpt) }
+        ensures { self.new ≡ record self.old { tasks = without_task settled.excerpt.plan.dest self.old.tasks } }
     {
         self.net.validity();
         let dest = settled.dest();
-        match place_of_seat(self.places.as_slice(), dest) {
-            Ok(at) => self.places[at].fill(settled.into_routing()),
+        match position_of_slot(self.slots.as_slice(), dest) {
+            Ok(at) => self.slots[at].fill(settled.into_routing()),
             Err(_) => unreachable!(),
         }
         self.waiting.done(dest);
@@ -177,11 +176,11 @@ impl Target {
         self.waiting.put_last(dest);
     }
 
-    /// The settled routing of each planned destination, where all have come. It fails only where memory is refused.
+    /// The settled routing of each planned destination, if all have come. It fails only if memory is refused.
     pub(crate) fn routings(&self, alloc: Global) -> Result<Vec<Routing>, AllocError>
         requires { self.now.tasks ≡ [] }
         ensures { IfOk result (λ v. v.items ≡ excerpts self.now.network) }
     {
-        all_routings(alloc, self.places.as_slice())
+        all_routings(alloc, self.slots.as_slice())
     }
 }

@@ -15,14 +15,14 @@ use Rattle.net_data.specs.declared.events.Event.TheVariants as on
 use Rattle.net_data.specs.Network.{Network}
 use Rattle.net_data.specs.Valid.{IsValid, IsRightSet}
 use Rattle.net_data.specs.Edits.{refusal_of, changed, in_order, takes_none, set_mate}
-use Rattle.net_data.proofs.Preserve.{when_none, or_none, not_some}
+use Rattle.net_data.proofs.PreservationLemmas.{when_none, or_none, not_some}
 use Rattle.excerpts.specs.Excerpts.{is_read_by}
 use Rattle.dirty_sets.specs.declared.readers.Reader.{Reader}
 use Rattle.dirty_sets.specs.Bits.{is_marked, meets}
 use Rattle.dirty_sets.specs.Touch.{Reads, IsIndex, is_planned, reads_set, sets_plan, touches}
 use Rattle.dirty_sets.specs.Index.{IsWithId, IsReaderOf, bare_set, reads_among, reads_any, reads_of, would_read}
 use Rattle.dirty_sets.specs.Kept.{is_on_set, keeps_reads}
-use Rattle.dirty_sets.proofs.Changes.{option_same, key_of, read_in_order, reads_none, reads-Link, reads-AddLink, reads-RemoveLink, reads-AddSet, reads-RemoveSet, reads-AddPoint, reads-RemovePoint, reads-Pair, reads-Unpair, reads-SetPlan, reads-DropPlan}
+use Rattle.dirty_sets.proofs.ChangeLemmas.{option_same, key_of, read_in_order, reads_none, reads-Link, reads-AddLink, reads-RemoveLink, reads-AddSet, reads-RemoveSet, reads-AddPoint, reads-RemovePoint, reads-Pair, reads-Unpair, reads-SetPlan, reads-DropPlan}
 use Rattle.dirty_sets.proofs.ReaderLemmas.{put_keys, without_keys, same_keys, planned_test, readers-planned, readers-reads, with_id-planned, with_id-reads}
 
 eqb_back : (a b : ℕ) → eqb a b ≡ eqb b a

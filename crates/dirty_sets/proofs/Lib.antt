@@ -1,10 +1,10 @@
-pub mod UntouchedSets
-pub mod UntouchedPoints
-pub mod UntouchedLaw
-pub mod WaitingEntries
-pub mod WaitingPlaces
+pub mod UntouchedSetLemmas
+pub mod UntouchedPointLemmas
+pub mod UntouchedLemmas
+pub mod WaitingEntryLemmas
+pub mod WaitingPositionLemmas
 pub mod BitLemmas
-pub mod Changes
+pub mod ChangeLemmas
 pub mod ReaderLemmas
 pub mod IndexLemmas
 pub mod ReadingLemmas

@@ -59,7 +59,7 @@ module _ {X : Type 0} (key : X → ℕ) where
 pub find-step : {X : Type 0} (t : X → Bool) (xs : List X) (i : ℕ) (x d : X) → i < length xs → x ≡ get_or xs i d → list_any t (take (i + 1) xs) ≡ (list_any t (take i xs) || t x)
 find-step t xs i x d within is = list_any_more t xs i d within ∙ ap (λ y. list_any t (take i xs) || t y) (sym is)
 
--- one more element is marked where it passes
+-- one more element is marked if it passes
 pub mark-step : {X : Type 0} (t : X → Bool) (xs : List X) (i : ℕ) (x d : X) → i < length xs → x ≡ get_or xs i d → (was old new : Bool)
     → old ≡ (was || list_any t (take i xs)) → new ≡ (old || t x) → new ≡ (was || list_any t (take (i + 1) xs))
 mark-step t xs i x d within is was old new before one = rw (find-step t xs i x d within is, one, before) (moved was (list_any t (take i xs)) (t x))

@@ -15,7 +15,7 @@ use Rattle.net_data.specs.Valid.{IsValid as IsValidNet}
 use Rattle.profile.specs.Status.{Source, row_of}
 use Rattle.profile.specs.Valid.{IsVia, IsValidRow}
 use Rattle.excerpts.specs.Excerpts.{network_source}
-use Rattle.excerpts.proofs.Sourcing.{source_valid}
+use Rattle.excerpts.proofs.SourceLemmas.{source_valid}
 use Rattle.dirty_sets.specs.Index.{LeadsOn}
 
 -- a transfer point with a row

@@ -10,24 +10,20 @@ task_of e = record { dest = e.0; is_out = e.1 }
 abbrev pub tasks_of : List (ℕ × Bool) → List Task
 tasks_of es = map task_of es
 
--- the entries of those that wait
-abbrev pub waiting_entries : List ℕ → List (ℕ × Bool)
-waiting_entries dests = map (λ x. (x, false)) dests
-
 -- the one at that place is out, or waits
 abbrev pub marked : ℕ → Bool → List Task → List Task
-marked place out [] = []
+marked position out [] = []
 marked zero out (t ∷ ts) = record t { is_out = out } ∷ ts
-marked (suc place) out (t ∷ ts) = t ∷ marked place out ts
+marked (suc position) out (t ∷ ts) = t ∷ marked position out ts
 
 -- the first that waits is at that place, and is that destination
-pub record IsFirst (tasks : List Task) (place x : ℕ) : Type 0 where
-  pub in_range : place < length tasks
+pub record IsFirst (tasks : List Task) (position x : ℕ) : Type 0 where
+  pub in_range : position < length tasks
   pub waits : first_waiting tasks ≡ Some x
-  pub takes : taken tasks ≡ marked place true tasks
+  pub takes : taken tasks ≡ marked position true tasks
 
 -- that destination is at that place, and at no other
-pub record IsAt (tasks : List Task) (x place : ℕ) : Type 0 where
-  pub in_range : place < length tasks
-  pub task : slice_get tasks place ≡ Some (record { dest = x; is_out = is_out tasks x })
-  pub removes : remove tasks place ≡ without_task x tasks
+pub record IsAt (tasks : List Task) (x position : ℕ) : Type 0 where
+  pub in_range : position < length tasks
+  pub task : slice_get tasks position ≡ Some (record { dest = x; is_out = is_out tasks x })
+  pub removes : remove tasks position ≡ without_task x tasks

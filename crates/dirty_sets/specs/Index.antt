@@ -13,7 +13,7 @@ use Rattle.dirty_sets.specs.Bits.{is_marked, meets}
 use Rattle.dirty_sets.specs.Touch.{Reads}
 
 -- the readers in rising destination, and how many more go in without memory
-pub record Held : Type 0 where
+pub record TouchIndexValue : Type 0 where
   pub readers : List Reader
   pub room : ℕ
 
@@ -26,7 +26,7 @@ abbrev pub reads_any : List Reader → List Bool → ℕ → Bool
 reads_any readers ids x = option_map_or (λ (r : Reader). meets ids r.ids) (at_key (λ (r : Reader). r.dest) x readers) false
 
 -- what an index tells
-abbrev pub reads_of : Held → Reads
+abbrev pub reads_of : TouchIndexValue → Reads
 reads_of held = record { planned = map (λ (r : Reader). r.dest) held.readers; reads = reads_among held.readers; room = held.room }
 
 -- the table of a destination would read the set

@@ -5,4 +5,4 @@ pub mod Entries
 pub mod Bits
 pub mod Index
 pub mod Kept
-pub mod Noted
+pub mod Touched

@@ -13,8 +13,7 @@ use crate::readers;
 use crate::readers::Reader;
 use crate::reading::sets_read;
 use net_data::{Event, Net};
-use net_items::items::{LinkSet, Plan};
-use net_items::lists::{Links, Slcs};
+use net_items::{LinkSet, Links, Plan, Slcs};
 use point_codes::PointCode;
 use std::alloc::{AllocError, Global};
 use std::marker::Model;
@@ -30,9 +29,9 @@ impl Model for TouchIndex {
     ghost use Rattle.std.specs.Prelude.{◌-◌};
     ghost use Rattle.std.specs.Vec.{vec_len, vec_capacity};
     ghost use Rattle.net_items.specs.Keyed.{IsRising};
-    ghost use Rattle.dirty_sets.specs.Index.{Held};
+    ghost use Rattle.dirty_sets.specs.Index.{TouchIndexValue};
 
-    ghost Value = { Held };
+    ghost Value = { TouchIndexValue };
 
     ghost view = { λ t. record { readers = t.readers.items; room = vec_capacity t.readers - vec_len t.readers } };
 
@@ -40,12 +39,12 @@ impl Model for TouchIndex {
 }
 
 /// The reader of the plan at a place.
-fn reader_at(net: &Net, place: usize) -> Reader
-    requires { place < length net.now.plans }
-    ensures { (d : ThePlan) → IsReaderOf net.now.points net.now.sets (slice_index_or net.now.plans place d) result }
+fn reader_at(net: &Net, position: usize) -> Reader
+    requires { position < length net.now.plans }
+    ensures { (d : ThePlan) → IsReaderOf net.now.points net.now.sets (slice_index_or net.now.plans position d) result }
 {
     net.validity();
-    let plan = net.plans().at(place);
+    let plan = net.plans().at(position);
     Reader {
         dest: plan.dest,
         ids: sets_read(net.points(), plan, true, net.sets()),
@@ -82,8 +81,8 @@ impl TouchIndex {
         net.validity();
         let count = net.plans().len();
         let mut list = Vec::with_capacity(alloc, count)?;
-        for place in 0..count {
-            list.push(reader_at(net, place))?;
+        for position in 0..count {
+            list.push(reader_at(net, position))?;
         }
         Ok(TouchIndex {
             alloc,

@@ -10,6 +10,6 @@ ghost use Rattle.dirty_sets.specs.Touch.{touches};
 
 /// The law: an accepted event that doesn't touch a destination leaves what its table reads as it is, and where the
 /// destination has no plan, it has none after it. It does nothing when it runs.
-pub fn untouched()
+pub fn untouched_law()
     ensures { (net : Network) (event : Event) (x : ℕ) → IsValid net → refusal_of net event ≡ None → touches net event x ≡ false → content_at (changed net event) x ≡ content_at net x }
 {}

@@ -6,6 +6,9 @@
 //! 3. An index tells which sets the table of each planned destination reads, and follows each accepted event.
 //! 4. Events on links are only noted: what they touched is marked at the next change of the index.
 //! 5. Destinations wait in order. The first goes out; one that is out waits again, last, or is done (own).
+//!
+//! Stands on `excerpts`, `indexmap`. A change here also changes specs/ (Bits, Entries, Index, Kept, Marks, Touch,
+//! Touched, Waiting), proofs/ and must-fail/.
 #![tactic(auto)]
 
 mod bits;
@@ -17,11 +20,6 @@ pub mod touched;
 pub mod waiting;
 
 pub use index::TouchIndex;
-pub use laws::untouched;
+pub use laws::untouched_law;
 pub use touched::Touched;
 pub use waiting::Waiting;
-
-#[cfg(test)]
-mod tests;
-#[cfg(test)]
-mod waiting_tests;

@@ -11,7 +11,7 @@ ghost use Rattle.dirty_sets.specs.Index.{IsWithId, reads_among, reads_any as any
 use crate::bits::{Codes, SetIds};
 use excerpts::reading::is_read;
 use net_data::Net;
-use net_items::items::LinkSet;
+use net_items::LinkSet;
 use point_codes::PointCode;
 
 /// A planned destination, and the sets that its table reads.
@@ -23,8 +23,8 @@ pub struct Reader {
     pub ids: SetIds,
 }
 
-/// Where a reader is, or would go.
-pub fn place_of_reader(readers: &[Reader], dest: PointCode) -> Result<usize, usize>
+/// If a reader is, or would go.
+pub fn position_of_reader(readers: &[Reader], dest: PointCode) -> Result<usize, usize>
     requires { IsRising (λ r. r.dest) readers.now }
     ensures found { IfOk result (IsFoundAt (λ r. r.dest) dest readers.now) }
     ensures absent { IfErr result (IsGapAt (λ r. r.dest) dest readers.now) }
@@ -38,7 +38,7 @@ pub fn reads(readers: &[Reader], dest: PointCode, id: u16) -> bool
     requires small { id < 4096 }
     ensures { result ≡ reads_among readers.now dest id }
 {
-    match place_of_reader(readers, dest) {
+    match position_of_reader(readers, dest) {
         Ok(at) => readers[at].ids.has(id),
         Err(_) => false,
     }
@@ -49,7 +49,7 @@ pub fn reads_any(readers: &[Reader], dest: PointCode, ids: &SetIds) -> bool
     requires { IsRising (λ r. r.dest) readers.now }
     ensures { result ≡ any_read readers.now ids.now dest }
 {
-    match place_of_reader(readers, dest) {
+    match position_of_reader(readers, dest) {
         Ok(at) => ids.meets(&readers[at].ids),
         Err(_) => false,
     }
@@ -135,7 +135,7 @@ pub fn put_reader(readers: &mut Vec<Reader>, reader: Reader)
     requires room { vec_len readers.old < vec_capacity readers.old }
     ensures { readers.new.items ≡ put (λ r. r.dest) reader readers.old.items }
 {
-    match place_of_reader(readers.as_slice(), reader.dest) {
+    match position_of_reader(readers.as_slice(), reader.dest) {
         Ok(at) => readers[at] = reader,
         Err(at) => match readers.insert(at, reader) {
             Ok(()) => {}
@@ -150,7 +150,7 @@ pub fn remove_reader(readers: &mut Vec<Reader>, dest: PointCode)
     requires there { is_some (at_key (λ r. r.dest) dest readers.old.items) ≡ true }
     ensures { readers.new.items ≡ without (λ r. r.dest) dest readers.old.items }
 {
-    match place_of_reader(readers.as_slice(), dest) {
+    match position_of_reader(readers.as_slice(), dest) {
         Ok(at) => {
             readers.remove(at);
         }

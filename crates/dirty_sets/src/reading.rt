@@ -11,9 +11,8 @@ ghost use Rattle.dirty_sets.specs.Index.{LeadsOn};
 
 use crate::bits::{Codes, SetIds};
 use excerpts::reading::is_read;
-use net_items::items::{LinkSet, Plan, Point};
-use net_items::lists::Row;
 use net_items::lookups::is_stp;
+use net_items::{LinkSet, Plan, Point, Row};
 use plan_rows::uses::is_via;
 use point_codes::PointCode;
 
@@ -66,7 +65,7 @@ fn ends_at(set: &LinkSet, point: PointCode) -> bool
     set.a == point || set.b == point
 }
 
-/// Whether a set without a transfer point that has a row joins the point of a row with one of its vias. Where the plan is
+/// Whether a set without a transfer point that has a row joins the point of a row with one of its vias. If the plan is
 /// told to be right, only the sets of the destination come into question.
 fn joins_via_of(points: &[Point], plan: &Plan, is_right: bool, set: &LinkSet) -> bool
     requires points_rise { IsRising (λ p. p.code) points.now }
@@ -103,7 +102,7 @@ fn is_read_by_plan(
     transfers.has(set.a) || transfers.has(set.b) || joins_via_of(points, plan, is_right, set)
 }
 
-/// The sets that the table of a plan reads. It is faster where the plan is told to be right.
+/// The sets that the table of a plan reads. It is faster if the plan is told to be right.
 pub fn sets_read(points: &[Point], plan: &Plan, is_right: bool, sets: &[LinkSet]) -> SetIds
     requires points_rise { IsRising (λ p. p.code) points.now }
     requires rows_rise { is_right ≡ true → IsRising (λ r. r.point) plan.now.rows }

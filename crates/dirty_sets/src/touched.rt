@@ -7,7 +7,7 @@ ghost use Rattle.dirty_sets.specs.Touch.{IsIndex, sets_plan};
 ghost use Rattle.dirty_sets.specs.Marks.{IsClear, IsNoted};
 ghost use Rattle.dirty_sets.specs.Index.{reads_of};
 ghost use Rattle.dirty_sets.specs.Kept.{is_on_set, keeps_reads, touches_none};
-ghost use Rattle.dirty_sets.specs.Noted.{marked_of};
+ghost use Rattle.dirty_sets.specs.Touched.{marked_of};
 
 use crate::bits::{Codes, SetIds};
 use crate::index::TouchIndex;
@@ -27,9 +27,9 @@ pub struct Touched {
 }
 
 impl Model for Touched {
-    ghost use Rattle.dirty_sets.specs.Noted.{Noted};
+    ghost use Rattle.dirty_sets.specs.Touched.{TouchedValue};
 
-    ghost Value = { Noted };
+    ghost Value = { TouchedValue };
 
     ghost view = { λ t. record { index = t.index; ids = t.ids; marks = t.marks } };
 }

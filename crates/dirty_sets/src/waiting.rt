@@ -48,7 +48,7 @@ impl Waiting {
     pub fn first(&self) -> Option<PointCode>
         ensures { result ≡ first_waiting self.now }
     {
-        let (_, dest) = self.first_place()?;
+        let (_, dest) = self.first_position()?;
         Some(dest)
     }
 
@@ -57,8 +57,8 @@ impl Waiting {
         ensures first { result ≡ first_waiting self.old }
         ensures after { self.new ≡ taken self.old }
     {
-        let (place, dest) = self.first_place()?;
-        self.mark(place, true);
+        let (position, dest) = self.first_position()?;
+        self.mark(position, true);
         Some(dest)
     }
 
@@ -67,8 +67,8 @@ impl Waiting {
         ensures { result ≡ length (waiting self.now) }
     {
         let mut count = 0;
-        for place in 0..self.left() {
-            let (_, is_out) = self.at(place);
+        for position in 0..self.left() {
+            let (_, is_out) = self.at(position);
             if !is_out {
                 count += 1;
             }
@@ -88,10 +88,10 @@ impl Waiting {
         ensures { result ≡ least (out self.now) }
     {
         let mut first = None;
-        let mut place = self.left();
-        while place > 0 {
-            place -= 1;
-            let (dest, is_out) = self.at(place);
+        let mut position = self.left();
+        while position > 0 {
+            position -= 1;
+            let (dest, is_out) = self.at(position);
             if is_out {
                 first = Some(lesser_of(dest, first));
             }
@@ -103,8 +103,8 @@ impl Waiting {
     pub fn is_out(&self, dest: PointCode) -> bool
         ensures { result ≡ is_task_out self.now dest }
     {
-        match self.place_of(dest) {
-            Some(place) => self.at(place).1,
+        match self.position_of(dest) {
+            Some(position) => self.at(position).1,
             None => false,
         }
     }
@@ -114,9 +114,9 @@ impl Waiting {
         requires { is_task_out self.old dest ≡ true }
         ensures { self.new ≡ with_last dest self.old }
     {
-        if let Some(place) = self.place_of(dest) {
+        if let Some(position) = self.position_of(dest) {
             let last = self.left() - 1;
-            self.move_to(place, last);
+            self.move_to(position, last);
             self.mark(last, false);
         }
     }
@@ -126,17 +126,17 @@ impl Waiting {
         requires { is_task_out self.old dest ≡ true }
         ensures { self.new ≡ without_task dest self.old }
     {
-        if let Some(place) = self.place_of(dest) {
-            self.entries.shift_remove_index(place);
+        if let Some(position) = self.position_of(dest) {
+            self.entries.shift_remove_index(position);
         }
     }
 
     /// The destination at a place, and whether it is out.
-    fn at(&self, place: usize) -> (PointCode, bool)
-        requires { place < length self.now }
-        ensures { slice_get self.now place ≡ Some (task_of result) }
+    fn at(&self, position: usize) -> (PointCode, bool)
+        requires { position < length self.now }
+        ensures { slice_get self.now position ≡ Some (task_of result) }
     {
-        match self.entries.get_index(place) {
+        match self.entries.get_index(position) {
             Some((number, is_out)) => match PointCode::new(*number) {
                 Some(dest) => (dest, *is_out),
                 None => unreachable!(),
@@ -146,31 +146,31 @@ impl Waiting {
     }
 
     /// The place of a destination that waits or is out.
-    fn place_of(&self, dest: PointCode) -> Option<usize>
+    fn position_of(&self, dest: PointCode) -> Option<usize>
         ensures { MatchOption result (is_task_out self.now dest ≡ false) (IsAt self.now dest) }
     {
         self.entries.get_index_of(&dest.number())
     }
 
     /// The place of the first that waits, and its destination.
-    fn first_place(&self) -> Option<(usize, PointCode)>
+    fn first_position(&self) -> Option<(usize, PointCode)>
         ensures { MatchOption result ((first_waiting self.now ≡ None) × (taken self.now ≡ self.now)) (λ f. IsFirst self.now f.0 f.1) }
     {
-        for place in 0..self.left() {
-            let (dest, is_out) = self.at(place);
+        for position in 0..self.left() {
+            let (dest, is_out) = self.at(position);
             if !is_out {
-                return Some((place, dest));
+                return Some((position, dest));
             }
         }
         None
     }
 
     /// The one at a place is out, or waits.
-    fn mark(&mut self, place: usize, is_out: bool)
-        requires { place < length self.old }
-        ensures { self.new ≡ marked place is_out self.old }
+    fn mark(&mut self, position: usize, is_out: bool)
+        requires { position < length self.old }
+        ensures { self.new ≡ marked position is_out self.old }
     {
-        match self.entries.get_index_mut(place) {
+        match self.entries.get_index_mut(position) {
             Some(out) => *out = is_out,
             None => unreachable!(),
         }
@@ -186,7 +186,7 @@ impl Waiting {
     }
 }
 
-/// The lesser of two destinations, where there is a second.
+/// The lesser of two destinations, if there is a second.
 fn lesser_of(dest: PointCode, other: Option<PointCode>) -> PointCode
     ensures { result ≡ lesser dest other }
 {

@@ -1,3 +1,7 @@
 pub mod ReadLemmas
-pub mod Sourcing
-pub mod Extracting
+pub mod SourceLemmas
+pub mod ExcerptLemmas
+pub mod IndexLemmas
+pub mod NextLemmas
+pub mod FirstLemmas
+pub mod EntryLemmas

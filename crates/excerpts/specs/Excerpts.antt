@@ -28,7 +28,7 @@ pub record Content : Type 0 where
   pub tfr : Bool
 
 -- an excerpt: a network, and the plan whose table reads of it
-pub record Extract : Type 0 where
+pub record ExcerptValue : Type 0 where
   pub network : Network
   pub plan : Plan
 
@@ -36,7 +36,7 @@ pub record Extract : Type 0 where
 abbrev pub kind_of : List Point → ℕ → Kind
 kind_of points c = option_map_or (λ (p : Point). p.kind) (point_at points c) Sep
 
--- what is read of a row's point: its kind, and its mate where the row has the flag
+-- what is read of a row's point: its kind, and its mate if the row has the flag
 abbrev pub row_point : List Point → Row → Point
 row_point points row = record { code = row.point; kind = kind_of points row.point; mate = if row.mate then mate_of points row.point else None }
 
@@ -48,12 +48,12 @@ is_read_by points plan = reads (source_in points [] plan false)
 abbrev pub network_source : Network → Plan → Source
 network_source net plan = source_in net.points net.sets plan net.tfr
 
--- the table of a destination from scratch, where it has a plan
+-- the table of a destination from scratch, if it has a plan
 abbrev pub table_at : Network → ℕ → Option Table
 table_at net dest = option_map (λ plan. scratch (network_source net plan)) (plan_at net.plans dest)
 
 -- an excerpt as the source of its plan
-abbrev pub source_of : Extract → Source
+abbrev pub source_of : ExcerptValue → Source
 source_of x = network_source x.network x.plan
 
 -- what the table of a plan reads of a network
@@ -66,27 +66,27 @@ content_in net plan = record {
 }
 
 -- what the table of an excerpt reads
-abbrev pub content_of : Extract → Content
+abbrev pub content_of : ExcerptValue → Content
 content_of x = content_in x.network x.plan
 
 -- what is read as a source, alone
 abbrev pub content_source : Content → Source
 content_source c = source_in c.points c.sets c.plan c.tfr
 
--- what the table of a destination reads, where it has a plan
+-- what the table of a destination reads, if it has a plan
 abbrev pub content_at : Network → ℕ → Option Content
 content_at net dest = option_map (content_in net) (plan_at net.plans dest)
 
 -- the excerpt of a plan
-abbrev pub excerpt_in : Network → Plan → Extract
+abbrev pub excerpt_in : Network → Plan → ExcerptValue
 excerpt_in net plan = record { network = net; plan = plan }
 
--- the excerpt of a destination, where it has a plan
-abbrev pub excerpt_at : Network → ℕ → Option Extract
+-- the excerpt of a destination, if it has a plan
+abbrev pub excerpt_at : Network → ℕ → Option ExcerptValue
 excerpt_at net dest = option_map (excerpt_in net) (plan_at net.plans dest)
 
--- the answer to a request for an excerpt: none without a plan; want of memory comes last
-abbrev pub IsAnswer : Option Extract → Result Extract ExcerptFault → Type 0
+-- the answer to a request for an excerpt: none without a plan; out of memory comes last
+abbrev pub IsAnswer : Option ExcerptValue → Result ExcerptValue ExcerptFault → Type 0
 IsAnswer None result = result ≡ Err NoPlan
 IsAnswer (Some x) result = MatchResult result (λ e. e ≡ x) (λ fault. fault ≡ OutOfMemory)
 
@@ -95,7 +95,7 @@ abbrev pub leads : List Row → ℕ → ℕ → Bool
 leads rows y z = option_map_or (λ (row : Row). is_via row z) (row_at rows y) false
 
 -- what every excerpt keeps: the network is valid and has the plan, so it is a valid source of it; its sets have at most sixteen links in order, and its lists are in order
-pub record IsRight (x : Extract) : Type 0 where
+pub record IsRight (x : ExcerptValue) : Type 0 where
   pub network : IsValidNet x.network
   pub planned : plan_at x.network.plans x.plan.dest ≡ Some x.plan
   pub valid : IsValid (source_of x)

@@ -1,1 +1,3 @@
 pub mod Excerpts
+pub mod Index
+pub mod Around

@@ -4,20 +4,18 @@ ghost use Rattle.std.specs.Prelude.{◌≡◌, ◌↔◌, IsTrue, Some, IfOk};
 ghost use Rattle.std.specs.Option.{option_copied, option_map};
 ghost use Rattle.net_items.specs.Keyed.{IsRising};
 ghost use Rattle.net_items.specs.Lookups.{point_at, mate_of as the_mate, is_stp as stp_is, row_at, set_between as between};
-ghost use Rattle.link_sets.specs.Availability.{are_joined as joined_by};
+ghost use Rattle.link_sets.specs.Availability.{connected};
 ghost use Rattle.link_sets.specs.Neighbours.{neighbours as neighbours_of};
-ghost use Rattle.frozen_nets.specs.Around.{left_of};
-ghost use Rattle.profile.specs.Whole.{scratch};
-ghost use Rattle.excerpts.specs.Excerpts.{Extract, content_at, content_in, content_of, content_source, excerpt_at, is_read_by, source_of, IsAnswer, IsRight};
+ghost use Rattle.excerpts.specs.Around.{left_of};
+ghost use Rattle.excerpts.specs.Excerpts.{ExcerptValue, content_at, content_in, content_of, excerpt_at, is_read_by, IsAnswer, IsRight};
 
 use crate::faults::ExcerptFault;
 use crate::reading::{are_same_reads, are_same_row_points, is_read, row_in};
-use frozen_nets::{Frozen, Neighbours};
+use crate::{Frozen, Neighbours};
 use net_data::Net;
 use net_items::equals::{are_same_points, are_same_sets, is_same_plan};
-use net_items::items::{Kind, LinkSet, Plan};
-use net_items::lists::Row;
 use net_items::lookups::{find_point, is_stp};
+use net_items::{Kind, LinkSet, Plan, Row};
 use point_codes::PointCode;
 use std::alloc::AllocError;
 use std::marker::Model;
@@ -32,9 +30,9 @@ pub struct Excerpt {
 
 impl Model for Excerpt {
     ghost use Rattle.std.specs.Arc.{arc_value};
-    ghost use Rattle.excerpts.specs.Excerpts.{Extract, IsRight};
+    ghost use Rattle.excerpts.specs.Excerpts.{ExcerptValue, IsRight};
 
-    ghost Value = { Extract };
+    ghost Value = { ExcerptValue };
 
     ghost view = { λ e. record { network = e.net; plan = arc_value e.plan } };
 
@@ -78,8 +76,8 @@ fn is_same_content(net: &Net, plan: &Plan, other_net: &Net, other_plan: &Plan) -
 }
 
 impl Excerpt {
-    /// The excerpt of a destination. It shares the network and the plan. It is refused where the network has no plan for
-    /// the destination, and, last, where memory is refused.
+    /// The excerpt of a destination. It shares the network and the plan. It is refused if the network has no plan for
+    /// the destination, and, last, if memory is refused.
     pub fn of(net: &Frozen, dest: PointCode) -> Result<Excerpt, ExcerptFault>
         ensures { IsAnswer (excerpt_at net.now dest) result }
     {
@@ -99,7 +97,7 @@ impl Excerpt {
         }
     }
 
-    /// The same excerpt once more. It fails only where no further share can be counted.
+    /// The same excerpt once more. It fails only if no further share can be counted.
     pub fn share(&self) -> Result<Excerpt, AllocError>
         ensures { IfOk result (λ e. e ≡ self.now) }
     {
@@ -166,10 +164,10 @@ impl Excerpt {
     }
 
     /// Whether an available set joins two points.
-    pub fn are_joined(&self, y: PointCode, z: PointCode) -> bool
-        ensures { result ≡ joined_by self.now.network.sets y z }
+    pub fn is_connected(&self, y: PointCode, z: PointCode) -> bool
+        ensures { result ≡ connected self.now.network.sets y z }
     {
-        self.net.are_joined(y, z)
+        self.net.is_connected(y, z)
     }
 
     /// The set that joins two points, in either order.
@@ -220,9 +218,3 @@ impl Excerpt {
         }
     }
 }
-
-/// The law: the table of an excerpt is the one of what it reads alone. So excerpts that are equal have equal tables.
-pub fn same_table()
-    ensures alone { (x : Extract) → IsRight x → scratch (content_source (content_of x)) ≡ scratch (source_of x) }
-    ensures equal { (x y : Extract) → IsRight x → IsRight y → content_of x ≡ content_of y → scratch (source_of x) ≡ scratch (source_of y) }
-{}

@@ -1,15 +1,31 @@
-//! What the table of one destination reads of a network, equal by value.
+//! A network that is shared, and one destination's view of it.
 //!
-//! 1. The table of a destination reads the plan, the kinds of the row points, the mates of those whose row has the mate
+//! 1. A network that doesn't change is shared, and not copied, by all who ask. It keeps an index of adjacent points, made
+//!    once: which set is between two points, whether it is available, and who the neighbours of a point are (own).
+//!    Contracts see the network alone: the index is never seen, and never wrong.
+//! 2. Neighbours are the points that an available set joins, in rising code (own, after Q.704 clause 3.2).
+//! 3. The table of a destination reads the plan, the kinds of the row points, the mates of those whose row has the mate
 //!    flag, the transfer-restricted option, and every link set with an end that is a transfer point with a row, or
 //!    between a row's point and one of its vias (own).
-//! 2. An excerpt shares the frozen network and the plan. Two excerpts are equal where their tables read the same.
-//! 3. The table of the destination is the one of what is read alone, so equal excerpts have equal tables.
+//! 4. An excerpt shares the network and the plan. Two excerpts are equal if their tables read the same.
+//! 5. Two networks that agree on what a table reads give the same table.
+//!
+//! Stands on `net_data`, `profile`. A change here also changes specs/ (Around, Excerpts, Index), proofs/ and must-
+//! fail/.
 #![tactic(auto)]
 
 pub mod excerpt;
 pub mod faults;
+pub mod frozen;
+mod index;
+mod indexed;
+mod joints;
+pub mod laws;
+pub mod neighbours;
 pub mod reading;
 
-pub use excerpt::{Excerpt, same_table};
+pub use excerpt::Excerpt;
 pub use faults::ExcerptFault;
+pub use frozen::Frozen;
+pub use laws::same_table_law;
+pub use neighbours::Neighbours;

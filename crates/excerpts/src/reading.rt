@@ -7,11 +7,10 @@ ghost use Rattle.net_items.specs.Keyed.{IsRising};
 ghost use Rattle.net_items.specs.Lookups.{joins, row_at, is_stp as stp_is};
 ghost use Rattle.excerpts.specs.Excerpts.{kind_of as the_kind, row_point as the_row_point, leads as row_leads, is_read_by};
 
-use net_items::copies::place_of_row;
+use net_items::copies::position_of_row;
 use net_items::equals::{is_same_point, is_same_set};
-use net_items::items::{Kind, LinkSet, Plan, Point};
-use net_items::lists::Row;
 use net_items::lookups::{find_point, is_stp, mate_of};
+use net_items::{Kind, LinkSet, Plan, Point, Row};
 use plan_rows::uses::is_via;
 use point_codes::PointCode;
 
@@ -20,7 +19,7 @@ pub fn row_in(rows: &[Row], y: PointCode) -> Option<&Row>
     requires { IsRising (λ r. r.point) rows.now }
     ensures { option_copied result ≡ row_at rows.now y }
 {
-    match place_of_row(rows, y) {
+    match position_of_row(rows, y) {
         Ok(at) => Some(&rows[at]),
         Err(_) => None,
     }

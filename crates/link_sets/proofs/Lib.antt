@@ -1,3 +1,3 @@
-pub mod Lists
-pub mod Masking
-pub mod Neighbouring
+pub mod ListLemmas
+pub mod MaskLemmas
+pub mod NeighbourLemmas

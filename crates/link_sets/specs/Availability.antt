@@ -17,8 +17,8 @@ abbrev pub set_available : LinkSet → Bool
 set_available set = list_any link_available set.links
 
 -- two points are joined by an available set
-abbrev pub are_joined : List LinkSet → ℕ → ℕ → Bool
-are_joined sets y z = option_map_or set_available (set_between sets y z) false
+abbrev pub connected : List LinkSet → ℕ → ℕ → Bool
+connected sets y z = option_map_or set_available (set_between sets y z) false
 
 -- the link at position i is there and available
 abbrev pub available_at : List Link → ℕ → Bool

@@ -3,7 +3,7 @@
 ghost use Rattle.std.specs.Prelude.{◌≡◌, ◌≤◌, length};
 ghost use Rattle.std.specs.Option.{option_copied};
 ghost use Rattle.net_items.specs.Lookups.{set_between as between};
-ghost use Rattle.link_sets.specs.Availability.{set_available as has_available, are_joined as joined_by, IsMask};
+ghost use Rattle.link_sets.specs.Availability.{set_available as has_available, connected, IsMask};
 
 use net_items::LinkSet;
 use point_codes::PointCode;
@@ -18,7 +18,7 @@ pub fn set_available(set: &LinkSet) -> bool
         .any(|link| link.marks.available())
 }
 
-/// The set that joins two points, in either order; the first where there are more.
+/// The set that joins two points, in either order; the first if there are more.
 pub fn set_between(sets: &[LinkSet], y: PointCode, z: PointCode) -> Option<&LinkSet>
     ensures { option_copied result ≡ between sets.now y z }
 {
@@ -26,8 +26,8 @@ pub fn set_between(sets: &[LinkSet], y: PointCode, z: PointCode) -> Option<&Link
 }
 
 /// Whether an available set joins two points.
-pub fn are_joined(sets: &[LinkSet], y: PointCode, z: PointCode) -> bool
-    ensures { result ≡ joined_by sets.now y z }
+pub fn is_connected(sets: &[LinkSet], y: PointCode, z: PointCode) -> bool
+    ensures { result ≡ connected sets.now y z }
 {
     match set_between(sets, y, z) {
         Some(set) => set_available(set),

@@ -3,10 +3,10 @@
 ghost use Rattle.std.specs.Prelude.{◌≡◌};
 ghost use Rattle.std.specs.Option.{IfSome};
 ghost use Rattle.std.specs.Iterator.{YieldsFirst, item_count};
-ghost use Rattle.link_sets.specs.Availability.{are_joined as joined_of};
+ghost use Rattle.link_sets.specs.Availability.{connected};
 ghost use Rattle.link_sets.specs.Neighbours.{neighbours as neighbours_of, left_of, next_from, other_end_of, IsCodeFrom, IsNeighbour, IsEarlier};
 
-use crate::availability::are_joined;
+use crate::availability::is_connected;
 use net_items::LinkSet;
 use point_codes::PointCode;
 
@@ -45,7 +45,7 @@ fn earlier(
     {
         return least;
     }
-    if are_joined(sets, y, z) {
+    if is_connected(sets, y, z) {
         Some(z)
     } else {
         least
@@ -54,7 +54,7 @@ fn earlier(
 
 /// The first point of code `from` or above that an available set joins to `y`.
 pub fn next_neighbour(sets: &[LinkSet], y: PointCode, from: u16) -> Option<PointCode>
-    ensures value { result ≡ next_from (joined_of sets.now y) from }
+    ensures value { result ≡ next_from (connected sets.now y) from }
     ensures within { IfSome result (IsCodeFrom from) }
 {
     let mut least = None;

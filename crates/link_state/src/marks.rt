@@ -81,7 +81,7 @@ impl Marks {
         !(self.failed || self.blocked_a || self.blocked_b || self.inhibited_a || self.inhibited_b)
     }
 
-    /// The case of unavailability, 1 to 7, or 0 where the link is available.
+    /// The case of unavailability, 1 to 7, or 0 if the link is available.
     pub fn case(self) -> u8
         ensures value { result ≡ case_of self }
         ensures in_range { result ≤ 7 }

@@ -4,8 +4,10 @@
 //!    the lower code first; for each set AddSet and then the changes that its links need, each new link being failed alone:
 //!    Restore, Block and Inhibit of the first and of the second end; SetPlan for each plan (own).
 //! 2. None of them is refused, and together they make the network.
+//!
+//! Stands on `net_data`. A change here also changes specs/ (Building) and proofs/.
 #![tactic(auto)]
 
-pub mod building;
+pub mod laws;
 
-pub use building::rebuilt;
+pub use laws::rebuilt_law;

@@ -1,5 +1,5 @@
-pub mod Orders
-pub mod Frames
-pub mod Preserve
-pub mod Pairs
-pub mod Removals
+pub mod OrderLemmas
+pub mod FrameLemmas
+pub mod PreservationLemmas
+pub mod PairLemmas
+pub mod RemovalLemmas

@@ -111,12 +111,12 @@ changed net (on.SetPlan p) = record net { plans = put (λ (p : Plan). p.dest) (r
 changed net (on.DropPlan dest) = record net { plans = without (λ (p : Plan). p.dest) dest net.plans }
 changed net (on.SetTfr b) = record net { tfr = b }
 
--- the answer of a refusal or of a change, and the network that it leaves: the refusal and the old network, else the change, or want of memory and the old network
+-- the answer of a refusal or of a change, and the network that it leaves: the refusal and the old network, else the change, or out of memory and the old network
 abbrev pub IsAnswer : Option Refusal → Network → Network → Result (Unit {0}) Refusal → Network → Type 0
 IsAnswer (Some refusal) change old result new = (result ≡ Err refusal) × (new ≡ old)
 IsAnswer None change old result new = MatchResult result (λ _. new ≡ change) (λ e. (e ≡ OutOfMemory) × (new ≡ old))
 
--- the answer to an edit, and the network that it leaves: the first refusal, else that one change, or want of memory
+-- the answer to an edit, and the network that it leaves: the first refusal, else that one change, or out of memory
 abbrev pub Answers : Network → Event → Result (Unit {0}) Refusal → Network → Type 0
 Answers old event result new = IsAnswer (refusal_of old event) (changed old event) old result new
 

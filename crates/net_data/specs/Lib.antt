@@ -1,3 +1,4 @@
 pub mod Network
 pub mod Valid
 pub mod Edits
+pub mod Kinds

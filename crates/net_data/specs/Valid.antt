@@ -7,7 +7,7 @@ use Rattle.net_items.specs.declared.items.Plan.{Plan}
 use Rattle.net_items.specs.declared.lists.Row.{Row}
 use Rattle.net_items.specs.declared.links.Link.{Link}
 use Rattle.net_items.specs.Keyed.{IsRising}
-use Rattle.net_items.specs.Lookups.{has_point, is_stp, mate_of, joined, vias_of}
+use Rattle.net_items.specs.Lookups.{has_point, is_stp, mate_of, adjacent, vias_of}
 use Rattle.net_sets.specs.Sets.{is_distinct, is_nil, IsOnePerPair}
 use Rattle.plan_rows.specs.Rows.{all_vias, is_lower, is_free, has_mate_row, is_small_row}
 use Rattle.net_data.specs.Network.{Network}
@@ -17,7 +17,7 @@ pub record IsRightRow (points : List Point) (sets : List LinkSet) (dest : ℕ) (
   pub is_there : has_point points r.point ≡ true
   pub small : is_small_row r ≡ true
   pub not_dest : (r.point == dest) ≡ false
-  pub vias_joined : all_vias (joined sets r.point) r ≡ true
+  pub vias_joined : all_vias (adjacent sets r.point) r ≡ true
   pub vias_once : is_distinct (vias_of r) ≡ true
   pub vias_lower : all_vias (is_lower points dest rows r) r ≡ true
   pub vias_not_mate : all_vias (is_free points dest r.point) r ≡ true

@@ -5,8 +5,8 @@ ghost use Rattle.net_items.specs.Keyed.{IsRising, IsFoundAt, IsGapAt, put, edit,
 ghost use Rattle.net_items.specs.Lookups.{has_point};
 ghost use Rattle.net_data.specs.Edits.{set_mate as mate_set};
 
-use net_items::items::Point;
-use net_items::lookups::place_of_point;
+use net_items::Point;
+use net_items::lookups::position_of_point;
 use point_codes::PointCode;
 use std::alloc::AllocError;
 
@@ -16,7 +16,7 @@ pub fn put_point(points: &mut Vec<Point>, point: Point) -> Result<(), AllocError
     ensures ok { OnOk result (points.new.items ≡ put (λ p. p.code) point points.old.items) }
     ensures err { OnErr result (points.new.items ≡ points.old.items) }
 {
-    match place_of_point(points, point.code) {
+    match position_of_point(points, point.code) {
         Ok(at) => {
             points[at] = point;
         }
@@ -33,7 +33,7 @@ pub fn set_mate(points: &mut Vec<Point>, code: PointCode, mate: Option<PointCode
     requires there { has_point points.old.items code ≡ true }
     ensures { points.new.items ≡ mate_set code mate points.old.items }
 {
-    match place_of_point(points, code) {
+    match position_of_point(points, code) {
         Ok(at) => {
             let point = points[at];
             points[at] = Point {
@@ -52,7 +52,7 @@ pub fn remove_point(points: &mut Vec<Point>, code: PointCode)
     requires there { has_point points.old.items code ≡ true }
     ensures { points.new.items ≡ without (λ p. p.code) code points.old.items }
 {
-    match place_of_point(points, code) {
+    match position_of_point(points, code) {
         Ok(at) => {
             points.remove(at);
         }

@@ -3,8 +3,8 @@
 ghost use Rattle.std.specs.Prelude.{◌≡◌, ◌↔◌, IsTrue, map};
 ghost use Rattle.std.specs.Arc.{arc_value};
 
+use net_items::Plan;
 use net_items::equals::is_same_plan;
-use net_items::items::Plan;
 use std::sync::Arc;
 
 /// Whether shared plans are equal.

@@ -1,12 +1,12 @@
 //! Edits and their refusals.
 
-ghost use Rattle.std.specs.Prelude.{◌≡◌, ◌↔◌, IsTrue, IfOk};
+ghost use Rattle.std.specs.Prelude.{◌≡◌, ◌↔◌, true, IsTrue, IfOk};
+ghost use Rattle.net_data.specs.Kinds.{is_of_links, is_of_points, is_of_sets, is_of_plans};
 
 use link_state::LinkChange;
 use net_items::copies::{copy_plan, copy_slcs};
 use net_items::equals::{are_same_slcs, is_same_change, is_same_plan};
-use net_items::items::{Kind, Plan};
-use net_items::lists::Slcs;
+use net_items::{Kind, Plan, Slcs};
 pub use plan_rows::causes::Cause;
 use point_codes::PointCode;
 use std::alloc::{AllocError, Global};
@@ -40,7 +40,7 @@ pub enum Event {
     SetTfr(bool),
 }
 
-/// Why an edit is refused, in the order in which refusals are tried; want of memory alone comes last.
+/// Why an edit is refused, in the order in which refusals are tried; out of memory alone comes last.
 #[derive(Clone, Copy, Debug, PartialEq, Eq)]
 pub enum Refusal {
     /// Memory was refused.
@@ -110,28 +110,75 @@ impl Event {
     pub fn equals(&self, other: &Event) -> bool
         ensures { IsTrue result ↔ (self.now ≡ other.now) }
     {
-        match (self, other) {
-            (Event::Link(id, slc, change), Event::Link(id2, slc2, change2)) => {
-                id == id2 && slc == slc2 && is_same_change(*change, *change2)
+        match self {
+            Event::Link(..) | Event::AddLink(..) | Event::RemoveLink(..) => {
+                is_same_of_links(self, other)
             }
-            (Event::AddPoint(code, kind), Event::AddPoint(code2, kind2)) => {
-                code == code2 && kind == kind2
+            Event::AddPoint(..) | Event::RemovePoint(_) | Event::Pair(..) | Event::Unpair(_) => {
+                is_same_of_points(self, other)
             }
-            (Event::RemovePoint(code), Event::RemovePoint(code2)) => code == code2,
-            (Event::Pair(p, q), Event::Pair(p2, q2)) => p == p2 && q == q2,
-            (Event::Unpair(p), Event::Unpair(p2)) => p == p2,
-            (Event::AddSet(id, a, b, slcs), Event::AddSet(id2, a2, b2, slcs2)) => {
-                id == id2 && a == a2 && b == b2 && are_same_slcs(slcs.as_slice(), slcs2.as_slice())
+            Event::AddSet(..) | Event::RemoveSet(_) => is_same_of_sets(self, other),
+            Event::SetPlan(_) | Event::DropPlan(_) | Event::SetTfr(_) => {
+                is_same_of_plans(self, other)
             }
-            (Event::RemoveSet(id), Event::RemoveSet(id2)) => id == id2,
-            (Event::AddLink(id, slc), Event::AddLink(id2, slc2)) => id == id2 && slc == slc2,
-            (Event::RemoveLink(id, slc), Event::RemoveLink(id2, slc2)) => {
-                id == id2 && slc == slc2
-            }
-            (Event::SetPlan(plan), Event::SetPlan(plan2)) => is_same_plan(plan, plan2),
-            (Event::DropPlan(dest), Event::DropPlan(dest2)) => dest == dest2,
-            (Event::SetTfr(tfr), Event::SetTfr(tfr2)) => tfr == tfr2,
-            _ => false,
         }
+    }
+}
+
+/// Whether an event of links is equal to another.
+fn is_same_of_links(one: &Event, other: &Event) -> bool
+    requires { is_of_links one.now ≡ true }
+    ensures { IsTrue result ↔ (one.now ≡ other.now) }
+{
+    match (one, other) {
+        (Event::Link(id, slc, change), Event::Link(id2, slc2, change2)) => {
+            id == id2 && slc == slc2 && is_same_change(*change, *change2)
+        }
+        (Event::AddLink(id, slc), Event::AddLink(id2, slc2)) => id == id2 && slc == slc2,
+        (Event::RemoveLink(id, slc), Event::RemoveLink(id2, slc2)) => id == id2 && slc == slc2,
+        _ => false,
+    }
+}
+
+/// Whether an event of points or of pairs is equal to another.
+fn is_same_of_points(one: &Event, other: &Event) -> bool
+    requires { is_of_points one.now ≡ true }
+    ensures { IsTrue result ↔ (one.now ≡ other.now) }
+{
+    match (one, other) {
+        (Event::AddPoint(code, kind), Event::AddPoint(code2, kind2)) => {
+            code == code2 && kind == kind2
+        }
+        (Event::RemovePoint(code), Event::RemovePoint(code2)) => code == code2,
+        (Event::Pair(p, q), Event::Pair(p2, q2)) => p == p2 && q == q2,
+        (Event::Unpair(p), Event::Unpair(p2)) => p == p2,
+        _ => false,
+    }
+}
+
+/// Whether an event of sets is equal to another.
+fn is_same_of_sets(one: &Event, other: &Event) -> bool
+    requires { is_of_sets one.now ≡ true }
+    ensures { IsTrue result ↔ (one.now ≡ other.now) }
+{
+    match (one, other) {
+        (Event::AddSet(id, a, b, slcs), Event::AddSet(id2, a2, b2, slcs2)) => {
+            id == id2 && a == a2 && b == b2 && are_same_slcs(slcs.as_slice(), slcs2.as_slice())
+        }
+        (Event::RemoveSet(id), Event::RemoveSet(id2)) => id == id2,
+        _ => false,
+    }
+}
+
+/// Whether an event of plans or of the option is equal to another.
+fn is_same_of_plans(one: &Event, other: &Event) -> bool
+    requires { is_of_plans one.now ≡ true }
+    ensures { IsTrue result ↔ (one.now ≡ other.now) }
+{
+    match (one, other) {
+        (Event::SetPlan(plan), Event::SetPlan(plan2)) => is_same_plan(plan, plan2),
+        (Event::DropPlan(dest), Event::DropPlan(dest2)) => dest == dest2,
+        (Event::SetTfr(tfr), Event::SetTfr(tfr2)) => tfr == tfr2,
+        _ => false,
     }
 }

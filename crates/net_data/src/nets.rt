@@ -17,9 +17,8 @@ use crate::sorting::plan_in_order;
 use link_state::LinkChange;
 use net_items::copies::copy_plan;
 use net_items::equals::are_same_points;
-use net_items::items::{Kind, LinkSet, Plan, Point};
-use net_items::lists::Slcs;
 use net_items::lookups::mate_of;
+use net_items::{Kind, LinkSet, Plan, Point, Slcs};
 use net_sets::Sets;
 use net_sets::changes::new_links;
 use point_codes::PointCode;
@@ -137,7 +136,7 @@ impl Net {
         self.plans.find(dest)
     }
 
-    /// The plan of a destination, shared with the network. It fails only where no further share can be counted.
+    /// The plan of a destination, shared with the network. It fails only if no further share can be counted.
     pub fn share_plan(&self, dest: PointCode) -> Result<Option<Arc<Plan>>, AllocError>
         ensures { IfOk result (λ plan. option_map arc_value plan ≡ plan_at self.now.plans dest) }
     {
@@ -295,7 +294,7 @@ impl Net {
         self.tfr = tfr;
     }
 
-    /// An edit that isn't refused. Only want of memory fails, and not where the edit takes none.
+    /// An edit that isn't refused. Only out of memory fails, and not where the edit takes none.
     fn change(&mut self, alloc: Global, event: &Event) -> Result<(), AllocError>
         requires { the_refusal self.old event.now ≡ None }
         ensures ok { OnOk result (self.new ≡ changed self.old event.now) }
@@ -319,7 +318,7 @@ impl Net {
         Ok(())
     }
 
-    /// One edit: the first refusal, else that one change. Want of memory comes last and changes nothing.
+    /// One edit: the first refusal, else that one change. Out of memory comes last and changes nothing.
     pub fn apply(&mut self, alloc: Global, event: &Event) -> Result<(), Refusal>
         ensures answer { Answers self.old event.now result self.new }
         ensures no_memory { takes_none event.now ≡ true → result ≢ Err Refusal.OutOfMemory }

@@ -9,7 +9,7 @@ ghost use Rattle.net_items.specs.Lookups.{plan_at};
 ghost use Rattle.plan_rows.specs.Uses.{uses_pair as pair_used, uses_point as point_used, uses_set as set_used, has_flag as flagged};
 
 use crate::equals::are_same_plans;
-use net_items::items::{LinkSet, Plan, Point};
+use net_items::{LinkSet, Plan, Point};
 use plan_rows::uses::{has_flag, uses_pair, uses_point, uses_set};
 use point_codes::PointCode;
 use std::alloc::{AllocError, Global};
@@ -32,7 +32,7 @@ impl Model for Plans {
     ghost view = { λ p. map arc_value p.list.items };
 }
 
-fn place_of_plan(list: &[Arc<Plan>], dest: PointCode) -> Result<usize, usize>
+fn position_of_plan(list: &[Arc<Plan>], dest: PointCode) -> Result<usize, usize>
     requires { IsRising (λ p. p.dest) (map arc_value list.now) }
     ensures found { IfOk result (IsFoundAt (λ p. p.dest) dest (map arc_value list.now)) }
     ensures absent { IfErr result (IsGapAt (λ p. p.dest) dest (map arc_value list.now)) }
@@ -121,11 +121,11 @@ impl Plans {
     }
 
     /// The plan at a place.
-    pub fn at(&self, place: usize) -> &Plan
-        requires { place < length self.now }
-        ensures { result.now ≡ slice_index_or self.now place result.now }
+    pub fn at(&self, position: usize) -> &Plan
+        requires { position < length self.now }
+        ensures { result.now ≡ slice_index_or self.now position result.now }
     {
-        &self.list[place]
+        &self.list[position]
     }
 
     /// The plan of a destination.
@@ -133,18 +133,18 @@ impl Plans {
         requires { IsRising (λ p. p.dest) self.now }
         ensures { option_copied result ≡ plan_at self.now dest }
     {
-        match place_of_plan(self.list.as_slice(), dest) {
+        match position_of_plan(self.list.as_slice(), dest) {
             Ok(at) => Some(&self.list[at]),
             Err(_) => None,
         }
     }
 
-    /// The plan of a destination, shared. It fails only where no further share can be counted.
+    /// The plan of a destination, shared. It fails only if no further share can be counted.
     pub fn share(&self, dest: PointCode) -> Result<Option<Arc<Plan>>, AllocError>
         requires { IsRising (λ p. p.dest) self.now }
         ensures { IfOk result (λ plan. option_map arc_value plan ≡ plan_at self.now dest) }
     {
-        match place_of_plan(self.list.as_slice(), dest) {
+        match position_of_plan(self.list.as_slice(), dest) {
             Ok(at) => Ok(Some(Arc::try_clone(&self.list[at])?)),
             Err(_) => Ok(None),
         }
@@ -155,7 +155,7 @@ impl Plans {
         requires { IsRising (λ p. p.dest) self.now }
         ensures { result ≡ is_some (plan_at self.now dest) }
     {
-        match place_of_plan(self.list.as_slice(), dest) {
+        match position_of_plan(self.list.as_slice(), dest) {
             Ok(_) => true,
             Err(_) => false,
         }
@@ -169,7 +169,7 @@ impl Plans {
     {
         let dest = plan.dest;
         let shared = Arc::new(alloc, plan)?;
-        match place_of_plan(self.list.as_slice(), dest) {
+        match position_of_plan(self.list.as_slice(), dest) {
             Ok(at) => {
                 self.list[at] = shared;
             }
@@ -186,7 +186,7 @@ impl Plans {
         requires there { is_some (plan_at self.old dest) ≡ true }
         ensures { self.new ≡ without (λ p. p.dest) dest self.old }
     {
-        match place_of_plan(self.list.as_slice(), dest) {
+        match position_of_plan(self.list.as_slice(), dest) {
             Ok(at) => {
                 self.list.remove(at);
             }

@@ -1,2 +1,2 @@
-pub mod ListFacts
+pub mod ListLemmas
 pub mod KeyedLemmas

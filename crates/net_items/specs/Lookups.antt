@@ -38,8 +38,8 @@ joins y z s = (s.a == y && s.b == z) || (s.a == z && s.b == y)
 abbrev pub set_between : List LinkSet → ℕ → ℕ → Option LinkSet
 set_between sets y z = find (joins y z) sets
 
-abbrev pub joined : List LinkSet → ℕ → ℕ → Bool
-joined sets y z = is_some (set_between sets y z)
+abbrev pub adjacent : List LinkSet → ℕ → ℕ → Bool
+adjacent sets y z = is_some (set_between sets y z)
 
 abbrev pub plan_at : List Plan → ℕ → Option Plan
 plan_at plans x = at_key (λ (p : Plan). p.dest) x plans

@@ -12,7 +12,7 @@ pub enum Kind {
     Stp,
 }
 
-/// A signalling point, with its mate where it is one of a mated pair (Q.705).
+/// A signalling point, with its mate if it is one of a mated pair (Q.705).
 #[derive(Clone, Copy, Debug, PartialEq, Eq)]
 pub struct Point {
     /// The signalling point code.

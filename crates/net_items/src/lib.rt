@@ -8,6 +8,9 @@
 //!
 //! The lists inside these types are small types of their own, which contracts see as lists. Whether they make a
 //! valid network is the subject of the crate `net_data`.
+//!
+//! Stands on `point_codes`, `link_state`, `smallvec`. A change here also changes specs/ (Keyed, Lookups), proofs/ and
+//! must-fail/.
 #![tactic(auto)]
 
 pub mod copies;

@@ -9,8 +9,8 @@ use smallvec::SmallVec;
 use std::alloc::{AllocError, Global};
 use std::marker::Model;
 
-/// Where a link is, or would go.
-pub fn place_of_link(links: &[Link], slc: u8) -> Result<usize, usize>
+/// If a link is, or would go.
+pub fn position_of_link(links: &[Link], slc: u8) -> Result<usize, usize>
     requires { IsRising (λ l. l.slc) links.now }
     ensures found { IfOk result (IsFoundAt (λ l. l.slc) slc links.now) }
     ensures absent { IfErr result (IsGapAt (λ l. l.slc) slc links.now) }
@@ -70,7 +70,7 @@ impl Links {
         ensures ok { OnOk result (self.new ≡ put (λ l. l.slc) link self.old) }
         ensures err { OnErr result (self.new ≡ self.old) }
     {
-        match place_of_link(self.list.as_slice(), link.slc) {
+        match position_of_link(self.list.as_slice(), link.slc) {
             Ok(at) => {
                 self.list[at] = link;
             }
@@ -87,7 +87,7 @@ impl Links {
         requires there { is_some (at_key (λ l. l.slc) slc self.old) ≡ true }
         ensures { self.new ≡ without (λ l. l.slc) slc self.old }
     {
-        match place_of_link(self.list.as_slice(), slc) {
+        match position_of_link(self.list.as_slice(), slc) {
             Ok(at) => {
                 self.list.remove(at);
             }

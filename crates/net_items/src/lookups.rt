@@ -3,14 +3,14 @@
 ghost use Rattle.std.specs.Prelude.{◌≡◌, IfOk, IfErr};
 ghost use Rattle.std.specs.Option.{option_copied};
 ghost use Rattle.net_items.specs.Keyed.{IsRising, IsFoundAt, IsGapAt};
-ghost use Rattle.net_items.specs.Lookups.{point_at, has_point, is_stp as stp, mate_of as mate, set_between, joined, row_at};
+ghost use Rattle.net_items.specs.Lookups.{point_at, has_point, is_stp as stp, mate_of as mate, set_between, adjacent, row_at};
 
 use crate::items::{Kind, LinkSet, Point};
 use crate::lists::Row;
 use point_codes::PointCode;
 
-/// Where a point is, or would go.
-pub fn place_of_point(points: &[Point], code: PointCode) -> Result<usize, usize>
+/// If a point is, or would go.
+pub fn position_of_point(points: &[Point], code: PointCode) -> Result<usize, usize>
     requires { IsRising (λ p. p.code) points.now }
     ensures found { IfOk result (IsFoundAt (λ p. p.code) code points.now) }
     ensures absent { IfErr result (IsGapAt (λ p. p.code) code points.now) }
@@ -26,8 +26,8 @@ fn guess_of_set(sets: &[LinkSet], id: u16) -> usize {
     }
 }
 
-/// Where a set is, or would go. Mostly ids go up by one, and it is seen at once; else it is found by halves.
-pub fn place_of_set(sets: &[LinkSet], id: u16) -> Result<usize, usize>
+/// If a set is, or would go. Mostly ids go up by one, and it is seen at once; else it is found by binary search.
+pub fn position_of_set(sets: &[LinkSet], id: u16) -> Result<usize, usize>
     requires { IsRising (λ s. s.id) sets.now }
     ensures found { IfOk result (IsFoundAt (λ s. s.id) id sets.now) }
     ensures absent { IfErr result (IsGapAt (λ s. s.id) id sets.now) }
@@ -44,7 +44,7 @@ pub fn find_point(points: &[Point], code: PointCode) -> Option<Point>
     requires { IsRising (λ p. p.code) points.now }
     ensures { result ≡ point_at points.now code }
 {
-    match place_of_point(points, code) {
+    match position_of_point(points, code) {
         Ok(at) => Some(points[at]),
         Err(_) => None,
     }
@@ -92,8 +92,8 @@ pub fn find_set_between(sets: &[LinkSet], y: PointCode, z: PointCode) -> Option<
 }
 
 /// Whether a set joins two points.
-pub fn is_joined(sets: &[LinkSet], y: PointCode, z: PointCode) -> bool
-    ensures { result ≡ joined sets.now y z }
+pub fn is_adjacent(sets: &[LinkSet], y: PointCode, z: PointCode) -> bool
+    ensures { result ≡ adjacent sets.now y z }
 {
     find_set_between(sets, y, z).is_some()
 }

@@ -17,7 +17,7 @@ use Rattle.net_text.specs.Reading.{after, apply_all, named, apply_entry, apply_e
 use Rattle.net_text.specs.declared.faults.Key.{Key}
 use Rattle.net_text.specs.declared.faults.Key.TheVariants.{Points, Pairs, Sets, Plans}
 use Rattle.net_building.specs.Building.{point_event, pair_events, plan_event}
-use Rattle.net_building.proofs.Rebuilding.{network_made}
+use Rattle.net_building.proofs.RebuildingLemmas.{network_made}
 use Rattle.net_saving.specs.Writing.{point_text, pair_text, pair_texts, set_text, plan_text, document_of}
 use Rattle.net_saving.proofs.EntryLemmas.{point_reads, pair_reads, set_reads, plan_reads, IsSetText, IsPlanText}
 use Rattle.net_saving.proofs.HeldLemmas.{held_of, held_back}

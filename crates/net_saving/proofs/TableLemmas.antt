@@ -9,7 +9,7 @@ use Rattle.toml.specs.Data.{Data, Members, no_members, member, string, integer, 
 use Rattle.toml.specs.View.{members_view, items_of, view}
 use Rattle.toml.specs.declared.value.Value.{Value}
 use Rattle.net_data.specs.Network.{Network}
-use Rattle.net_saving.specs.Writing.{insert_member, insert_array, with_entries, document_of, point_text, pair_texts, set_text, plan_text}
+use Rattle.net_saving.specs.Writing.{insert_member, insert_array, insert_points, insert_pairs, insert_sets, insert_plans, insert_arrays, with_entries, document_of, point_text, pair_texts, set_text, plan_text}
 
 -- ---- a key is set
 
@@ -82,23 +82,34 @@ texts_of f (x ∷ xs) = ap (λ l. string (f x) ∷ l) (texts_of f xs)
 array_set : (k : List ℕ) (ds : List Data) (ts : List (List ℕ)) (old new ms : Members) → IsFirst k ms → new ≡ insert_array k ds old → ds ≡ map string ts → old ≡ ms → new ≡ with_entries k ts ms
 array_set k ds ts old new ms first h e o = h ∙ rw (e, o) (first_array k ms first ts)
 
-pub document_made : (net : Network) (t0 t1 t2 t3 t4 t5 t6 t7 : Members) (ps qs ss ls : List Data) (ni : ℕ) (tfr : Bool)
-    → ps ≡ map (λ x. string (point_text x)) net.points → qs ≡ map string (flat_map pair_texts net.points) → ss ≡ map (λ x. string (set_text x)) net.sets → ls ≡ map (λ x. string (plan_text x)) net.plans
-    → ni ≡ net.ni → tfr ≡ net.tfr → t0 ≡ no_members → t1 ≡ insert_member (codes "tfr") (boolean tfr) t0 → t2 ≡ insert_array (codes "sets") ss t1 → t3 ≡ insert_array (codes "points") ps t2
-    → t4 ≡ insert_array (codes "plans") ls t3 → t5 ≡ insert_array (codes "pairs") qs t4 → t6 ≡ insert_member (codes "ni") (integer (pos ni)) t5 → t7 ≡ insert_member (codes "format") (integer (pos 2)) t6
-    → t7 ≡ document_of net
-document_made net t0 t1 t2 t3 t4 t5 t6 t7 ps qs ss ls ni tfr e1 e2 e3 e4 e5 e6 h0 h1 h2 h3 h4 h5 h6 h7 =
+-- the arrays set before the truth value of `tfr`
+arrays_first : (net : Network) → insert_arrays net (last_members net.tfr) ≡ pairs_on (flat_map pair_texts net.points) (map plan_text net.plans) (map point_text net.points) (map set_text net.sets) net.tfr
+arrays_first net =
     let points = map point_text net.points in
     let pairs = flat_map pair_texts net.points in
     let sets = map set_text net.sets in
     let plans = map plan_text net.plans in
-    let m1 : t1 ≡ last_members net.tfr = h1 ∙ rw (h0, e6) refl in
-    let m2 : t2 ≡ sets_on sets net.tfr = array_set (codes "sets") ss sets t1 t2 (last_members net.tfr) (sets_first net.tfr) h2 (e3 ∙ texts_of set_text net.sets) m1 in
-    let m3 : t3 ≡ points_on points sets net.tfr = array_set (codes "points") ps points t2 t3 (sets_on sets net.tfr) (points_first sets net.tfr) h3 (e1 ∙ texts_of point_text net.points) m2 in
-    let m4 : t4 ≡ plans_on plans points sets net.tfr = array_set (codes "plans") ls plans t3 t4 (points_on points sets net.tfr) (plans_first points sets net.tfr) h4 (e4 ∙ texts_of plan_text net.plans) m3 in
-    let m5 : t5 ≡ pairs_on pairs plans points sets net.tfr = array_set (codes "pairs") qs pairs t4 t5 (plans_on plans points sets net.tfr) (pairs_first plans points sets net.tfr) h5 e2 m4 in
-    let m6 : t6 ≡ member (codes "ni") (integer (pos net.ni)) (pairs_on pairs plans points sets net.tfr) = h6 ∙ rw (m5, e5) (ni_first pairs plans points sets net.tfr (integer (pos net.ni))) in
-    h7 ∙ ap (insert_member (codes "format") (integer (pos 2))) m6
+    let t1 = last_members net.tfr in
+    let t2 = insert_sets net.sets t1 in
+    let t3 = insert_points net.points t2 in
+    let t4 = insert_plans net.plans t3 in
+    let t5 = insert_pairs net.points t4 in
+    let m2 : t2 ≡ sets_on sets net.tfr = array_set (codes "sets") _ sets t1 t2 t1 (sets_first net.tfr) refl (texts_of set_text net.sets) refl in
+    let m3 : t3 ≡ points_on points sets net.tfr = array_set (codes "points") _ points t2 t3 (sets_on sets net.tfr) (points_first sets net.tfr) refl (texts_of point_text net.points) m2 in
+    let m4 : t4 ≡ plans_on plans points sets net.tfr = array_set (codes "plans") _ plans t3 t4 (points_on points sets net.tfr) (plans_first points sets net.tfr) refl (texts_of plan_text net.plans) m3 in
+    array_set (codes "pairs") _ pairs t4 t5 (plans_on plans points sets net.tfr) (pairs_first plans points sets net.tfr) refl refl m4
+
+pub document_made : (net : Network) (t0 t1 t2 t3 t4 : Members) (ni : ℕ) (tfr : Bool) → ni ≡ net.ni → tfr ≡ net.tfr → t0 ≡ no_members → t1 ≡ insert_member (codes "tfr") (boolean tfr) t0
+    → t2 ≡ insert_arrays net t1 → t3 ≡ insert_member (codes "ni") (integer (pos ni)) t2 → t4 ≡ insert_member (codes "format") (integer (pos 2)) t3 → t4 ≡ document_of net
+document_made net t0 t1 t2 t3 t4 ni tfr e1 e2 h0 h1 h2 h3 h4 =
+    let points = map point_text net.points in
+    let pairs = flat_map pair_texts net.points in
+    let sets = map set_text net.sets in
+    let plans = map plan_text net.plans in
+    let m1 : t1 ≡ last_members net.tfr = h1 ∙ rw (h0, e2) refl in
+    let m2 : t2 ≡ pairs_on pairs plans points sets net.tfr = h2 ∙ ap (insert_arrays net) m1 ∙ arrays_first net in
+    let m3 : t3 ≡ member (codes "ni") (integer (pos net.ni)) (pairs_on pairs plans points sets net.tfr) = h3 ∙ rw (m2, e1) (ni_first pairs plans points sets net.tfr (integer (pos net.ni))) in
+    h4 ∙ ap (insert_member (codes "format") (integer (pos 2))) m3
 
 -- ---- texts in an array aren't deep
 

@@ -10,13 +10,13 @@ use Rattle.net_items.specs.declared.items.Plan.{Plan}
 use Rattle.net_items.specs.declared.links.Link.{Link}
 use Rattle.net_items.specs.declared.lists.Row.{Row}
 use Rattle.net_items.specs.Keyed.{IsRising, at_key}
-use Rattle.net_items.specs.Lookups.{point_at, has_point, joins, joined}
+use Rattle.net_items.specs.Lookups.{point_at, has_point, joins, adjacent}
 use Rattle.net_items.proofs.KeyedLemmas.{All-then}
 use Rattle.net_sets.specs.Sets.{is_nil}
 use Rattle.plan_rows.specs.Rows.{is_small_class}
 use Rattle.net_data.specs.Network.{Network}
 use Rattle.net_data.specs.Valid.{IsRightRow, IsRightPlan, IsRightSet, IsValid}
-use Rattle.net_data.proofs.Pairs.{mate_there}
+use Rattle.net_data.proofs.PairLemmas.{mate_there}
 use Rattle.point_codes.specs.Codes.{IsCode}
 use Rattle.tokens.specs.Marked.{IsMarked}
 use Rattle.tokens.specs.Rows.{IsClass, IsRow}
@@ -85,11 +85,11 @@ module _ (net : Network) (v : IsValid net) where
   pub sets_writable : AllByRecursion IsSetText net.sets
   sets_writable = All-then (λ (s : LinkSet). s.id) (IsRightSet net.points) IsSetText set_right net.sets v.sets_right
 
-  code_joined : (sets : List LinkSet) (y z : ℕ) → AllByRecursion (IsRightSet net.points) sets → joined sets y z ≡ true → IsCode z
+  code_joined : (sets : List LinkSet) (y z : ℕ) → AllByRecursion (IsRightSet net.points) sets → adjacent sets y z ≡ true → IsCode z
   code_joined [] y z right h = absurd (cc)
   code_joined (s ∷ ss) y z right h = go (joins y z s) refl (code_joined ss y z right.1)
     where
-      go : (b : Bool) → joins y z s ≡ b → (joined ss y z ≡ true → IsCode z) → IsCode z
+      go : (b : Bool) → joins y z s ≡ b → (adjacent ss y z ≡ true → IsCode z) → IsCode z
       go true t next =
           ⊎_elim
           (λ e. let ends = and_parts (eqb s.a y) (eqb s.b z) e in subst IsCode (eqb-true s.b z ends.1) (code_there s.b right.0.b_there))
@@ -97,17 +97,17 @@ module _ (net : Network) (v : IsValid net) where
           (or_cases (eqb s.a y && eqb s.b z) (eqb s.a z && eqb s.b y) t)
       go false t next = next (rw t at h)
 
-  vias_right : (y : ℕ) (vias : List ℕ) → list_all (joined net.sets y) vias ≡ true → AllByRecursion IsCode vias
+  vias_right : (y : ℕ) (vias : List ℕ) → list_all (adjacent net.sets y) vias ≡ true → AllByRecursion IsCode vias
   vias_right y [] h = tt
   vias_right y (z ∷ zs) h =
-      let parts = and_parts (joined net.sets y z) (list_all (joined net.sets y) zs) h in
+      let parts = and_parts (adjacent net.sets y z) (list_all (adjacent net.sets y) zs) h in
       (code_joined net.sets y z v.sets_right parts.0, vias_right y zs parts.1)
 
-  classes_right : (y : ℕ) (classes : List (List ℕ)) → list_all is_small_class classes ≡ true → list_all (λ vias. list_all (joined net.sets y) vias) classes ≡ true → AllByRecursion IsClass classes
+  classes_right : (y : ℕ) (classes : List (List ℕ)) → list_all is_small_class classes ≡ true → list_all (λ vias. list_all (adjacent net.sets y) vias) classes ≡ true → AllByRecursion IsClass classes
   classes_right y [] small near = tt
   classes_right y (vias ∷ classes) small near =
       let sizes = and_parts (is_small_class vias) (list_all is_small_class classes) small in
-      let ways = and_parts (list_all (joined net.sets y) vias) (list_all (λ vias. list_all (joined net.sets y) vias) classes) near in
+      let ways = and_parts (list_all (adjacent net.sets y) vias) (list_all (λ vias. list_all (adjacent net.sets y) vias) classes) near in
       let some = and_parts (not (is_nil vias)) (leb (length vias) 2) sizes.0 in
       ((some_via vias some.0, vias_right y vias ways.0), classes_right y classes sizes.1 ways.1)
 

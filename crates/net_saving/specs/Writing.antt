@@ -54,7 +54,27 @@ abbrev pub insert_member : List ℕ → Data → Members → Members
 insert_member k d no_members = member k d no_members
 insert_member k d (member l e ms) = match_ordering (slice_cmp nat_cmp k l) (member k d (member l e ms)) (member l d ms) (member l e (insert_member k d ms))
 
--- the members with a key set to an array, where that has elements
+-- the members with a key set to an array, if that has elements
 abbrev pub insert_array : List ℕ → List Data → Members → Members
 insert_array k [] ms = ms
 insert_array k (d ∷ ds) ms = insert_member k (array (items_of (d ∷ ds))) ms
+
+-- the members with the key of the points set, if there are any
+abbrev pub insert_points : List Point → Members → Members
+insert_points points ms = insert_array (codes "points") (map (λ x. string (point_text x)) points) ms
+
+-- the members with the key of the mated pairs set, if there are any
+abbrev pub insert_pairs : List Point → Members → Members
+insert_pairs points ms = insert_array (codes "pairs") (map string (flat_map pair_texts points)) ms
+
+-- the members with the key of the sets set, if there are any
+abbrev pub insert_sets : List LinkSet → Members → Members
+insert_sets sets ms = insert_array (codes "sets") (map (λ x. string (set_text x)) sets) ms
+
+-- the members with the key of the plans set, if there are any
+abbrev pub insert_plans : List Plan → Members → Members
+insert_plans plans ms = insert_array (codes "plans") (map (λ x. string (plan_text x)) plans) ms
+
+-- the members with the arrays of a network set
+abbrev pub insert_arrays : Network → Members → Members
+insert_arrays net ms = insert_pairs net.points (insert_plans net.plans (insert_points net.points (insert_sets net.sets ms)))

@@ -7,7 +7,7 @@ ghost use Rattle.toml.specs.View.{view};
 ghost use Rattle.net_saving.specs.Writing.{point_text, pair_texts, set_text, plan_text};
 
 use crate::writing::{write_pair, write_plan, write_point, write_set};
-use net_data::plans::Plans;
+use net_data::Plans;
 use net_items::{LinkSet, Point};
 use std::alloc::{AllocError, Global};
 use toml::Value;

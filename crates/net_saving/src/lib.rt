@@ -7,13 +7,13 @@
 //!    `CODE ROW ROW ..`; the crate `tokens` has the tokens. Entries stand in the order of the network, each on a line of its own.
 //! 4. A mated pair has one entry, the lower code first (own).
 //! 5. What is written reads as the network.
+//!
+//! Stands on `net_text`, `toml`. A change here also changes specs/ (Writing), proofs/ and must-fail/.
 #![tactic(auto)]
 
 mod entries;
 mod layout;
 mod saving;
-#[cfg(test)]
-mod tests;
 mod writing;
 
 pub use saving::save;

@@ -4,11 +4,12 @@ ghost use Rattle.std.specs.Prelude.{◌≡◌, map, pos, true, Ok, IfOk, OnOk, s
 ghost use Rattle.toml.specs.Data.{integer, boolean};
 ghost use Rattle.toml.specs.View.{view, table_view};
 ghost use Rattle.net_text.specs.Reading.{Says};
-ghost use Rattle.net_saving.specs.Writing.{insert_member, insert_array, document_of};
+ghost use Rattle.net_saving.specs.Writing.{insert_member, insert_array, insert_points, insert_pairs, insert_sets, insert_plans, insert_arrays, document_of};
 
 use crate::entries::{write_pairs, write_plans, write_points, write_sets};
 use crate::layout::lay_out;
-use net_data::nets::Net;
+use net_data::{Net, Plans};
+use net_items::{LinkSet, Point};
 use net_text::load;
 use std::alloc::{AllocError, Global};
 use toml::{Table, Value};
@@ -38,7 +39,7 @@ fn put_truth(alloc: Global, table: &mut Table, key: &str, truth: bool) -> Result
     put(alloc, table, key, Value::Boolean(truth))
 }
 
-/// Sets a key to an array, where it has elements.
+/// Sets a key to an array, if it has elements.
 fn put_array(
     alloc: Global,
     table: &mut Table,
@@ -53,20 +54,55 @@ fn put_array(
     put(alloc, table, key, Value::Array(values))
 }
 
+/// Sets the key of the points.
+fn put_points(alloc: Global, table: &mut Table, points: &[Point]) -> Result<(), AllocError>
+    ensures { OnOk result (table_view table.new ≡ insert_points points.now (table_view table.old)) }
+{
+    let values = write_points(alloc, points)?;
+    put_array(alloc, table, "points", values)
+}
+
+/// Sets the key of the mated pairs.
+fn put_pairs(alloc: Global, table: &mut Table, points: &[Point]) -> Result<(), AllocError>
+    ensures { OnOk result (table_view table.new ≡ insert_pairs points.now (table_view table.old)) }
+{
+    let values = write_pairs(alloc, points)?;
+    put_array(alloc, table, "pairs", values)
+}
+
+/// Sets the key of the sets.
+fn put_sets(alloc: Global, table: &mut Table, sets: &[LinkSet]) -> Result<(), AllocError>
+    ensures { OnOk result (table_view table.new ≡ insert_sets sets.now (table_view table.old)) }
+{
+    let values = write_sets(alloc, sets)?;
+    put_array(alloc, table, "sets", values)
+}
+
+/// Sets the key of the plans.
+fn put_plans(alloc: Global, table: &mut Table, plans: &Plans) -> Result<(), AllocError>
+    ensures { OnOk result (table_view table.new ≡ insert_plans plans.now (table_view table.old)) }
+{
+    let values = write_plans(alloc, plans)?;
+    put_array(alloc, table, "plans", values)
+}
+
+/// Sets the keys whose values are arrays, in falling order.
+fn put_arrays(alloc: Global, table: &mut Table, net: &Net) -> Result<(), AllocError>
+    ensures { OnOk result (table_view table.new ≡ insert_arrays net.now (table_view table.old)) }
+{
+    put_sets(alloc, table, net.sets())?;
+    put_points(alloc, table, net.points())?;
+    put_plans(alloc, table, net.plans())?;
+    put_pairs(alloc, table, net.points())
+}
+
 /// The document of a network. Its keys are set in falling order.
 fn document(alloc: Global, net: &Net) -> Result<Table, AllocError>
     ensures { IfOk result (λ table. table_view table ≡ document_of net.now) }
 {
-    let points = write_points(alloc, net.points())?;
-    let pairs = write_pairs(alloc, net.points())?;
-    let sets = write_sets(alloc, net.sets())?;
-    let plans = write_plans(alloc, net.plans())?;
     let mut table = Table::new(alloc);
     put_truth(alloc, &mut table, "tfr", net.tfr())?;
-    put_array(alloc, &mut table, "sets", sets)?;
-    put_array(alloc, &mut table, "points", points)?;
-    put_array(alloc, &mut table, "plans", plans)?;
-    put_array(alloc, &mut table, "pairs", pairs)?;
+    put_arrays(alloc, &mut table, net)?;
     put_number(alloc, &mut table, "ni", net.ni())?;
     put_number(alloc, &mut table, "format", 2)?;
     Ok(table)
@@ -99,9 +135,9 @@ fn is_read_as(alloc: Global, text: &str, net: &Net) -> bool
     }
 }
 
-/// A text that reads as the network, in format 2. It fails where memory is refused.
+/// A text that reads as the network, in format 2. It fails if memory is refused.
 ///
-/// It is laid out as a person would write it, and read before it is handed out; where it didn't read as the network, the
+/// It is laid out as a person would write it, and read before it is handed out; if it didn't read as the network, the
 /// text would be that of the crate `toml`, which is proved to.
 pub fn save(alloc: Global, net: &Net) -> Result<String, AllocError>
     ensures { IfOk result (λ text. Says (string_bytes text) (Ok net.now)) }

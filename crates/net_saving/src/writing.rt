@@ -4,11 +4,12 @@ ghost use Rattle.std.specs.Prelude.{◌≡◌, ◌++◌, ◌∷◌, false, map, 
 ghost use Rattle.std.specs.List.{flat_map};
 ghost use Rattle.point_codes.specs.Codes.{code_text};
 ghost use Rattle.tokens.specs.Kinds.{kind_text};
-ghost use Rattle.tokens.specs.Marked.{marked_text};
+ghost use Rattle.tokens.specs.Marked.{marks_text, marked_text};
 ghost use Rattle.tokens.specs.Rows.{row_text, vias_text, classes_text};
 ghost use Rattle.tokens.specs.Words.{word_if};
 ghost use Rattle.net_saving.specs.Writing.{point_text, pair_text, set_text, plan_text};
 
+use link_state::Marks;
 use net_items::{Kind, Link, LinkSet, Plan, Point, Row, Vias};
 use point_codes::PointCode;
 use std::alloc::{AllocError, Global};
@@ -23,7 +24,7 @@ fn kind_word(kind: Kind) -> &'static str
     }
 }
 
-/// Adds a word where it is wanted.
+/// Adds a word if it is wanted.
 fn put_if(text: &mut String, wanted: bool, word: &str) -> Result<(), AllocError>
     ensures { OnOk result (string_bytes text.new ≡ string_bytes text.old ++ word_if wanted word.now) }
 {
@@ -33,17 +34,24 @@ fn put_if(text: &mut String, wanted: bool, word: &str) -> Result<(), AllocError>
     Ok(())
 }
 
+/// Adds the marks of a link.
+fn put_marks(text: &mut String, marks: Marks) -> Result<(), AllocError>
+    ensures { OnOk result (string_bytes text.new ≡ string_bytes text.old ++ marks_text false marks) }
+{
+    put_if(text, marks.failed, "f")?;
+    put_if(text, marks.blocked_a, "ba")?;
+    put_if(text, marks.blocked_b, "bb")?;
+    put_if(text, marks.inhibited_a, "ia")?;
+    put_if(text, marks.inhibited_b, "ib")
+}
+
 /// A link with its marks in text.
 fn write_marked(alloc: Global, link: &Link) -> Result<String, AllocError>
     ensures { IfOk result (λ text. string_bytes text ≡ marked_text false link.now) }
 {
     let slc = link.slc;
     let mut text = format!(in alloc; "{slc}")?;
-    put_if(&mut text, link.marks.failed, "f")?;
-    put_if(&mut text, link.marks.blocked_a, "ba")?;
-    put_if(&mut text, link.marks.blocked_b, "bb")?;
-    put_if(&mut text, link.marks.inhibited_a, "ia")?;
-    put_if(&mut text, link.marks.inhibited_b, "ib")?;
+    put_marks(&mut text, link.marks)?;
     Ok(text)
 }
 

@@ -7,7 +7,7 @@ use Rattle.net_items.specs.declared.links.Link.{Link}
 use Rattle.link_state.specs.declared.marks.LinkChange.{LinkChange}
 use Rattle.net_items.specs.Keyed.{at_key, put, edit, without}
 use Rattle.link_state.specs.Marks.{marks_after}
-use Rattle.net_items.specs.Lookups.{set_at, joined}
+use Rattle.net_items.specs.Lookups.{set_at, adjacent}
 
 -- no number stands twice
 abbrev pub is_distinct : List ℕ → Bool
@@ -63,4 +63,4 @@ edit_set id f sets = edit (λ (s : LinkSet). s.id) id f sets
 -- no later set joins the ends of an earlier one
 abbrev pub IsOnePerPair : List LinkSet → Type 0
 IsOnePerPair [] = Unit {0}
-IsOnePerPair (s ∷ ss) = (joined ss s.a s.b ≡ false) × IsOnePerPair ss
+IsOnePerPair (s ∷ ss) = (adjacent ss s.a s.b ≡ false) × IsOnePerPair ss

@@ -8,10 +8,9 @@ ghost use Rattle.net_sets.specs.Sets.{with_change, with_link, without_link, has_
 ghost use Rattle.link_state.specs.Marks.{marks_after};
 
 use link_state::{LinkChange, Marks};
-use net_items::items::LinkSet;
-use net_items::links::Link;
-use net_items::lists::{Links, place_of_link};
-use net_items::lookups::place_of_set;
+use net_items::lists::position_of_link;
+use net_items::lookups::position_of_set;
+use net_items::{Link, LinkSet, Links};
 use std::alloc::{AllocError, Global};
 
 /// Puts in a set, in the place of one of its id.
@@ -20,7 +19,7 @@ pub fn put_set(sets: &mut Vec<LinkSet>, set: LinkSet) -> Result<(), AllocError>
     ensures ok { OnOk result (sets.new.items ≡ put (λ s. s.id) set sets.old.items) }
     ensures err { OnErr result (sets.new.items ≡ sets.old.items) }
 {
-    match place_of_set(sets, set.id) {
+    match position_of_set(sets, set.id) {
         Ok(at) => {
             sets[at] = set;
         }
@@ -37,7 +36,7 @@ pub fn change_link(set: &mut LinkSet, slc: u8, change: LinkChange)
     requires there { has_link slc set.old ≡ true }
     ensures { set.new ≡ with_change slc change set.old }
 {
-    match place_of_link(set.links.as_slice(), slc) {
+    match position_of_link(set.links.as_slice(), slc) {
         Ok(at) => {
             let link = set.links.as_slice()[at];
             set.links.set(
@@ -59,7 +58,7 @@ pub fn change_link_of_set(sets: &mut Vec<LinkSet>, id: u16, slc: u8, change: Lin
     requires there { set_passes (has_link slc) sets.old.items id ≡ true }
     ensures { sets.new.items ≡ edit_set id (with_change slc change) sets.old.items }
 {
-    match place_of_set(sets, id) {
+    match position_of_set(sets, id) {
         Ok(at) => {
             let set = &mut sets[at];
             change_link(set, slc, change);
@@ -87,7 +86,7 @@ pub fn add_link_to_set(sets: &mut Vec<LinkSet>, id: u16, slc: u8) -> Result<(), 
     ensures ok { OnOk result (sets.new.items ≡ edit_set id (with_link slc) sets.old.items) }
     ensures err { OnErr result (sets.new.items ≡ sets.old.items) }
 {
-    match place_of_set(sets, id) {
+    match position_of_set(sets, id) {
         Ok(at) => {
             let set = &mut sets[at];
             add_link(set, slc)
@@ -111,7 +110,7 @@ pub fn remove_link_of_set(sets: &mut Vec<LinkSet>, id: u16, slc: u8)
     requires there { set_passes (has_link slc) sets.old.items id ≡ true }
     ensures { sets.new.items ≡ edit_set id (without_link slc) sets.old.items }
 {
-    match place_of_set(sets, id) {
+    match position_of_set(sets, id) {
         Ok(at) => {
             let set = &mut sets[at];
             remove_link(set, slc);
@@ -127,7 +126,7 @@ pub fn remove_set(sets: &mut Vec<LinkSet>, id: u16) -> LinkSet
     ensures set { set_at sets.old.items id ≡ Some result }
     ensures rest { sets.new.items ≡ without (λ s. s.id) id sets.old.items }
 {
-    match place_of_set(sets, id) {
+    match position_of_set(sets, id) {
         Ok(at) => sets.remove(at),
         Err(_) => unreachable!(),
     }
@@ -138,11 +137,11 @@ pub fn new_links(alloc: Global, slcs: &[u8]) -> Result<Links, AllocError>
     ensures { IfOk result (λ l. l ≡ the_new_links slcs.now) }
 {
     let mut links = Links::from_vec(Vec::new(alloc));
-    let mut place = slcs.len();
-    while place > 0 {
-        place -= 1;
+    let mut position = slcs.len();
+    while position > 0 {
+        position -= 1;
         links.put(Link {
-            slc: slcs[place],
+            slc: slcs[position],
             marks: Marks::FAILED,
         })?;
     }

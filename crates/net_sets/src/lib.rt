@@ -6,11 +6,13 @@
 //!    of a set's links leaves it as it is (own).
 //! 3. A new set has a link and no code above 15 or twice; a new link has the failed mark alone (own, after Q.704
 //!    clause 3.2).
-//! 4. Want of memory leaves the sets as they were. Only a new set, a new link and a copy take memory.
+//! 4. Out of memory leaves the sets as they were. Only a new set, a new link and a copy take memory.
+//!
+//! Stands on `net_items`. A change here also changes specs/ (Joints, Sets), proofs/ and must-fail/.
 #![tactic(auto)]
 
 pub mod changes;
-pub mod set_tests;
+pub mod set_questions;
 pub mod sets;
 
 pub use sets::{Around, Sets};

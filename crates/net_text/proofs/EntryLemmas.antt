@@ -10,13 +10,12 @@ use Rattle.tokens.specs.Pieces.{all_of}
 use Rattle.tokens.proofs.PiecesLemmas.{onto}
 use Rattle.tokens.proofs.WordsLemmas.{nows}
 use Rattle.net_text.specs.Reading.{apply_all, after}
-use Rattle.net_text.specs.Entries.{point_of, pair_of, set_of, changes_of, set_events}
+use Rattle.net_text.specs.Entries.{point_of, pair_of, set_of, changes_of, mark_events}
 use Rattle.std.specs.List.{flat_map}
 use Rattle.net_items.specs.declared.items.LinkSet.{LinkSet}
 use Rattle.net_items.specs.declared.links.Link.{Link}
 use Rattle.link_state.specs.declared.marks.End.TheVariants.{First, Second}
 use Rattle.link_state.specs.declared.marks.LinkChange.TheVariants.{Restore, Block, Inhibit}
-use Rattle.net_data.specs.declared.events.Event.TheVariants.{AddSet}
 
 -- ---- each word in turn
 
@@ -89,6 +88,5 @@ no_set one (a ∷ b ∷ c ∷ ws) h = absurd (omega arith)
 
 -- ---- the events of a set
 
-pub set_made : (set : LinkSet) (ls : List Link) (slcs : List ℕ) (none e0 : List Event) → ls ≡ set.links → slcs ≡ map (λ (l : Link). l.slc) ls → none ≡ [] → e0 ≡ none ++ AddSet set.id set.a set.b slcs ∷ []
-    → e0 ++ flat_map (changes_of set.id ls) (Restore ∷ Block First ∷ Block Second ∷ Inhibit First ∷ Inhibit Second ∷ []) ≡ set_events set
-set_made set ls slcs none e0 h1 h2 h3 h4 = rw (h4, h3, h2, h1) refl
+pub marks_made : (set : LinkSet) (ls : List Link) → ls ≡ set.links → flat_map (changes_of set.id ls) (Restore ∷ Block First ∷ Block Second ∷ Inhibit First ∷ Inhibit Second ∷ []) ≡ mark_events set
+marks_made set ls h = rw h refl

@@ -9,7 +9,7 @@ use Rattle.net_text.specs.declared.faults.Key.TheVariants.{Format, Ni, Points, P
 use Rattle.net_text.specs.declared.faults.LoadFault.{LoadFault}
 use Rattle.net_text.specs.declared.faults.LoadFault.TheVariants.{BadKey, OutOfMemory, Read}
 use Rattle.net_text.specs.Faults.{Answer, chain}
-use Rattle.net_text.specs.Keys.{at, unsigned_of, is_format_one, has_known_keys, format_from, ni_from, bool_from, tfr_from, list_of, is_text, text_of, texts_in, texts_from, held_by}
+use Rattle.net_text.specs.Keys.{at, unsigned_of, is_format_one, has_known_keys, format_from, ni_from, bool_from, tfr_from, list_of, is_text, text_of, texts_in, texts_from, options_in, held_by}
 use Rattle.net_text.specs.Entries.{entry_of}
 use Rattle.net_text.specs.Reading.{apply_all, named, apply_entry, apply_entries, start, network_of}
 
@@ -55,18 +55,23 @@ texts_other : (key : Key) (d : Option Data) → IsOther (texts_from key d)
 texts_other key None = ok_other []
 texts_other key (Some d) = texts_in_other key (option_map list_of (as_array d))
 
+options_other : (doc : Members) → IsOther (options_in doc)
+options_other doc =
+    let number = unsigned_of (at (codes "format") doc) in
+    chain_other (format_from number) _ (format_other number) (λ one.
+    chain_other (ni_from (unsigned_of (at (codes "ni") doc))) _ (ni_other (unsigned_of (at (codes "ni") doc))) (λ ni.
+    chain_other (tfr_from (at (codes "tfr") doc)) _ (tfr_other (at (codes "tfr") doc)) (λ tfr. ok_other (one, ni, tfr))))
+
 held_other : (doc : Members) → IsOther (held_by doc)
 held_other doc =
     let number = unsigned_of (at (codes "format") doc) in
     cond_other (has_known_keys (is_format_one number) doc) _ _
-    (chain_other (format_from number) _ (format_other number) (λ one.
-    chain_other (ni_from (unsigned_of (at (codes "ni") doc))) _ (ni_other (unsigned_of (at (codes "ni") doc))) (λ ni.
-    chain_other (tfr_from (at (codes "tfr") doc)) _ (tfr_other (at (codes "tfr") doc)) (λ tfr.
+    (chain_other (options_in doc) _ (options_other doc) (λ o.
     chain_other (texts_from Points (at (codes "points") doc)) _ (texts_other Points (at (codes "points") doc)) (λ points.
     chain_other (texts_from Pairs (at (codes "pairs") doc)) _ (texts_other Pairs (at (codes "pairs") doc)) (λ pairs.
     chain_other (texts_from Sets (at (codes "sets") doc)) _ (texts_other Sets (at (codes "sets") doc)) (λ sets.
     chain_other (texts_from Plans (at (codes "plans") doc)) _ (texts_other Plans (at (codes "plans") doc)) (λ plans.
-    ok_other (record { one = one; ni = ni; tfr = tfr; points = points; pairs = pairs; sets = sets; plans = plans })))))))))
+    ok_other (record { one = o.0; ni = o.1; tfr = o.2; points = points; pairs = pairs; sets = sets; plans = plans })))))))
     (key_other Unknown)
 
 entry_other : (key : Key) (place : ℕ) (net : Network) (events : Option (List Event)) → IsOther (apply_entry key place net events)

@@ -47,10 +47,22 @@ plan_of _ = None
 abbrev pub alone : Event → List Event
 alone e = e ∷ []
 
+-- the event that adds a set, whose links are failed alone
+abbrev pub added_set : LinkSet → Event
+added_set s = on.AddSet s.id s.a s.b (map (λ (l : Link). l.slc) s.links)
+
+-- the changes that give the links of a new set their marks
+abbrev pub mark_events : LinkSet → List Event
+mark_events s = flat_map (changes_of s.id s.links) (Restore ∷ Block First ∷ Block Second ∷ Inhibit First ∷ Inhibit Second ∷ [])
+
+-- the events that the words of an entry say
+abbrev pub events_by : Key → Bool → List (List ℕ) → Option (List Event)
+events_by Points one words = option_map alone (point_of words)
+events_by Pairs one words = option_map alone (pair_of words)
+events_by Sets one words = option_map set_events (set_of one words)
+events_by Plans one words = option_map alone (plan_of words)
+events_by _ one words = None
+
 -- the events that an entry says
 abbrev pub entry_of : Key → Bool → List ℕ → Option (List Event)
-entry_of Points one text = option_map alone (point_of (words_of text))
-entry_of Pairs one text = option_map alone (pair_of (words_of text))
-entry_of Sets one text = option_map set_events (set_of one (words_of text))
-entry_of Plans one text = option_map alone (plan_of (words_of text))
-entry_of _ one text = None
+entry_of key one text = events_by key one (words_of text)

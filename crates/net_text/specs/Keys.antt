@@ -28,7 +28,7 @@ abbrev pub unsigned : ℤ → Option ℕ
 unsigned (pos n) = Some n
 unsigned (negsuc n) = None
 
--- the number that a value is, where it is one that isn't negative
+-- the number that a value is, if it is one that isn't negative
 abbrev pub unsigned_of : Option Data → Option ℕ
 unsigned_of found = option_and_then unsigned (option_and_then as_integer found)
 
@@ -47,7 +47,7 @@ abbrev pub ni_from : Option ℕ → Answer ℕ
 ni_from (Some n) = if nat_le n 3 then Ok n else Err (BadKey Ni)
 ni_from None = Err (BadKey Ni)
 
--- the option, where the value is a truth value
+-- the option, if the value is a truth value
 abbrev pub bool_from : Option Bool → Answer Bool
 bool_from None = Err (BadKey Tfr)
 bool_from (Some b) = Ok b
@@ -90,16 +90,21 @@ pub record Held : Type 0 where
   pub sets : List (List ℕ)
   pub plans : List (List ℕ)
 
+-- the format, the network indicator and the option, or the first fault of one of them
+abbrev pub options_in : Members → Answer (Bool × ℕ × Bool)
+options_in doc =
+    chain (format_from (unsigned_of (at (codes "format") doc))) (λ one.
+    chain (ni_from (unsigned_of (at (codes "ni") doc))) (λ ni.
+    chain (tfr_from (at (codes "tfr") doc)) (λ tfr. Ok (one, ni, tfr))))
+
 -- what the keys hold, or the first fault: unknown keys first, then each key in the order of the table
 abbrev pub held_by : Members → Answer Held
 held_by doc =
     if has_known_keys (is_format_one (unsigned_of (at (codes "format") doc))) doc then
-    chain (format_from (unsigned_of (at (codes "format") doc))) (λ one.
-    chain (ni_from (unsigned_of (at (codes "ni") doc))) (λ ni.
-    chain (tfr_from (at (codes "tfr") doc)) (λ tfr.
+    chain (options_in doc) (λ (one, ni, tfr).
     chain (texts_from Points (at (codes "points") doc)) (λ points.
     chain (texts_from Pairs (at (codes "pairs") doc)) (λ pairs.
     chain (texts_from Sets (at (codes "sets") doc)) (λ sets.
     chain (texts_from Plans (at (codes "plans") doc)) (λ plans.
-    Ok (record { one = one; ni = ni; tfr = tfr; points = points; pairs = pairs; sets = sets; plans = plans }))))))))
+    Ok (record { one = one; ni = ni; tfr = tfr; points = points; pairs = pairs; sets = sets; plans = plans }))))))
     else Err (BadKey Unknown)

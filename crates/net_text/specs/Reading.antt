@@ -35,24 +35,28 @@ apply_entries key one place net (text ∷ texts) = chain (apply_entry key place 
 abbrev pub start : Held → Network
 start h = changed (record { ni = h.ni; tfr = true; points = []; sets = []; plans = [] }) (SetTfr h.tfr)
 
--- the network of the entries, or their first fault; places count from 1
-abbrev pub build : Held → Answer Network
-build h =
-    chain (apply_entries Points h.one 1 (start h) h.points) (λ net.
+-- the entries of all arrays in their order, or their first fault; places count from 1
+abbrev pub apply_fields : Held → Network → Answer Network
+apply_fields h net =
+    chain (apply_entries Points h.one 1 net h.points) (λ net.
     chain (apply_entries Pairs h.one 1 net h.pairs) (λ net.
     chain (apply_entries Sets h.one 1 net h.sets) (λ net.
     apply_entries Plans h.one 1 net h.plans)))
+
+-- the network of the entries, or their first fault
+abbrev pub build : Held → Answer Network
+build h = apply_fields h (start h)
 
 -- what a document says, or its first fault: all keys come before all entries
 abbrev pub network_of : Members → Answer Network
 network_of doc = chain (held_by doc) build
 
--- the document that a text is; where it is no UTF-8 it is none
+-- the document that a text is; if it is no UTF-8 it is none
 abbrev pub IsDocument : List ℕ → Option Members → Type 0
 IsDocument text None = IsUtf8 text → parse_document text ≡ None
 IsDocument text (Some doc) = IsUtf8 text × (parse_document text ≡ Some doc)
 
--- what a document says, where the text is one
+-- what a document says, if the text is one
 abbrev pub answer_of : Option Members → Answer Network
 answer_of None = Err NotToml
 answer_of (Some doc) = network_of doc

@@ -3,11 +3,11 @@
 ghost use Rattle.std.specs.Prelude.{◌≡◌, map, option_map, IfOk};
 ghost use Rattle.tokens.specs.Pieces.{all_of};
 ghost use Rattle.tokens.specs.Rows.{row_of};
-ghost use Rattle.net_text.specs.Entries.{point_of, pair_of, plan_of, alone, entry_of};
+ghost use Rattle.net_text.specs.Entries.{point_of, pair_of, set_of, plan_of, alone, set_events, events_by, entry_of};
 
 use crate::faults::Key;
 use crate::sets::{events_of_set, read_set};
-use net_data::events::Event;
+use net_data::Event;
 use net_items::{Plan, Rows};
 use std::alloc::{AllocError, Global};
 use tokens::{read_code, read_kind, read_row, split_words};
@@ -44,7 +44,7 @@ fn read_pair(words: &[&[u8]]) -> Option<Event>
     }
 }
 
-/// The rows of a plan. `None` where a word is no ROW.
+/// The rows of a plan. `None` if a word is no ROW.
 fn read_rows(alloc: Global, words: &[&[u8]]) -> Result<Option<Rows>, AllocError>
     ensures { IfOk result (λ rows. rows ≡ all_of row_of (map (λ w. w.now) words.now)) }
 {
@@ -90,7 +90,47 @@ fn one_event(alloc: Global, event: Option<Event>) -> Result<Option<Vec<Event>>, 
     }
 }
 
-/// The events that an entry says, in format 1 (`one`) or in format 2. `None` where it can't be read.
+/// The events of an entry of a set.
+fn read_set_events(
+    alloc: Global,
+    one: bool,
+    words: &[&[u8]],
+) -> Result<Option<Vec<Event>>, AllocError>
+    ensures { IfOk result (λ events. option_map (λ v. v.items) events ≡ option_map set_events (set_of one (map (λ w. w.now) words.now))) }
+{
+    match read_set(alloc, one, words)? {
+        Some(set) => Ok(Some(events_of_set(alloc, &set)?)),
+        None => Ok(None),
+    }
+}
+
+/// The event of an entry of a plan.
+fn read_plan_event(alloc: Global, words: &[&[u8]]) -> Result<Option<Vec<Event>>, AllocError>
+    ensures { IfOk result (λ events. option_map (λ v. v.items) events ≡ option_map alone (plan_of (map (λ w. w.now) words.now))) }
+{
+    let plan = read_plan(alloc, words)?;
+    one_event(alloc, plan)
+}
+
+/// The events that the words of an entry say.
+fn read_words(
+    alloc: Global,
+    key: Key,
+    one: bool,
+    words: &[&[u8]],
+) -> Result<Option<Vec<Event>>, AllocError>
+    ensures { IfOk result (λ events. option_map (λ v. v.items) events ≡ events_by key one (map (λ w. w.now) words.now)) }
+{
+    match key {
+        Key::Points => one_event(alloc, read_point(words)),
+        Key::Pairs => one_event(alloc, read_pair(words)),
+        Key::Sets => read_set_events(alloc, one, words),
+        Key::Plans => read_plan_event(alloc, words),
+        Key::Format | Key::Ni | Key::Tfr | Key::Unknown => Ok(None),
+    }
+}
+
+/// The events that an entry says, in format 1 (`one`) or in format 2. `None` if it can't be read.
 pub fn read_entry(
     alloc: Global,
     key: Key,
@@ -100,15 +140,5 @@ pub fn read_entry(
     ensures { IfOk result (λ events. option_map (λ v. v.items) events ≡ entry_of key one text.now) }
 {
     let words = split_words(alloc, text)?;
-    let words = words.as_slice();
-    match key {
-        Key::Points => one_event(alloc, read_point(words)),
-        Key::Pairs => one_event(alloc, read_pair(words)),
-        Key::Sets => match read_set(alloc, one, words)? {
-            Some(set) => Ok(Some(events_of_set(alloc, &set)?)),
-            None => Ok(None),
-        },
-        Key::Plans => one_event(alloc, read_plan(alloc, words)?),
-        Key::Format | Key::Ni | Key::Tfr | Key::Unknown => Ok(None),
-    }
+    read_words(alloc, key, one, words.as_slice())
 }

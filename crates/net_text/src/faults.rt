@@ -1,6 +1,6 @@
 //! What can be wrong with a network text.
 
-use net_data::events::Refusal;
+use net_data::Refusal;
 
 /// A key of a network text, or one that isn't in the table.
 #[derive(Clone, Copy, Debug, PartialEq, Eq)]

@@ -5,7 +5,7 @@ ghost use Rattle.std.specs.List.{list_all};
 ghost use Rattle.std.specs.BTreeMap.{keys};
 ghost use Rattle.toml.specs.Data.{get_member, as_array};
 ghost use Rattle.toml.specs.View.{view, table_view};
-ghost use Rattle.net_text.specs.Keys.{unsigned, is_known, has_known_keys, unsigned_of, is_format_one, format_from, ni_from, tfr_from, is_text, text_of, list_of, texts_in, texts_from, held_by};
+ghost use Rattle.net_text.specs.Keys.{unsigned, is_known, has_known_keys, unsigned_of, is_format_one, format_from, ni_from, tfr_from, is_text, text_of, list_of, texts_in, texts_from, options_in, held_by};
 ghost use Rattle.net_text.specs.Shown.{held};
 
 use crate::faults::{Key, LoadFault};
@@ -28,6 +28,17 @@ pub struct Fields<'a> {
     pub sets: &'a [Value],
     /// `CODE ROW ROW ..`.
     pub plans: &'a [Value],
+}
+
+/// What the keys hold that hold no entries.
+#[derive(Clone, Copy)]
+struct Options {
+    /// Whether the format is 1, and not 2.
+    one: bool,
+    /// The network indicator, 0 to 3.
+    ni: u8,
+    /// The option of the transfer-restricted procedure.
+    tfr: bool,
 }
 
 /// Whether a key is one of the table.
@@ -92,7 +103,7 @@ fn has_format_one(table: &Table) -> bool
     }
 }
 
-/// Whether the format is 1, and not 2. `BadKey(Format)` where it is neither.
+/// Whether the format is 1, and not 2. `BadKey(Format)` if it is neither.
 fn read_format(table: &Table) -> Result<bool, LoadFault>
     ensures { result ≡ format_from (unsigned_of (get_member (codes "format") (table_view table.now))) }
 {
@@ -110,7 +121,7 @@ fn read_format(table: &Table) -> Result<bool, LoadFault>
     }
 }
 
-/// The network indicator, 0 to 3. `BadKey(Ni)` where it is missing or another value.
+/// The network indicator, 0 to 3. `BadKey(Ni)` if it is missing or another value.
 fn read_ni(table: &Table) -> Result<u8, LoadFault>
     ensures ni { IfOk result (λ n. n ≤ 3) }
     ensures answer { result ≡ ni_from (unsigned_of (get_member (codes "ni") (table_view table.now))) }
@@ -127,7 +138,7 @@ fn read_ni(table: &Table) -> Result<u8, LoadFault>
     }
 }
 
-/// The option `tfr`, on where missing. `BadKey(Tfr)` where it is no truth value.
+/// The option `tfr`, on where missing. `BadKey(Tfr)` if it is no truth value.
 fn read_tfr(table: &Table) -> Result<bool, LoadFault>
     ensures { result ≡ tfr_from (get_member (codes "tfr") (table_view table.now)) }
 {
@@ -157,7 +168,7 @@ pub fn text_in(value: &Value) -> &str
     }
 }
 
-/// The elements of an array of strings. `BadKey` where the value is no such array.
+/// The elements of an array of strings. `BadKey` if the value is no such array.
 fn read_texts(value: &Value, key: Key) -> Result<&[Value], LoadFault>
     ensures ok { IfOk result (λ values. texts_in key (option_map list_of (as_array (view value.entry.now))) ≡ Ok (map (λ v. text_of (view v)) values.now)) }
     ensures err { IfErr result (λ e. texts_in key (option_map list_of (as_array (view value.entry.now))) ≡ Err e) }
@@ -173,7 +184,7 @@ fn read_texts(value: &Value, key: Key) -> Result<&[Value], LoadFault>
     Ok(values)
 }
 
-/// The elements of the array of strings at a key, none where it is missing.
+/// The elements of the array of strings at a key, none if it is missing.
 fn texts_at<'a>(table: &'a Table, name: &str, key: Key) -> Result<&'a [Value], LoadFault>
     ensures ok { IfOk result (λ values. texts_from key (get_member name.now (table_view table.entry.now)) ≡ Ok (map (λ v. text_of (view v)) values.now)) }
     ensures err { IfErr result (λ e. texts_from key (get_member name.now (table_view table.entry.now)) ≡ Err e) }
@@ -181,6 +192,26 @@ fn texts_at<'a>(table: &'a Table, name: &str, key: Key) -> Result<&'a [Value], L
     match value_at(table, name) {
         Some(value) => read_texts(value, key),
         None => Ok(&[]),
+    }
+}
+
+/// The keys that hold no entries, or the first fault of one of them.
+fn read_options(table: &Table) -> Result<Options, LoadFault>
+    ensures ok { IfOk result (λ o. options_in (table_view table.now) ≡ Ok (o.one, o.ni, o.tfr)) }
+    ensures ni { IfOk result (λ o. o.ni ≤ 3) }
+    ensures err { IfErr result (λ e. options_in (table_view table.now) ≡ Err e) }
+{
+    let one = match read_format(table) {
+        Ok(one) => one,
+        Err(fault) => return Err(fault),
+    };
+    let ni = match read_ni(table) {
+        Ok(ni) => ni,
+        Err(fault) => return Err(fault),
+    };
+    match read_tfr(table) {
+        Ok(tfr) => Ok(Options { one, ni, tfr }),
+        Err(fault) => Err(fault),
     }
 }
 
@@ -193,9 +224,7 @@ pub fn read_fields(table: &Table) -> Result<Fields<'_>, LoadFault>
     if !has_only_keys(has_format_one(table), table) {
         return Err(LoadFault::BadKey(Key::Unknown));
     }
-    let one = read_format(table)?;
-    let ni = read_ni(table)?;
-    let tfr = read_tfr(table)?;
+    let Options { one, ni, tfr } = read_options(table)?;
     let points = texts_at(table, "points", Key::Points)?;
     let pairs = texts_at(table, "pairs", Key::Pairs)?;
     let sets = texts_at(table, "sets", Key::Sets)?;

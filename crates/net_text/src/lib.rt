@@ -10,17 +10,20 @@
 //!    before the second; SetPlan for each plan.
 //! 4. The faults come in this order: the text is no TOML; an unknown key; a bad key, in the order of rule 1; a bad
 //!    entry, in the order of rule 3, by its place, counted from 1: one that can't be read or whose event is refused.
-//!    Want of memory may come at any point.
+//!    Out of memory may come at any point.
+//!
+//! Stands on `tokens`, `net_building`, `toml`. A change here also changes specs/ (Entries, Faults, Keys, Reading,
+//! Shown), proofs/ and must-fail/.
 #![tactic(auto)]
 
 mod entries;
 mod faults;
 mod keys;
+pub mod laws;
 mod reading;
 mod sets;
-#[cfg(test)]
-mod tests;
 
 pub use faults::{Key, LoadFault};
-pub use reading::{load, says_one_answer};
+pub use laws::one_answer_law;
+pub use reading::load;
 pub use tokens::{read_code, read_id, read_kind, read_row, read_slc};

@@ -1,19 +1,16 @@
 //! Reading a network text.
 
-ghost use Rattle.std.specs.Prelude.{◌≡◌, ◌≢◌, ◌≤◌, ℕ, List, map, Ok, Err, IfOk, IfErr, OnOk};
+ghost use Rattle.std.specs.Prelude.{◌≡◌, ◌≢◌, ◌≤◌, map, Ok, Err, IfOk, IfErr, OnOk};
 ghost use Rattle.toml.specs.View.{view, table_view};
-ghost use Rattle.net_data.specs.Network.{Network};
-ghost use Rattle.net_text.specs.Faults.{Answer};
 ghost use Rattle.net_text.specs.Keys.{text_of};
 ghost use Rattle.net_text.specs.Entries.{entry_of};
-ghost use Rattle.net_text.specs.Reading.{Says, network_of, apply_all, apply_entry as entry_applied, apply_entries as entries_applied, start as started, build as built};
+ghost use Rattle.net_text.specs.Reading.{Says, network_of, apply_all, apply_entry as entry_applied, apply_entries as entries_applied, apply_fields as fields_applied, start as started, build as built};
 ghost use Rattle.net_text.specs.Shown.{held};
 
 use crate::entries::read_entry;
 use crate::faults::{Key, LoadFault};
 use crate::keys::{Fields, read_fields, text_in};
-use net_data::events::{Event, Refusal};
-use net_data::nets::Net;
+use net_data::{Event, Net, Refusal};
 use std::alloc::Global;
 use toml::{Table, Value};
 
@@ -28,7 +25,7 @@ fn apply_events(alloc: Global, net: &mut Net, events: Vec<Event>) -> Result<(), 
     Ok(())
 }
 
-/// Applies one entry: `BadLine` where it can't be read, `Refused` where an event of it is refused.
+/// Applies one entry: `BadLine` if it can't be read, `Refused` where an event of it is refused.
 fn apply_entry(
     alloc: Global,
     net: &mut Net,
@@ -84,6 +81,23 @@ fn start(alloc: Global, fields: &Fields) -> Result<Net, LoadFault>
     }
 }
 
+/// Applies the entries of all arrays in their order, up to the first fault.
+fn apply_fields(alloc: Global, net: &mut Net, fields: &Fields) -> Result<(), LoadFault>
+    ensures ok { OnOk result (fields_applied (held fields.now) net.old ≡ Ok net.new) }
+    ensures err { IfErr result (λ e. e ≢ LoadFault.OutOfMemory → fields_applied (held fields.now) net.old ≡ Err e) }
+{
+    if let Err(fault) = apply_entries(alloc, net, Key::Points, fields.one, fields.points) {
+        return Err(fault);
+    }
+    if let Err(fault) = apply_entries(alloc, net, Key::Pairs, fields.one, fields.pairs) {
+        return Err(fault);
+    }
+    if let Err(fault) = apply_entries(alloc, net, Key::Sets, fields.one, fields.sets) {
+        return Err(fault);
+    }
+    apply_entries(alloc, net, Key::Plans, fields.one, fields.plans)
+}
+
 /// The network of the entries, or their first fault, with their places counted from 1.
 fn build(alloc: Global, fields: &Fields) -> Result<Net, LoadFault>
     requires { fields.now.ni ≤ 3 }
@@ -91,10 +105,7 @@ fn build(alloc: Global, fields: &Fields) -> Result<Net, LoadFault>
     ensures err { IfErr result (λ e. e ≢ LoadFault.OutOfMemory → built (held fields.now) ≡ Err e) }
 {
     let mut net = start(alloc, fields)?;
-    apply_entries(alloc, &mut net, Key::Points, fields.one, fields.points)?;
-    apply_entries(alloc, &mut net, Key::Pairs, fields.one, fields.pairs)?;
-    apply_entries(alloc, &mut net, Key::Sets, fields.one, fields.sets)?;
-    apply_entries(alloc, &mut net, Key::Plans, fields.one, fields.plans)?;
+    apply_fields(alloc, &mut net, fields)?;
     Ok(net)
 }
 
@@ -127,8 +138,3 @@ pub fn load(alloc: Global, text: &[u8]) -> Result<Net, LoadFault>
         }
     }
 }
-
-/// The law: a text says at most one answer, so what `load` answers is the answer.
-pub fn says_one_answer()
-    ensures { (text : List ℕ) (a b : Answer Network) → Says text a → Says text b → a ≡ b }
-{}

@@ -5,15 +5,15 @@ ghost use Rattle.point_codes.specs.Codes.{code_of};
 ghost use Rattle.tokens.specs.Numbers.{id_of};
 ghost use Rattle.tokens.specs.Marked.{marked_of};
 ghost use Rattle.tokens.specs.Pieces.{all_of};
-ghost use Rattle.net_text.specs.Entries.{set_of, set_from, is_needed, changes_of, set_events};
+ghost use Rattle.net_text.specs.Entries.{set_of, set_from, is_needed, changes_of, added_set, mark_events, set_events};
 
 use link_state::{End, LinkChange, Marks};
-use net_data::events::Event;
+use net_data::Event;
 use net_items::{Link, LinkSet, Links, Slcs};
 use std::alloc::{AllocError, Global};
 use tokens::{read_code, read_id, read_marked};
 
-/// The links of a set, with their marks. `None` where a word is no MARKED.
+/// The links of a set, with their marks. `None` if a word is no MARKED.
 fn read_links(alloc: Global, one: bool, words: &[&[u8]]) -> Result<Option<Links>, AllocError>
     ensures { IfOk result (λ links. links ≡ all_of (marked_of one) (map (λ w. w.now) words.now)) }
 {
@@ -95,18 +95,33 @@ fn slcs_of(alloc: Global, links: &[Link]) -> Result<Vec<u8>, AllocError>
     links.iter().map(|link| link.slc).collect(alloc)
 }
 
+/// The event that adds a set, whose links are failed alone.
+fn addition_of(alloc: Global, set: &LinkSet) -> Result<Event, AllocError>
+    ensures { IfOk result (λ event. event ≡ added_set set.now) }
+{
+    let slcs = slcs_of(alloc, set.links.as_slice())?;
+    Ok(Event::AddSet(set.id, set.a, set.b, Slcs::from_vec(slcs)))
+}
+
+/// Adds the changes that give the links of a new set their marks.
+fn add_marks(events: &mut Vec<Event>, set: &LinkSet) -> Result<(), AllocError>
+    ensures { OnOk result (events.new.items ≡ events.old.items ++ mark_events set.now) }
+{
+    let links = set.links.as_slice();
+    add_changes(events, set.id, links, LinkChange::Restore)?;
+    add_changes(events, set.id, links, LinkChange::Block(End::First))?;
+    add_changes(events, set.id, links, LinkChange::Block(End::Second))?;
+    add_changes(events, set.id, links, LinkChange::Inhibit(End::First))?;
+    add_changes(events, set.id, links, LinkChange::Inhibit(End::Second))?;
+    Ok(())
+}
+
 /// The events that build a set: it is added, then its links, which are failed alone, get their marks.
 pub fn events_of_set(alloc: Global, set: &LinkSet) -> Result<Vec<Event>, AllocError>
     ensures { IfOk result (λ events. events.items ≡ set_events set.now) }
 {
-    let links = set.links.as_slice();
-    let slcs = Slcs::from_vec(slcs_of(alloc, links)?);
-    let mut events = Vec::new(alloc);
-    events.push(Event::AddSet(set.id, set.a, set.b, slcs))?;
-    add_changes(&mut events, set.id, links, LinkChange::Restore)?;
-    add_changes(&mut events, set.id, links, LinkChange::Block(End::First))?;
-    add_changes(&mut events, set.id, links, LinkChange::Block(End::Second))?;
-    add_changes(&mut events, set.id, links, LinkChange::Inhibit(End::First))?;
-    add_changes(&mut events, set.id, links, LinkChange::Inhibit(End::Second))?;
+    let addition = addition_of(alloc, set)?;
+    let mut events = vec![in alloc; addition]?;
+    add_marks(&mut events, set)?;
     Ok(events)
 }

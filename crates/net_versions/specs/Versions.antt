@@ -5,18 +5,18 @@ use Rattle.net_data.specs.declared.events.Event.{Event}
 use Rattle.net_data.specs.Network.{Network}
 use Rattle.profile.specs.declared.tables.Table.{Table}
 use Rattle.profile.specs.Whole.{scratch}
-use Rattle.excerpts.specs.Excerpts.{Extract, excerpt_at, excerpt_in, source_of}
+use Rattle.excerpts.specs.Excerpts.{ExcerptValue, excerpt_at, excerpt_in, source_of}
 
 -- its number, the events since the version before, and its network, which says all else
-pub record Published : Type 0 where
+pub record VersionValue : Type 0 where
   pub number : ℕ
   pub batch : List Event
   pub network : Network
 
 -- the excerpts of all planned destinations, in rising code
-abbrev pub excerpts : Network → List Extract
+abbrev pub excerpts : Network → List ExcerptValue
 excerpts net = map (excerpt_in net) net.plans
 
 -- what a version tells of a destination: the table of its settled routing
-abbrev pub table_told : Published → ℕ → Option Table
+abbrev pub table_told : VersionValue → ℕ → Option Table
 table_told version dest = option_map (λ x. scratch (source_of x)) (excerpt_at version.network dest)

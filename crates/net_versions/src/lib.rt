@@ -4,6 +4,8 @@
 //! 2. It has the settled routing of each planned destination of its network, and of no other; each is the one of its own
 //!    network, from scratch.
 //! 3. Versions share routings that are the same.
+//!
+//! Stands on `transfer_state`. A change here also changes specs/ (Versions), proofs/ and must-fail/.
 #![tactic(auto)]
 
 pub mod version;

@@ -7,8 +7,7 @@ ghost use Rattle.net_items.specs.Keyed.{IsRising, IsFoundAt, IsGapAt};
 ghost use Rattle.excerpts.specs.Excerpts.{excerpt_at, excerpt_in};
 ghost use Rattle.net_versions.specs.Versions.{excerpts as all_excerpts};
 
-use excerpts::Excerpt;
-use frozen_nets::Frozen;
+use excerpts::{Excerpt, Frozen};
 use net_data::{Event, Net};
 use point_codes::PointCode;
 use std::alloc::{AllocError, Global};
@@ -26,9 +25,9 @@ pub struct Version {
 
 impl Model for Version {
     ghost use Rattle.std.specs.Prelude.{◌≡◌};
-    ghost use Rattle.net_versions.specs.Versions.{Published, excerpts};
+    ghost use Rattle.net_versions.specs.Versions.{VersionValue, excerpts};
 
-    ghost Value = { Published };
+    ghost Value = { VersionValue };
 
     ghost view = { λ v. record { number = v.number; batch = v.batch.items; network = v.net } };
 
@@ -36,7 +35,7 @@ impl Model for Version {
 }
 
 /// The place of the routing towards a destination, or where it would go.
-fn place_of_routing(routings: &[Routing], dest: PointCode) -> Result<usize, usize>
+fn position_of_routing(routings: &[Routing], dest: PointCode) -> Result<usize, usize>
     requires { IsRising (λ x. x.plan.dest) routings.now }
     ensures found { IfOk result (IsFoundAt (λ x. x.plan.dest) dest routings.now) }
     ensures absent { IfErr result (IsGapAt (λ x. x.plan.dest) dest routings.now) }
@@ -45,12 +44,12 @@ fn place_of_routing(routings: &[Routing], dest: PointCode) -> Result<usize, usiz
 }
 
 /// The settled routing of the plan in a place of a network's plans.
-fn routing_in(alloc: Global, net: &Frozen, place: usize) -> Result<Routing, AllocError>
-    requires { place < length net.now.plans }
-    ensures { IfOk result (λ r. (d : Plan) → r ≡ excerpt_in net.now (slice_index_or net.now.plans place d)) }
+fn routing_in(alloc: Global, net: &Frozen, position: usize) -> Result<Routing, AllocError>
+    requires { position < length net.now.plans }
+    ensures { IfOk result (λ r. (d : Plan) → r ≡ excerpt_in net.now (slice_index_or net.now.plans position d)) }
 {
     net.validity();
-    let dest = net.net().plans().at(place).dest;
+    let dest = net.net().plans().at(position).dest;
     let excerpt = match Excerpt::of(net, dest) {
         Ok(excerpt) => excerpt,
         Err(_) => return Err(AllocError),
@@ -67,8 +66,8 @@ fn all_routings(alloc: Global, net: &Frozen) -> Result<Vec<Routing>, AllocError>
 {
     let plans = net.net().plans();
     let mut routings = Vec::with_capacity(alloc, plans.len())?;
-    for place in 0..plans.len() {
-        routings.push(routing_in(alloc, net, place)?)?;
+    for position in 0..plans.len() {
+        routings.push(routing_in(alloc, net, position)?)?;
     }
     Ok(routings)
 }
@@ -135,7 +134,7 @@ impl Version {
         ensures { option_copied result ≡ excerpt_at self.now.network dest }
     {
         self.net.validity();
-        match place_of_routing(self.routings.as_slice(), dest) {
+        match position_of_routing(self.routings.as_slice(), dest) {
             Ok(at) => Some(&self.routings[at]),
             Err(_) => None,
         }

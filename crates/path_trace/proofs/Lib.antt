@@ -1,2 +1,2 @@
-pub mod Following
-pub mod Telling
+pub mod FollowingLemmas
+pub mod TellingLemmas

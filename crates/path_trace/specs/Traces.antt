@@ -9,19 +9,19 @@ use Rattle.profile.specs.declared.hops.Hop.{Hop}
 use Rattle.profile.specs.declared.hops.Trace.{Trace}
 use Rattle.profile.specs.Status.{Source, rank_of, status}
 use Rattle.profile.specs.Traces.{trace_of, hops_in, Leads}
-use Rattle.excerpts.specs.Excerpts.{Extract, excerpt_in, network_source, source_of}
+use Rattle.excerpts.specs.Excerpts.{ExcerptValue, excerpt_in, network_source, source_of}
 use Rattle.path_trace.specs.declared.faults.TraceFault.{TraceFault}
 use Rattle.path_trace.specs.declared.faults.TraceFault.TheVariants.{OutOfMemory, NoPlan, NoRow}
 
--- the trace from a point by one plan: refused where it has no row, else its hops, none where it stops
-abbrev pub trace_by : Extract → ℕ → ℕ → Result (Option (List Hop)) TraceFault
+-- the trace from a point by one plan: refused if it has no row, else its hops, none if it stops
+abbrev pub trace_by : ExcerptValue → ℕ → ℕ → Result (Option (List Hop)) TraceFault
 trace_by x y s = option_map_or (λ row. Ok (trace_of (source_of x) y s)) (row_at x.plan.rows y) (Err NoRow)
 
--- what there is about a trace: refused where the destination has no plan, then where the point has no row; else its hops, none where it stops
+-- what there is about a trace: refused if the destination has no plan, then if the point has no row; else its hops, none if it stops
 abbrev pub trace_at : Network → ℕ → ℕ → ℕ → Result (Option (List Hop)) TraceFault
 trace_at net y x s = option_map_or (λ plan. trace_by (excerpt_in net plan) y s) (plan_at net.plans x) (Err NoPlan)
 
--- an answer: the refusal, else the trace, or want of memory
+-- an answer: the refusal, else the trace, or out of memory
 abbrev pub IsAnswer : Result (Option (List Hop)) TraceFault → Result Trace TraceFault → Type 0
 IsAnswer (Err fault) result = result ≡ Err fault
 IsAnswer (Ok hops) result = MatchResult result (λ trace. hops_in trace ≡ hops) (λ fault. fault ≡ OutOfMemory)

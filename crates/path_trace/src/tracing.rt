@@ -10,11 +10,11 @@ ghost use Rattle.path_trace.specs.Traces.{trace_at, trace_by as trace_from, IsAn
 use crate::faults::TraceFault;
 use net_versions::Version;
 use point_codes::PointCode;
-use profile::hops::{Hops, Trace};
+use profile::{Hops, Trace};
 use std::alloc::{AllocError, Global};
 use transfer_state::Routing;
 
-/// The hops from a point to the destination of a routing: stopped where there is no next one, or where twice the rank of
+/// The hops from a point to the destination of a routing: stopped if there is no next one, or where twice the rank of
 /// them don't suffice.
 fn follow(
     alloc: Global,
@@ -61,11 +61,11 @@ fn trace_by(alloc: Global, routing: &Routing, y: PointCode, s: u8) -> Result<Tra
 }
 
 /// The trace of a signalling link selection `s`, 0 to 15, from a point to a destination through a published version: the
-/// links that it follows, or that it stops (Q.704 clause 2.3). It is refused where the destination has no plan, and then
-/// where the point has no row; want of memory comes last.
+/// links that it follows, or that it stops (Q.704 clause 2.3). It is refused if the destination has no plan, and then
+/// if the point has no row; out of memory comes last.
 ///
 /// - `answer`: the trace is the profile's.
-/// - `law`: where it stops the status of the point is prohibited. Else its hops lead from the point to the destination,
+/// - `law`: if it stops the status of the point is prohibited. Else its hops lead from the point to the destination,
 ///   and are at most twice the rank.
 pub fn trace(
     alloc: Global,

@@ -56,7 +56,7 @@ equal-between (r ∷ rs) z rank none =
     let here : (eqb r.point z && ltb r.rank (rank + 1)) ≡ (eqb r.point z && eqb r.rank rank) = grind (arith, nat_tests) in
     rw (here, rest) refl
 
--- no row of a rank where none is below the next
+-- no row of a rank if none is below the next
 equal-none : (rows : List Row) (z rank : ℕ) → has_lower_row rows z (rank + 1) ≡ false → has_equal_row rows z rank ≡ false
 equal-none [] z rank none = refl
 equal-none (r ∷ rs) z rank none =

@@ -104,7 +104,7 @@ twice_first z others later some =
     let yes : list_any (λ y. eqb y z) (others ++ concat_vias later) ≡ true = both_any (λ y. eqb y z) others later ∙ some in
     rw yes refl
 
--- a point is there exactly where its code is among the codes
+-- a point is there exactly if its code is among the codes
 codes_there : (points : List Point) (c : ℕ) → list_any (λ y. eqb y c) (map (λ (p : Point). p.code) points) ≡ has_point points c
 codes_there [] c = refl
 codes_there (p ∷ ps) c = go (eqb p.code c) refl (codes_there ps c)

@@ -5,7 +5,7 @@ use Rattle.std.specs.Option.{option_map, option_or}
 use Rattle.net_items.specs.declared.items.Point.{Point}
 use Rattle.net_items.specs.declared.items.LinkSet.{LinkSet}
 use Rattle.net_items.specs.declared.lists.Row.{Row}
-use Rattle.net_items.specs.Lookups.{joined, vias_of}
+use Rattle.net_items.specs.Lookups.{adjacent, vias_of}
 use Rattle.net_sets.specs.Sets.{is_distinct, is_nil}
 use Rattle.plan_rows.specs.declared.causes.Cause.{Cause}
 use Rattle.plan_rows.specs.declared.causes.Cause.TheVariants.{IsDest, Twice, NotJoined, ViaTwice, NotLower, ViaMate, BadMate, NoRoute}
@@ -26,7 +26,7 @@ abbrev pub cause_of : List Point → List LinkSet → ℕ → List Row → List 
 cause_of points sets dest rows earlier r = first (
     when (r.point == dest) IsDest
     ∷ when (list_any (λ (other : Row). other.point == r.point) earlier) Twice
-    ∷ when (not (all_vias (joined sets r.point) r)) NotJoined
+    ∷ when (not (all_vias (adjacent sets r.point) r)) NotJoined
     ∷ when (not (is_distinct (vias_of r))) ViaTwice
     ∷ when (not (all_vias (is_lower points dest rows r) r)) NotLower
     ∷ when (not (all_vias (is_free points dest r.point) r)) ViaMate

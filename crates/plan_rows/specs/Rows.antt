@@ -5,7 +5,7 @@ use Rattle.std.specs.Option.{option_map_or}
 use Rattle.net_items.specs.declared.items.Point.{Point}
 use Rattle.net_items.specs.declared.items.LinkSet.{LinkSet}
 use Rattle.net_items.specs.declared.lists.Row.{Row}
-use Rattle.net_items.specs.Lookups.{is_stp, mate_of, joined}
+use Rattle.net_items.specs.Lookups.{is_stp, mate_of, adjacent}
 use Rattle.net_sets.specs.Sets.{is_nil}
 
 -- each via passes
@@ -38,7 +38,7 @@ is_lower points dest rows r z = z == dest || (is_stp points z && has_lower_row r
 
 -- the row's point is a transfer point whose mate is joined to it, is not the destination and has a row of the same rank
 abbrev pub has_mate_row : List Point → List LinkSet → ℕ → List Row → Row → Bool
-has_mate_row points sets dest rows r = is_stp points r.point && option_map_or (λ m. joined sets r.point m && (not (m == dest) && has_equal_row rows m r.rank)) (mate_of points r.point) false
+has_mate_row points sets dest rows r = is_stp points r.point && option_map_or (λ m. adjacent sets r.point m && (not (m == dest) && has_equal_row rows m r.rank)) (mate_of points r.point) false
 
 -- a via that is not the point's mate, unless it is the destination
 abbrev pub is_free : List Point → ℕ → ℕ → ℕ → Bool

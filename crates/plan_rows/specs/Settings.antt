@@ -8,7 +8,7 @@ use Rattle.plan_rows.specs.Ranks.{IsRanks}
 use Rattle.plan_rows.specs.Transfers.{IsTransfers}
 
 -- the points, and a plan's destination and rows
-pub record Planned : Type 0 where
+pub record SettingValue : Type 0 where
   pub points : List Point
   pub dest : ℕ
   pub rows : List Row

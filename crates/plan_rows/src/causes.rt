@@ -11,14 +11,13 @@ ghost use Rattle.plan_rows.specs.Settings.{HaveTransferMates};
 ghost use Rattle.plan_rows.specs.Causes.{cause_of as the_cause, wrong_row as the_wrong_row};
 
 use crate::ranks::note_ranks;
-use crate::row_tests::{
+use crate::row_questions::{
     are_vias_joined, are_vias_lower, are_vias_no_mates, has_mate_row, is_small_row,
 };
 use crate::seen::{are_vias_once, is_seen, see, see_points};
 use crate::setting::Setting;
 use crate::transfers::note_transfers;
-use net_items::items::Point;
-use net_items::lists::Row;
+use net_items::{Point, Row};
 use net_sets::Sets;
 use point_codes::PointCode;
 
@@ -135,9 +134,9 @@ pub fn wrong_row(points: &[Point], sets: &Sets, dest: PointCode, rows: &[Row]) -
     note_ranks(&mut ranks, rows);
     note_transfers(&mut transfers, points);
     let setting = Setting::new(points, &transfers, dest, rows, &ranks);
-    for place in 0..rows.len() {
-        let row = &rows[place];
-        let earlier = &rows[..place];
+    for position in 0..rows.len() {
+        let row = &rows[position];
+        let earlier = &rows[..position];
         let twice = see(&mut seen, row.point);
         let once = are_vias_once(row);
         let cause = cause_of(&setting, sets, earlier, row, twice, once);

@@ -7,14 +7,17 @@
 //!    rank; it has neither a class nor the mate flag (own).
 //! 2. "A row of lower rank" and "a row of the same rank" speak of any row of that point in the plan, before or after.
 //!    The first wrong row is the first in the order given.
-//! 3. A row uses the vias of its classes, and its point's mate where it has the mate flag; a plan uses its destination
+//! 3. A row uses the vias of its classes, and its point's mate if it has the mate flag; a plan uses its destination
 //!    and the points of its rows (own).
 //! 4. Questions of all rows are answered with tables by code, on the stack: nothing here takes memory.
+//!
+//! Stands on `net_sets`. A change here also changes specs/ (Causes, Ranks, Rows, Seen, Settings, Transfers, Uses),
+//! proofs/ and must-fail/.
 #![tactic(auto)]
 
 pub mod causes;
 pub mod ranks;
-pub mod row_tests;
+pub mod row_questions;
 pub mod seen;
 pub mod setting;
 pub mod transfers;

@@ -6,7 +6,7 @@ ghost use Rattle.net_items.specs.declared.lists.Row.{Row};
 ghost use Rattle.plan_rows.specs.Rows.{has_lower_row, has_equal_row};
 ghost use Rattle.plan_rows.specs.Ranks.{IsRanks};
 
-use net_items::lists::Row;
+use net_items::Row;
 use point_codes::PointCode;
 
 /// The lesser of what is noted of a point, 0 for nothing, and one more than a rank.
@@ -76,6 +76,6 @@ pub fn has_same(ranks: &[u16], rows: &[Row], z: PointCode, rank: u8) -> bool
     if wanted < noted {
         return false;
     }
-    // A lower rank is noted: a row of this rank is there only where the point has two.
+    // A lower rank is noted: a row of this rank is there only if the point has two.
     find_equal(rows, z, rank)
 }

@@ -7,8 +7,7 @@ ghost use Rattle.net_sets.specs.Sets.{is_distinct as distinct};
 ghost use Rattle.plan_rows.specs.Seen.{IsSeen};
 
 use crate::uses::{is_in, is_in_any};
-use net_items::items::Point;
-use net_items::lists::{Row, Vias};
+use net_items::{Point, Row, Vias};
 use point_codes::PointCode;
 
 /// Marks the vias of a class. The answer is whether each was new.

@@ -6,9 +6,8 @@ ghost use Rattle.plan_rows.specs.Rows.{has_lower_row, has_equal_row};
 ghost use Rattle.net_items.specs.Lookups.{is_stp as stp, mate_of as mate};
 
 use crate::ranks::{has_lower, has_same};
-use net_items::items::Point;
-use net_items::lists::Row;
 use net_items::lookups::mate_of;
+use net_items::{Point, Row};
 use point_codes::PointCode;
 use std::marker::Model;
 
@@ -23,9 +22,9 @@ pub struct Setting<'a> {
 }
 
 impl<'a> Model for Setting<'a> {
-    ghost use Rattle.plan_rows.specs.Settings.{Planned, IsSetting};
+    ghost use Rattle.plan_rows.specs.Settings.{SettingValue, IsSetting};
 
-    ghost Value = { Planned };
+    ghost Value = { SettingValue };
 
     ghost view = { λ s. record { points = s.points.now; dest = s.dest; rows = s.rows.now } };
 

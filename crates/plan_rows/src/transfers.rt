@@ -6,7 +6,7 @@ ghost use Rattle.net_items.specs.Keyed.{IsRising};
 ghost use Rattle.plan_rows.specs.Transfers.{IsTransfers};
 ghost use Rattle.net_items.specs.Lookups.{has_point};
 
-use net_items::items::{Kind, Point};
+use net_items::{Kind, Point};
 
 fn note_point(transfers: &mut [bool], point: &Point)
     requires { length transfers.old ≡ 16384 }

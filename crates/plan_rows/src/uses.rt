@@ -6,9 +6,8 @@ ghost use Rattle.net_items.specs.Keyed.{IsRising};
 ghost use Rattle.plan_rows.specs.Rows.{is_via as via};
 ghost use Rattle.plan_rows.specs.Uses.{row_uses as row_used, either_uses as either_used, uses_pair as pair_used, is_row_of as row_of, uses_point as point_used, is_flagged as flagged, has_flag as some_flagged, row_leads as row_led, either_leads as either_led, uses_set as set_used};
 
-use crate::row_tests::is_mate;
-use net_items::items::{LinkSet, Plan, Point};
-use net_items::lists::{Row, Vias};
+use crate::row_questions::is_mate;
+use net_items::{LinkSet, Plan, Point, Row, Vias};
 use point_codes::PointCode;
 
 /// Whether a point is among these.

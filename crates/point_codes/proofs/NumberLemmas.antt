@@ -48,7 +48,7 @@ first_of_map : (ds : List ℕ) → 0 < get_or ds 0 0 → get_or (map (λ d. 48 +
 first_of_map [] h = absurd (omega arith)
 first_of_map (d ∷ ds) h = refl
 
--- a number's text begins with 0 only where it is 0
+-- a number's text begins with 0 only if it is 0
 first_digit : (n : ℕ) → n < 2 ^ 64 → get_or (decimal n) 0 0 ≡ 48 → length (decimal n) ≡ 1
 first_digit n small zero = elim (cases_lt 0 n) [
   | inl above ↦

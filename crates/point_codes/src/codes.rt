@@ -1,7 +1,7 @@
 //! A point code, its number and its text.
 
-ghost use Rattle.std.specs.Prelude.{◌≡◌, ◌<◌, ◌≤◌, ◌↔◌, ◌/◌, ◌%◌, ◌++◌, ℕ, List, Some, None, IsSome, IfSome, MatchResult, OnOk, OnErr, string_bytes};
-ghost use Rattle.point_codes.specs.Codes.{code_of, code_text, IsCode};
+ghost use Rattle.std.specs.Prelude.{◌≡◌, ◌<◌, ◌↔◌, ◌/◌, ◌%◌, ◌++◌, ℕ, Some, None, IsSome, IfSome, MatchResult, OnOk, OnErr, string_bytes};
+ghost use Rattle.point_codes.specs.Codes.{code_of, code_text};
 
 use crate::numbers::{read_number, split_at_byte};
 use std::alloc::{AllocError, Global};
@@ -85,7 +85,7 @@ impl PointCode {
         (self.number % 8) as u8
     }
 
-    /// Appends the code's text. Where memory is wanting, the text stays as it was.
+    /// Appends the code's text. Where memory runs out, the text stays as it was.
     pub fn put_text(&self, alloc: Global, text: &mut String) -> Result<(), AllocError>
         ensures ok { OnOk result (string_bytes text.new ≡ string_bytes text.old ++ code_text self.now) }
         ensures err { OnErr result (string_bytes text.new ≡ string_bytes text.old) }
@@ -120,8 +120,3 @@ fn read_parts(text: &[u8]) -> Option<PointCode>
     let p = read_number(point, 7)?;
     PointCode::new((z * 2048 + a * 8 + p) as u16)
 }
-
-/// The law: a text is read as a code exactly where it is that code's text.
-pub fn code_tokens()
-    ensures { (n : ℕ) (text : List ℕ) → (code_of text ≡ Some n) ↔ (IsCode n × (text ≡ code_text n)) }
-{}

@@ -6,16 +6,18 @@
 //! 4. All 16,384 codes are allowed (own).
 //! 5. A transfer message has a service information octet, a routing label, a heading and the code of the destination
 //!    concerned (Q.704 clauses 14.2, 15.2 and 15.7 to 15.9).
+//!
+//! Stands on `thiserror`. A change here also changes specs/ (Codes, Numbers, Octets), proofs/ and must-fail/.
 #![tactic(auto)]
 
 pub mod codes;
 pub mod kinds;
+pub mod laws;
 pub mod numbers;
 pub mod octets;
-#[cfg(test)]
-mod tests;
 
-pub use codes::{BadCode, PointCode, code_tokens};
+pub use codes::{BadCode, PointCode};
 pub use kinds::MsgKind;
-pub use numbers::{number_tokens, read_number, split_at_byte};
+pub use laws::{code_law, number_law};
+pub use numbers::{read_number, split_at_byte};
 pub use octets::tfm_octets;

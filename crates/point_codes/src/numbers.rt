@@ -1,7 +1,6 @@
 //! Decimal numbers in text, and the parts of a text around a byte.
 
-ghost use Rattle.std.specs.Prelude.{◌≡◌, ℕ, ◌^◌, ◌<◌, ◌≤◌, ◌==◌, ◌↔◌, List, length, option_map, Some, IfSome, position};
-ghost use Rattle.std.specs.Fmt.{decimal};
+ghost use Rattle.std.specs.Prelude.{◌≡◌, ◌<◌, ◌==◌, length, option_map, Some, IfSome, position};
 ghost use Rattle.point_codes.specs.Numbers.{number_of};
 ghost use Rattle.point_codes.specs.Codes.{split_of};
 
@@ -48,9 +47,3 @@ pub fn split_at_byte<'a>(text: &'a [u8], byte: u8) -> Option<(&'a [u8], &'a [u8]
         None => None,
     }
 }
-
-/// The law: a text is read as a number exactly where it is what `{}` writes of that number, and the number is within
-/// the limit.
-pub fn number_tokens()
-    ensures { (most n : ℕ) (text : List ℕ) → most < 2 ^ 32 → (number_of most text ≡ Some n) ↔ ((n ≤ most) × (text ≡ decimal n)) }
-{}

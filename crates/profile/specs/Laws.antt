@@ -23,7 +23,7 @@ StatusesAlone =
     (src : Source) → IsValid src → (far : ℕ → Far) → ((y : ℕ) → far y ≡ status_by src far y)
     → (y : ℕ) → far y ≡ status src y
 
--- a status isn't prohibited exactly where a walk leads to the destination
+-- a status isn't prohibited exactly if a walk leads to the destination
 abbrev pub WalksReach : Type 0
 WalksReach = (src : Source) → IsValid src → (y : ℕ) → (status src y ≢ Prohibited) ↔ Walk src true y
 
@@ -33,7 +33,7 @@ MatesStayApart =
     (src : Source) → IsValid src → (row mate : Row) → row_of src row.point ≡ Some row → row_of src mate.point ≡ Some mate
     → src.mate_of row.point ≡ Some mate.point → (choice src row).class ≡ 5 → (choice src mate).class ≢ 5
 
--- a table is its own answer exactly where it is the table from scratch
+-- a table is its own answer exactly if it is the table from scratch
 abbrev pub TablesCertify : Type 0
 TablesCertify = (src : Source) → IsValid src → (table : Table) → IsSettledTable src table ↔ (table ≡ scratch src)
 
@@ -47,7 +47,7 @@ ExcerptsKeep =
     (src : Source) (front old new back : List LinkSet) → src.sets ≡ front ++ old ++ back → list_any (reads src) old ≡ false → list_any (reads src) new ≡ false
     → excerpt_of (with_sets src (front ++ new ++ back)) ≡ excerpt_of src
 
--- a trace stops exactly where the status is prohibited, and else leads to the destination in at most twice the rank of hops
+-- a trace stops exactly if the status is prohibited, and else leads to the destination in at most twice the rank of hops
 abbrev pub TracesReach : Type 0
 TracesReach = (src : Source) → IsValid src → All HasFewLinks src.sets → (y s : ℕ) → s < 16 → IsTrace src y (trace_of src y s)
 

@@ -4,7 +4,7 @@ use Rattle.std.specs.Option.{option_map_or}
 use Rattle.std.specs.List.{list_any}
 use Rattle.net_items.specs.declared.lists.Row.{Row}
 use Rattle.net_items.specs.declared.items.LinkSet.{LinkSet}
-use Rattle.link_sets.specs.Availability.{are_joined}
+use Rattle.link_sets.specs.Availability.{connected}
 use Rattle.net_items.specs.Lookups.{joins}
 use Rattle.profile.specs.Status.{Source, row_of}
 use Rattle.profile.specs.Walk.{is_via}
@@ -18,15 +18,6 @@ abbrev pub reads : Source → LinkSet → Bool
 reads src set =
     (is_planned_transfer src set.a || is_planned_transfer src set.b)
     || list_any (λ row. list_any (λ vias. list_any (λ via. joins row.point via set) vias) row.classes) src.rows
-
--- two sources that give the same of what a table's statuses read
-pub record GivesSame (src other : Source) : Type 0 where
-  pub dest : src.dest ≡ other.dest
-  pub rows : src.rows ≡ other.rows
-  pub tfr : src.tfr ≡ other.tfr
-  pub mates : (row : Row) → row_of src row.point ≡ Some row → IsTrue row.mate → src.mate_of row.point ≡ other.mate_of row.point
-  pub over_vias : (y z : ℕ) (row : Row) → row_of src y ≡ Some row → is_via row z ≡ true → are_joined src.sets row.point z ≡ are_joined other.sets row.point z
-  pub over_mates : (row mate : Row) → row_of src row.point ≡ Some row → IsTrue row.mate → src.mate_of row.point ≡ Some mate.point → are_joined src.sets row.point mate.point ≡ are_joined other.sets row.point mate.point
 
 -- a point has a row with the flag
 abbrev pub is_flagged : Source → ℕ → Bool

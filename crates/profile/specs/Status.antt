@@ -9,7 +9,7 @@ use Rattle.route_choice.specs.declared.choices.Far.{Far}
 use Rattle.route_choice.specs.declared.choices.Far.TheVariants.{Allowed, Prohibited}
 use Rattle.net_items.specs.declared.lists.Row.{Row}
 use Rattle.route_choice.specs.declared.choices.Choice.{Choice}
-use Rattle.link_sets.specs.Availability.{are_joined}
+use Rattle.link_sets.specs.Availability.{connected}
 use Rattle.route_choice.specs.Routes.{Offer, direct, choose}
 
 -- what a network or an excerpt gives about one destination
@@ -36,13 +36,13 @@ source_in points sets plan tfr = record {
 abbrev pub row_of : Source → ℕ → Option Row
 row_of src y = row_at src.rows y
 
--- the rank of a point, 0 where it has no row
+-- the rank of a point, 0 if it has no row
 abbrev pub rank_of : Source → ℕ → ℕ
 rank_of src y = option_map_or (λ row. row.rank) (row_of src y) 0
 
--- what a point is offered over a via, where `far` tells the far statuses: prohibited where no available set joins them (Q.704 clause 3.2)
+-- what a point is offered over a via, where `far` tells the far statuses: prohibited if no available set joins them (Q.704 clause 3.2)
 abbrev pub offer : Source → (ℕ → Far) → ℕ → ℕ → Offer
-offer src far y z = record { via = z; far = if are_joined src.sets y z then far z else Prohibited }
+offer src far y z = record { via = z; far = if connected src.sets y z then far z else Prohibited }
 
 -- what a row is offered over its vias, class by class
 abbrev pub offers : Source → (ℕ → Far) → Row → List (List Offer)
@@ -55,7 +55,7 @@ mate_row src row = if row.mate then option_and_then (row_of src) (src.mate_of ro
 -- what a mate with this direct status offers, where the set between is available
 abbrev pub over_mate : Source → Row → Row → Far → Option Offer
 over_mate src row mate status =
-    if are_joined src.sets row.point mate.point then Some (record { via = mate.point; far = status }) else None
+    if connected src.sets row.point mate.point then Some (record { via = mate.point; far = status }) else None
 
 -- what the mate offers: its direct status
 abbrev pub mate_offer : Source → (ℕ → Far) → Row → Option Offer
@@ -66,7 +66,7 @@ mate_offer src far row =
 abbrev pub choice_by : Source → (ℕ → Far) → Row → Choice
 choice_by src far row = choose src.tfr (offers src far row) (mate_offer src far row)
 
--- the status of a point, where `far` tells those of lower rank: allowed at the destination, prohibited where there is no row
+-- the status of a point, where `far` tells those of lower rank: allowed at the destination, prohibited if there is no row
 abbrev pub status_by : Source → (ℕ → Far) → ℕ → Far
 status_by src far y =
     if y == src.dest then Allowed else option_map_or (λ row. (choice_by src far row).status) (row_of src y) Prohibited

@@ -1,22 +1,26 @@
 -- The trace of an SLS: the links that it follows to the destination.
-use Rattle.std.specs.Prelude.{◌≡◌, ◌≢◌, ◌≤◌, ℕ, zero, suc, ◌==◌, ◌*◌, ◌-◌, List, [], ◌∷◌, Option, Some, None, if◌then◌else◌, length}
-use Rattle.std.specs.Option.{option_map, option_map_or, option_and_then, MatchOption}
+use Rattle.std.specs.Prelude.{◌≡◌, ◌≢◌, ◌≤◌, ℕ, zero, suc, ◌==◌, ◌*◌, List, [], ◌∷◌, Option, Some, None, if◌then◌else◌, length}
+use Rattle.std.specs.Option.{option_map, option_and_then, MatchOption}
 use Rattle.route_choice.specs.declared.choices.Far.TheVariants.{Prohibited}
 use Rattle.profile.specs.declared.hops.Hop.{Hop}
 use Rattle.profile.specs.declared.hops.Trace.{Trace}
 use Rattle.profile.specs.Status.{Source, row_of, rank_of, status, choice}
 use Rattle.profile.specs.Whole.{carrier, link_of}
 
--- the hops of an SLS in at most n: None where it stops
+-- the hop of an SLS from a point
+abbrev pub hop_of : Source → ℕ → ℕ → Option Hop
+hop_of src y s =
+    option_and_then (λ row.
+    option_and_then (λ z.
+    option_map (λ link. record { from = y; link = link; to = z })
+    (link_of src row (choice src row) s)) (carrier row (choice src row) s)) (row_of src y)
+
+-- the hops of an SLS in at most n: None if it stops
 unfoldable pub hops_within : Source → ℕ → ℕ → ℕ → Option (List Hop)
 hops_within src zero y s = if y == src.dest then Some [] else None
 hops_within src (suc n) y s =
     if y == src.dest then Some []
-    else option_and_then (λ row.
-    option_and_then (λ z.
-    option_and_then (λ link.
-    option_map (λ rest. record { from = y; link = link; to = z } ∷ rest) (hops_within src n z s))
-    (link_of src row (choice src row) s)) (carrier row (choice src row) s)) (row_of src y)
+    else option_and_then (λ (hop : Hop). option_map (λ rest. hop ∷ rest) (hops_within src n hop.to s)) (hop_of src y s)
 
 -- the hops of an SLS: twice the rank suffices
 abbrev pub trace_of : Source → ℕ → ℕ → Option (List Hop)
@@ -33,21 +37,9 @@ pub record IsReached (src : Source) (y : ℕ) (hops : List Hop) : Type 0 where
   pub few : length hops ≤ 2 * rank_of src y
   pub leads : Leads y hops src.dest
 
--- a trace stops exactly where the status is prohibited, and else it leads to the destination
+-- a trace stops exactly if the status is prohibited, and else it leads to the destination
 abbrev pub IsTrace : Source → ℕ → Option (List Hop) → Type 0
 IsTrace src y trace = MatchOption trace (status src y ≡ Prohibited) (IsReached src y)
-
--- how many hops are enough: one less than twice the rank, or twice the rank where the mate is used
-abbrev pub hops_enough : Source → ℕ → ℕ
-hops_enough src y = option_map_or (λ row. if (choice src row).class == 5 then 2 * row.rank else 2 * row.rank - 1) (row_of src y) 0
-
--- the hop of an SLS from a point
-abbrev pub hop_of : Source → ℕ → ℕ → Option Hop
-hop_of src y s =
-    option_and_then (λ row.
-    option_and_then (λ z.
-    option_map (λ link. record { from = y; link = link; to = z })
-    (link_of src row (choice src row) s)) (carrier row (choice src row) s)) (row_of src y)
 
 -- the hops that an answer tells
 abbrev pub hops_in : Trace → Option (List Hop)

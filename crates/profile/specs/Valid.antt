@@ -24,7 +24,7 @@ pub record HasMate (src : Source) (row : Row) : Type 0 where
   pub same_rank : mate.rank ≡ row.rank
   pub joined : IsSome (set_between src.sets row.point mate.point)
 
--- what a via is: joined to the row's point, the destination or of lower rank, and the mate only where that is the destination
+-- what a via is: joined to the row's point, the destination or of lower rank, and the mate only if that is the destination
 pub record IsVia (src : Source) (row : Row) (via : ℕ) : Type 0 where
   pub joined : IsSome (set_between src.sets row.point via)
   pub leads : (via ≡ src.dest) ⊎ IsLower src row via

@@ -12,7 +12,7 @@ use Rattle.profile.specs.declared.tables.Message.{Message}
 use Rattle.profile.specs.declared.tables.RowState.{RowState}
 use Rattle.profile.specs.declared.tables.Table.{Table}
 use Rattle.net_items.specs.Lookups.{set_between}
-use Rattle.link_sets.specs.Availability.{are_joined}
+use Rattle.link_sets.specs.Availability.{connected}
 use Rattle.link_sets.specs.Neighbours.{neighbours}
 use Rattle.sls_share.specs.Share.{link_for, via_of, share_of}
 use Rattle.route_choice.specs.Routes.{choose}
@@ -25,7 +25,7 @@ size_of row class = if class == 5 then 1 else length (slice_index_or row.classes
 
 -- the member in a place of a choice
 abbrev pub member : Choice → ℕ → Option ℕ
-member c place = slice_index_or c.members place None
+member c position = slice_index_or c.members position None
 
 -- the via that carries SLS s (own, after Q.704 clause 2.3)
 abbrev pub carrier : Row → Choice → ℕ → Option ℕ
@@ -39,10 +39,6 @@ link_between sets y z t =
 -- the link that carries SLS s
 abbrev pub link_of : Source → Row → Choice → ℕ → Option LinkRef
 link_of src row c s = option_and_then (λ z. link_between src.sets row.point z (share_of (size_of row c.class) s)) (carrier row c s)
-
--- a message of y goes to z
-abbrev pub is_receiver : Source → ℕ → ℕ → Bool
-is_receiver src y z = are_joined src.sets y z && not (z == src.dest)
 
 -- the messages in force from a row's point, in rising code of the receiver: only transfer points send them, to each neighbour but the destination (own)
 abbrev pub messages_of : Source → Row → Choice → List Message
@@ -64,7 +60,7 @@ state_of src row c = record {
 abbrev pub scratch : Source → Table
 scratch src = record { dest = src.dest; rows = map (λ row. state_of src row (choice src row)) src.rows }
 
--- what a point hears from a list of messages: prohibited where there is none for it
+-- what a point hears from a list of messages: prohibited if there is none for it
 abbrev pub heard_in : List Message → ℕ → Far
 heard_in messages y = option_map_or (λ m. reading m.kind) (find (λ m. m.to == y) messages) Prohibited
 

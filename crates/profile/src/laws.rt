@@ -7,16 +7,16 @@ ghost use Rattle.profile.specs.Laws.{ExcerptsGiveTables, ExcerptsKeep, LinksServ
 /// when it runs.
 ///
 /// - `statuses`, `alone`: the statuses obey the rule, and nothing else does (own, after Q.704 clauses 13.2 to 13.4).
-/// - `walks`: a status is not prohibited exactly where a walk over available sets leads to the destination.
+/// - `walks`: a status is not prohibited exactly if a walk over available sets leads to the destination.
 /// - `mates`: no two mates use each other.
-/// - `tables`: a table is what its own messages make of it exactly where it is the table from scratch.
+/// - `tables`: a table is what its own messages make of it exactly if it is the table from scratch.
 /// - `excerpts`, `unread`: the excerpt of a source gives the same table, and sets that a table does not read may
 ///   change, come and go.
 /// - `probes`, `links`: the probe order tries every position, and each signalling link selection of a point that is
 ///   not prohibited has a link.
-/// - `traces`: a trace stops exactly where the status is prohibited, and else leads to the destination in at most twice
+/// - `traces`: a trace stops exactly if the status is prohibited, and else leads to the destination in at most twice
 ///   the rank of hops.
-pub fn profile_laws()
+pub fn profile_law()
     ensures statuses { StatusesObey }
     ensures alone { StatusesAlone }
     ensures walks { WalksReach }

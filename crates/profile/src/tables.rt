@@ -30,7 +30,7 @@ pub struct SetLinks {
 }
 
 impl SetLinks {
-    /// The link that carries share number `t`, 0 to 15, where one does.
+    /// The link that carries share number `t`, 0 to 15, if one does.
     fn link_for(&self, t: u8) -> Option<LinkRef>
         requires { t < 16 }
         ensures { result ≡ link_over self.now t }
@@ -60,11 +60,11 @@ fn copy_set_links(set: &Option<SetLinks>) -> Option<SetLinks>
 }
 
 /// The set to the member in a place, 0 or 1.
-fn set_at(sets: &[Option<SetLinks>; 2], place: u8) -> Option<&SetLinks>
-    requires { place < 2 }
-    ensures { option_copied result ≡ slice_index_or sets.now place None }
+fn set_at(sets: &[Option<SetLinks>; 2], position: u8) -> Option<&SetLinks>
+    requires { position < 2 }
+    ensures { option_copied result ≡ slice_index_or sets.now position None }
 {
-    sets[usize::from(place)].as_ref()
+    sets[usize::from(position)].as_ref()
 }
 
 /// Whether both are none, or of one set with the same links.
@@ -90,7 +90,7 @@ fn are_same_uses(one: [bool; 2], other: [bool; 2]) -> bool
     one[0] == other[0] && one[1] == other[1]
 }
 
-/// The link that carries each signalling link selection of a row, where one does (Q.704 clause 2.3).
+/// The link that carries each signalling link selection of a row, if one does (Q.704 clause 2.3).
 ///
 /// It holds the sets to the members of the row's class, and works out a link when it is asked for.
 #[derive(Debug, Drop)]
@@ -129,14 +129,14 @@ impl RowLinks {
         }
     }
 
-    /// The link that carries signalling link selection `s`, 0 to 15, where one does (Q.704 clause 2.3).
-    #[tactic(auto, using(crate::proofs::Linking::link_found, crate::proofs::Linking::link_missing))]
+    /// The link that carries signalling link selection `s`, 0 to 15, if one does (Q.704 clause 2.3).
+    #[tactic(auto, using(crate::proofs::LinkLemmas::link_found, crate::proofs::LinkLemmas::link_missing))]
     pub fn at(&self, s: u8) -> Option<LinkRef>
         requires { s < 16 }
         ensures { result ≡ slice_index_or self.now s None }
     {
-        let (place, t) = member_for(self.size, self.used, s);
-        match set_at(&self.sets, place) {
+        let (position, t) = member_for(self.size, self.used, s);
+        match set_at(&self.sets, position) {
             Some(set) => set.link_for(t),
             None => None,
         }
@@ -219,7 +219,7 @@ impl Messages {
         self.list.as_slice()
     }
 
-    /// The message to a point, if there is one; the first where there are more.
+    /// The message to a point, if there is one; the first if there are more.
     pub fn to(&self, point: PointCode) -> Option<&Message>
         ensures { option_copied result ≡ find (λ message. message.to == point) self.now }
     {
@@ -229,7 +229,7 @@ impl Messages {
             .find(|message| message.to == point)
     }
 
-    /// A copy, or want of memory.
+    /// A copy, or out of memory.
     pub fn copy(&self, alloc: Global) -> Result<Messages, AllocError>
         ensures { IfOk result (λ m. m ≡ self.now) }
     {
@@ -246,14 +246,14 @@ pub struct RowState {
     pub point: PointCode,
     /// What the row uses, and the status that follows.
     pub choice: Choice,
-    /// The link that carries each signalling link selection, where one does (Q.704 clause 2.3).
+    /// The link that carries each signalling link selection, if one does (Q.704 clause 2.3).
     pub links: RowLinks,
     /// The transfer messages in force from the point.
     pub messages: Messages,
 }
 
 impl RowState {
-    /// A copy, or want of memory.
+    /// A copy, or out of memory.
     pub fn copy(&self, alloc: Global) -> Result<RowState, AllocError>
         ensures { IfOk result (λ s. s ≡ self.now) }
     {
@@ -306,7 +306,7 @@ impl RowStates {
         self.list.as_slice()
     }
 
-    /// A copy, or want of memory.
+    /// A copy, or out of memory.
     pub fn copy(&self, alloc: Global) -> Result<RowStates, AllocError>
         ensures { IfOk result (λ r. r ≡ self.now) }
     {
@@ -326,7 +326,7 @@ pub struct Table {
 }
 
 impl Table {
-    /// The state of a point's row, if the table has one; the first where it has more.
+    /// The state of a point's row, if the table has one; the first if it has more.
     pub fn row(&self, point: PointCode) -> Option<&RowState>
         ensures { option_copied result ≡ find (λ state. state.point == point) self.now.rows }
     {
@@ -336,7 +336,7 @@ impl Table {
             .find(|state| state.point == point)
     }
 
-    /// A copy, or want of memory.
+    /// A copy, or out of memory.
     pub fn copy(&self, alloc: Global) -> Result<Table, AllocError>
         ensures { IfOk result (λ t. t ≡ self.now) }
     {

@@ -24,7 +24,7 @@ same_far x y = goodness x == goodness y
 abbrev pub better_of : Far → Far → Far
 better_of x y = if is_better y x then y else x
 
--- a via, and the far status that it offers: prohibited where it isn't usable
+-- a via, and the far status that it offers: prohibited if it isn't usable
 pub record Offer : Type 0 where
   pub via : ℕ
   pub far : Far
@@ -46,7 +46,7 @@ abbrev pub best_in : List Offer → Far
 best_in [] = Prohibited
 best_in (o ∷ os) = better_of o.far (best_in os)
 
--- the best far status over usable vias, prohibited where there is none
+-- the best far status over usable vias, prohibited if there is none
 abbrev pub best : List (List Offer) → Far
 best [] = Prohibited
 best (class ∷ classes) = better_of (best_in class) (best classes)
@@ -91,7 +91,7 @@ abbrev pub mate_choice : Bool → ℕ → Choice
 mate_choice tfr mate =
     record { class = 5; members = Some mate ∷ None ∷ []; status = if tfr then Restricted else Allowed }
 
--- the mate where it offers better, and else the direct class (own)
+-- the mate if it offers better, and else the direct class (own)
 abbrev pub choose : Bool → List (List Offer) → Option Offer → Choice
 choose tfr classes None = direct_choice tfr classes
 choose tfr classes (Some mate) =

@@ -9,7 +9,7 @@ use point_codes::PointCode;
 pub enum Far {
     /// The point transfers traffic to the destination (Q.704 clause 13.3).
     Allowed,
-    /// It does, and other ways are preferred where there are any (Q.704 clause 13.4).
+    /// It does, and other ways are preferred if there are any (Q.704 clause 13.4).
     Restricted,
     /// It transfers none (Q.704 clause 13.2).
     Prohibited,
@@ -52,7 +52,7 @@ impl Far {
 /// What a row uses towards the destination, and the status that follows (own, after Q.704 clauses 13.2 to 13.4).
 #[derive(Clone, Copy, Debug, PartialEq, Eq)]
 pub struct Choice {
-    /// The class used, 1 to 4; 5 where the mate is used, 0 where there is no route.
+    /// The class used, 1 to 4; 5 if the mate is used, 0 if there is no route.
     pub class: u8,
     /// The vias used, each at its place in the class; the mate stands at the first place.
     pub members: [Option<PointCode>; 2],

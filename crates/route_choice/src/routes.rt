@@ -111,7 +111,7 @@ fn direct_choice(row: &Row, fars: &[[Far; 2]; 4], tfr: bool) -> Choice
 
 /// The direct status of a row: what it offers without its mate (own, after Q.704 clauses 13.2 to 13.4).
 ///
-/// `fars[i][j]` is what via j of class i + 1 offers: its status, or prohibited where it cannot be reached. `tfr` is the
+/// `fars[i][j]` is what via j of class i + 1 offers: its status, or prohibited if it cannot be reached. `tfr` is the
 /// transfer-restricted option.
 pub fn direct(row: &Row, fars: &[[Far; 2]; 4], tfr: bool) -> Far
     requires few { length row.now.classes ≤ 4 }

@@ -3,18 +3,20 @@
 //! 1. `route_desk run NET` loads the network of the file NET, reads a script from standard input and answers it on
 //!    standard output. `route_desk run -` reads the network text from standard input too, up to the line `%%`. With
 //!    `--save FILE` the network after all accepted events is written to that file after a script that ended without a
-//!    fault; a file that was there stays as it was where that fails.
+//!    fault; a file that was there stays as it was if that fails.
 //! 2. `route_desk play NET STEPS` does the same with the script of the file STEPS, which is opened once the network is
 //!    loaded.
 //! 3. `route_desk check NET` works out the tables of all planned destinations of that network, by as many threads as
 //!    there are processors, checks each by the local rule, and writes `ok P` for P plans, or `bad X Y c` for the first
 //!    wrong one.
-//! 4. It exits with 0 where the script was answered to its end: a refused line is no fault of a run; or where all
+//! 4. It exits with 0 if the script was answered to its end: a refused line is no fault of a run; or if all
 //!    tables are right.
-//! 5. It exits with 1 where a table is wrong, where the network isn't loaded, or where memory, reading or writing ended
+//! 5. It exits with 1 if a table is wrong, if the network isn't loaded, or where memory, reading or writing ended
 //!    the run; in all but the first of these standard error has one line, `route_desk: ` and the fault.
 //! 6. It exits with 2 where the command line isn't read, with `clap`'s text on standard error. Help is printed on
 //!    standard output, with 0.
+//!
+//! Stands on `net_saving`, `console`, `command_line`, `clap`. Nothing else changes with it.
 #![tactic(auto)]
 
 use clap::Error;
@@ -22,7 +24,7 @@ use command_line::{Order, WordFault, read_words};
 use console::{
     CheckEnd, Fault, ScriptEnd, check_net, read_net, run_input, run_script, write_fault,
 };
-use frozen_nets::Frozen;
+use excerpts::Frozen;
 use net_data::Net;
 use net_saving::save;
 use std::alloc::{AllocError, Global};
@@ -136,7 +138,7 @@ fn save_net(rt: &HostRuntime, net: &Net, name: &str) -> Result<(), Fault> {
     }
 }
 
-/// Writes the network after a run where a file is named. The answer is the fault, where there was one.
+/// Writes the network after a run if a file is named. The answer is the fault, if there was one.
 fn finish(rt: &HostRuntime, end: Result<ScriptEnd, Fault>, file: Option<&str>) -> Option<Fault> {
     let end = match end {
         Ok(end) => end,
@@ -175,18 +177,33 @@ fn report_check(rt: &HostRuntime, end: &CheckEnd) -> io::Result<ExitCode> {
     Ok(ExitCode::from(1))
 }
 
+/// Says what a check found, or why there was none.
+fn report_end(rt: &HostRuntime, end: Result<CheckEnd, Fault>) -> io::Result<ExitCode> {
+    match end {
+        Ok(end) => report_check(rt, &end),
+        Err(fault) => report(rt, Some(fault)),
+    }
+}
+
+/// Runs the script on standard input, saves the network if a file is named, and says how the run ended.
+fn run(rt: &HostRuntime, net: &str, save: Option<&str>) -> io::Result<ExitCode> {
+    report(rt, finish(rt, run_net(rt, net), save))
+}
+
+/// The same for the script of a file.
+fn play(rt: &HostRuntime, net: &str, steps: &str, save: Option<&str>) -> io::Result<ExitCode> {
+    report(rt, finish(rt, play_file(rt, net, steps), save))
+}
+
 fn main(rt: HostRuntime) -> io::Result<ExitCode> {
     let words: Vec<String> = env::args(&rt)?.collect(rt.alloc())?;
     let texts = texts(rt.alloc(), words.as_slice())?;
     match read_words(rt.alloc(), texts.as_slice()) {
-        Ok(Order::Run { net, save }) => report(&rt, finish(&rt, run_net(&rt, net), save)),
-        Ok(Order::Play { net, steps, save }) => {
-            report(&rt, finish(&rt, play_file(&rt, net, steps), save))
+        Ok(Order::Run { net, save }) => run(&rt, net, save),
+        Ok(Order::Play { net, steps, save }) => play(&rt, net, steps, save),
+        Ok(Order::Check { net }) => {
+            report_end(&rt, check_tables(&rt, rt.alloc(), load_file(&rt, net)))
         }
-        Ok(Order::Check { net }) => match check_tables(&rt, rt.alloc(), load_file(&rt, net)) {
-            Ok(end) => report_check(&rt, &end),
-            Err(fault) => report(&rt, Some(fault)),
-        },
         Err(WordFault::Clap(error)) => refuse(&rt, &error),
     }
 }

@@ -1,3 +1,3 @@
-pub mod Sharing
-pub mod Covering
-pub mod Carrying
+pub mod ShareLemmas
+pub mod CoverLemmas
+pub mod CarriedLemmas

@@ -11,12 +11,12 @@ unfoldable pub codes_in : ℕ → List ℕ
 codes_in mask = filter (λ c. bit_at mask c == 1) (range_with_len 0 16)
 
 -- the first available position in the probe order of share number t among n links
-abbrev pub place_for : ℕ → ℕ → ℕ → Option ℕ
-place_for available n t = find (λ i. bit_at available i == 1) (probe_order t n)
+abbrev pub masked_position : ℕ → ℕ → ℕ → Option ℕ
+masked_position available n t = find (λ i. bit_at available i == 1) (probe_order t n)
 
 -- the code that carries share number t, where `available` has a bit for each available place among the codes
 abbrev pub code_for : List ℕ → ℕ → ℕ → Option ℕ
-code_for codes available t = option_and_then (slice_get codes) (place_for available (length codes) t)
+code_for codes available t = option_and_then (slice_get codes) (masked_position available (length codes) t)
 
 -- the codes that carry the sixteen share numbers
 unfoldable pub codes_for : List ℕ → ℕ → List (Option ℕ)

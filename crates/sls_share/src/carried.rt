@@ -4,7 +4,7 @@ ghost use Rattle.std.specs.Prelude.{◌≡◌, ◌↔◌, ◌<◌, ◌≤◌, Is
 ghost use Rattle.net_items.specs.Keyed.{IsRising};
 ghost use Rattle.sls_share.specs.Carried.{codes_in, links_for, IsCodeMask};
 
-use crate::share::place_for;
+use crate::share::masked_position;
 use link_sets::mask;
 use net_items::LinkSet;
 use std::marker::Model;
@@ -41,7 +41,7 @@ fn codes_of(set: &LinkSet) -> u16
 }
 
 /// How many codes a mask has.
-#[tactic(auto, using(crate::proofs::Carrying::count_is))]
+#[tactic(auto, using(crate::proofs::CarriedLemmas::count_is))]
 fn code_count(codes: u16) -> usize
     ensures count { result ≡ length (codes_in codes) }
     ensures few { result ≤ 16 }
@@ -50,13 +50,13 @@ fn code_count(codes: u16) -> usize
 }
 
 /// The code at a place of a mask, in rising order.
-fn code_at(codes: u16, place: usize) -> Option<u8>
-    ensures { result ≡ slice_get (codes_in codes) place }
+fn code_at(codes: u16, position: usize) -> Option<u8>
+    ensures { result ≡ slice_get (codes_in codes) position }
 {
     let mut before = 0;
     for code in 0..16u8 {
         if codes >> code & 1 == 1 {
-            if before == place {
+            if before == position {
                 return Some(code);
             }
             before += 1;
@@ -68,7 +68,7 @@ fn code_at(codes: u16, place: usize) -> Option<u8>
 impl Carried {
     /// The links that carry the sixteen share numbers over a set of at most 16 links, which rise in signalling link
     /// code, each 0 to 15.
-    #[tactic(auto, using(crate::proofs::Carrying::carried_is))]
+    #[tactic(auto, using(crate::proofs::CarriedLemmas::carried_is))]
     pub fn of(set: &LinkSet) -> Carried
         requires few { length set.now.links ≤ 16 }
         requires rising { IsRising (λ link. link.slc) set.now.links }
@@ -81,14 +81,14 @@ impl Carried {
         }
     }
 
-    /// The signalling link code of the link that carries share number `t` (0 to 15), where one does.
-    #[tactic(auto, using(crate::proofs::Carrying::code_found, crate::proofs::Carrying::code_missing, crate::proofs::Carrying::code_of_share))]
+    /// The signalling link code of the link that carries share number `t` (0 to 15), if one does.
+    #[tactic(auto, using(crate::proofs::CarriedLemmas::code_found, crate::proofs::CarriedLemmas::code_missing, crate::proofs::CarriedLemmas::code_of_share))]
     pub fn link_for(&self, t: u8) -> Option<u8>
         requires { t < 16 }
         ensures { result ≡ slice_index_or self.now t None }
     {
-        let place = place_for(self.available, code_count(self.codes), t)?;
-        code_at(self.codes, place)
+        let position = masked_position(self.available, code_count(self.codes), t)?;
+        code_at(self.codes, position)
     }
 
     /// Whether the sixteen answers are equal. It takes no memory.

@@ -11,13 +11,14 @@
 //!    moves no other link's share numbers.
 //! 5. The links that carry the sixteen share numbers follow from two masks: the signalling link codes of the set, and
 //!    which of its links are available (own).
+//!
+//! Stands on `link_sets`. A change here also changes specs/ (Carried, Share), proofs/ and must-fail/.
 #![tactic(auto)]
 
 pub mod carried;
+pub mod laws;
 pub mod share;
 
 pub use carried::Carried;
-pub use share::{link_for, member_for, probe, probe_law};
-
-#[cfg(test)]
-mod tests;
+pub use laws::probe_law;
+pub use share::{link_for, member_for, probe};

@@ -1,9 +1,9 @@
 //! The link that carries a share number, and the via that carries an SLS.
 
-ghost use Rattle.std.specs.Prelude.{◌≡◌, ◌<◌, ◌≤◌, ◌||◌, ◌==◌, IsTrue, length, false, slice_index_or};
+ghost use Rattle.std.specs.Prelude.{◌≡◌, ◌<◌, ◌≤◌, ◌==◌, IsTrue, length, false, slice_index_or};
 ghost use Rattle.std.specs.Option.{IfSome};
-ghost use Rattle.sls_share.specs.Share.{probe as probe_of, link_for as link_of, IsSteady, via_of, share_of, HasMember, ProbesCover, SetsServe};
-ghost use Rattle.sls_share.specs.Carried.{place_for as place_of};
+ghost use Rattle.sls_share.specs.Share.{probe as probe_of, link_for as link_of, IsSteady, via_of, share_of, HasMember};
+ghost use Rattle.sls_share.specs.Carried.{masked_position as position_of};
 
 use link_sets::mask;
 use net_items::LinkSet;
@@ -28,10 +28,10 @@ pub fn probe(t: u8, n: usize, j: usize) -> usize
 
 /// The first available position in the probe order of share number `t` (0 to 15) among `n` links, at most 16. Bit i of
 /// `available` stands for position i.
-pub(crate) fn place_for(available: u16, n: usize, t: u8) -> Option<usize>
+pub(crate) fn masked_position(available: u16, n: usize, t: u8) -> Option<usize>
     requires share { t < 16 }
     requires few { n ≤ 16 }
-    ensures place { result ≡ place_of available n t }
+    ensures position { result ≡ position_of available n t }
     ensures within { IfSome result (λ i. i < n) }
 {
     for j in 0..n {
@@ -43,11 +43,11 @@ pub(crate) fn place_for(available: u16, n: usize, t: u8) -> Option<usize>
     None
 }
 
-/// The signalling link code of the link that carries share number `t` (0 to 15), where one is available (own, after
+/// The signalling link code of the link that carries share number `t` (0 to 15), if one is available (own, after
 /// Q.704 clause 2.3).
 ///
 /// When another link becomes unavailable, the answer stays.
-#[tactic(auto, using(crate::proofs::Carrying::place_is, crate::proofs::Carrying::link_there_is, crate::proofs::Carrying::link_nowhere_is, crate::proofs::Sharing::steady_answer))]
+#[tactic(auto, using(crate::proofs::CarriedLemmas::position_is, crate::proofs::CarriedLemmas::link_there_is, crate::proofs::CarriedLemmas::link_nowhere_is, crate::proofs::ShareLemmas::steady_answer))]
 pub fn link_for(set: &LinkSet, t: u8) -> Option<u8>
     requires share { t < 16 }
     requires few { length set.now.links ≤ 16 }
@@ -55,20 +55,20 @@ pub fn link_for(set: &LinkSet, t: u8) -> Option<u8>
     ensures steady { IsSteady set.now.links t result }
 {
     let links = set.links.as_slice();
-    let i = place_for(mask(set), links.len(), t)?;
+    let i = masked_position(mask(set), links.len(), t)?;
     Some(links[i].slc)
 }
 
 /// The number of the via that carries SLS `s` (0 to 15), 0 or 1, and its share number there (own, after Q.704 clause
 /// 2.3).
 ///
-/// `size` is the configured number of vias of the class, 1 or 2, and `used` tells which of them are members; where one
+/// `size` is the configured number of vias of the class, 1 or 2, and `used` tells which of them are members; if one
 /// is, the answer is a member.
 pub fn member_for(size: u8, used: [bool; 2], s: u8) -> (u8, u8)
     requires sls { s < 16 }
     ensures via { result.0 ≡ via_of size (slice_index_or used 0 false) (slice_index_or used 1 false) s }
     ensures share { result.1 ≡ share_of size s }
-    ensures places { result.0 < 2 }
+    ensures positions { result.0 < 2 }
     ensures below { result.1 < 16 }
     ensures used { HasMember size (slice_index_or used 0 false) (slice_index_or used 1 false) → IsTrue (slice_index_or used result.0 false) }
     ensures of_class { HasMember size (slice_index_or used 0 false) (slice_index_or used 1 false) → result.0 < size }
@@ -85,12 +85,3 @@ pub fn member_for(size: u8, used: [bool; 2], s: u8) -> (u8, u8)
     };
     (via, share)
 }
-
-/// The laws of the probe order. It does nothing when it runs.
-///
-/// For a set of 1 to 16 links and a share number below 16 the probe order tries every position, and a set with an
-/// available link has a link for each share number.
-pub fn probe_law()
-    ensures covers { ProbesCover }
-    ensures serves { SetsServe }
-{}

@@ -16,7 +16,7 @@ starts_with word text = nat_le (length word) (length text) && bytes_eq (take (le
 abbrev pub front : {A : Type 0} → List ℕ → List ℕ → (Bool → List ℕ → A) → A
 front word text next = next (starts_with word text) (if starts_with word text then drop (length word) text else text)
 
--- the value, where the text has ended
+-- the value, if the text has ended
 abbrev pub at_end : {A : Type 0} → List ℕ → A → Option A
 at_end [] x = Some x
 at_end (_ ∷ _) x = None

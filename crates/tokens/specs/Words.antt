@@ -10,6 +10,6 @@ words_of text = filter (λ w. nat_lt 0 (length w)) (slice_split (λ b. b == 32) 
 abbrev pub IsWord : List ℕ → Type 0
 IsWord word = (0 < length word) × (list_all (λ b. not (b == 32)) word ≡ true)
 
--- the word where it is wanted, else nothing
+-- the word if it is wanted, else nothing
 abbrev pub word_if : Bool → List ℕ → List ℕ
 word_if b word = if b then word else []

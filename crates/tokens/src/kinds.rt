@@ -1,8 +1,8 @@
 //! KIND.
 
-ghost use Rattle.std.specs.Prelude.{◌≡◌, ℕ, ◌↔◌, List, Some};
+ghost use Rattle.std.specs.Prelude.{◌≡◌, Some};
 ghost use Rattle.net_items.specs.declared.items.Kind.{Kind};
-ghost use Rattle.tokens.specs.Kinds.{kind_of, kind_text};
+ghost use Rattle.tokens.specs.Kinds.{kind_of};
 
 use net_items::Kind;
 
@@ -18,8 +18,3 @@ pub fn read_kind(word: &[u8]) -> Option<Kind>
     }
     None
 }
-
-/// The law: the kinds' tokens are exactly their words.
-pub fn kind_tokens()
-    ensures { (kind : Kind) (text : List ℕ) → (kind_of text ≡ Some kind) ↔ (text ≡ kind_text kind) }
-{}

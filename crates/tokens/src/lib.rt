@@ -7,19 +7,22 @@
 //!    `b` and `i` are marks of the first end; in format 2 `f`, `ba`, `bb`, `ia`, `ib`.
 //! 5. ROW is `CODE:RANK:CLASSES` or `CODE:RANK:CLASSES:m`, the last with the mate flag (own). CLASSES is empty or
 //!    classes joined by `/`; a class is one or more CODEs joined by `+`.
-//! 6. Each token is read exactly where it is what is written of its value, so no value has two tokens.
+//! 6. Each token is read exactly if it is what is written of its value, so no value has two tokens.
+//!
+//! Stands on `net_items`, `smallvec`. A change here also changes specs/ (Kinds, Marked, Numbers, Pieces, Rows, Words),
+//! proofs/ and must-fail/.
 #![tactic(auto)]
 
 pub mod kinds;
+pub mod laws;
 pub mod marked;
 pub mod numbers;
 pub mod rows;
-#[cfg(test)]
-mod tests;
 pub mod words;
 
-pub use kinds::{kind_tokens, read_kind};
-pub use marked::{marked_tokens, read_marked};
-pub use numbers::{id_tokens, rank_tokens, read_code, read_id, read_rank, read_slc, slc_tokens};
-pub use rows::{read_row, row_tokens};
-pub use words::{joined_words, split_words};
+pub use kinds::read_kind;
+pub use laws::{id_law, kind_law, marked_law, rank_law, row_law, slc_law, words_law};
+pub use marked::read_marked;
+pub use numbers::{read_code, read_id, read_rank, read_slc};
+pub use rows::read_row;
+pub use words::split_words;

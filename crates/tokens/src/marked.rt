@@ -1,9 +1,9 @@
 //! MARKED: a link with its marks, in the two formats of a network text.
 
-ghost use Rattle.std.specs.Prelude.{◌≡◌, ℕ, ◌<◌, ◌≤◌, ◌↔◌, Bool, not, List, length, drop, if◌then◌else◌, Some, IfSome, position};
+ghost use Rattle.std.specs.Prelude.{◌≡◌, ◌<◌, ◌≤◌, not, length, drop, if◌then◌else◌, Some, IfSome, position};
 ghost use Rattle.std.specs.Char.{is_ascii_digit};
 ghost use Rattle.net_items.specs.declared.links.Link.{Link};
-ghost use Rattle.tokens.specs.Marked.{starts_with, marks_in_one, marks_in_two, digits_len, marked_of, marked_text, IsMarked};
+ghost use Rattle.tokens.specs.Marked.{starts_with, marks_in_one, marks_in_two, digits_len, marked_of};
 
 use crate::numbers::read_slc;
 use link_state::Marks;
@@ -94,8 +94,3 @@ pub fn read_marked(one: bool, text: &[u8]) -> Option<Link>
     };
     Some(Link { slc, marks })
 }
-
-/// The tokens of links with marks are exactly what is written of the links that the format can say.
-pub fn marked_tokens()
-    ensures { (one : Bool) (link : Link) (text : List ℕ) → (marked_of one text ≡ Some link) ↔ (IsMarked one link × (text ≡ marked_text one link)) }
-{}

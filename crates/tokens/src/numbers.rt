@@ -1,7 +1,6 @@
 //! CODE, ID, SLC and RANK.
 
-ghost use Rattle.std.specs.Prelude.{◌≡◌, ℕ, ◌≤◌, ◌↔◌, List, Some};
-ghost use Rattle.std.specs.Fmt.{decimal};
+ghost use Rattle.std.specs.Prelude.{◌≡◌, Some};
 ghost use Rattle.point_codes.specs.Codes.{code_of};
 ghost use Rattle.tokens.specs.Numbers.{id_of, slc_of, rank_of};
 
@@ -40,18 +39,3 @@ pub fn read_rank(text: &[u8]) -> Option<u8>
     let rank = read_number(text, 255)?;
     Some(rank as u8)
 }
-
-/// The law: the ids' tokens are exactly what is written of the ids.
-pub fn id_tokens()
-    ensures { (n : ℕ) (text : List ℕ) → (id_of text ≡ Some n) ↔ ((n ≤ 65535) × (text ≡ decimal n)) }
-{}
-
-/// The law: the link codes' tokens are exactly what is written of the link codes.
-pub fn slc_tokens()
-    ensures { (n : ℕ) (text : List ℕ) → (slc_of text ≡ Some n) ↔ ((n ≤ 255) × (text ≡ decimal n)) }
-{}
-
-/// The law: the ranks' tokens are exactly what is written of the ranks.
-pub fn rank_tokens()
-    ensures { (n : ℕ) (text : List ℕ) → (rank_of text ≡ Some n) ↔ ((n ≤ 255) × (text ≡ decimal n)) }
-{}

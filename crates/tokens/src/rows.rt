@@ -1,10 +1,10 @@
 //! ROW: a row of a plan.
 
-ghost use Rattle.std.specs.Prelude.{◌≡◌, ℕ, ◌↔◌, List, option_map, None, Some, IfOk};
+ghost use Rattle.std.specs.Prelude.{◌≡◌, ◌++◌, ◌∷◌, [], true, false, option_map, Ok, None, Some, IfOk};
 ghost use Rattle.net_items.specs.declared.lists.Row.{Row};
 ghost use Rattle.point_codes.specs.Codes.{split_of};
 ghost use Rattle.tokens.specs.Pieces.{pieces_of};
-ghost use Rattle.tokens.specs.Rows.{vias_of, classes_of, flag_of, parts_of, row_of, row_text, IsRow};
+ghost use Rattle.tokens.specs.Rows.{vias_of, classes_of, flag_of, parts_of, row_of};
 
 use crate::numbers::{read_code, read_rank};
 use net_items::{Classes, Row, Vias};
@@ -46,6 +46,20 @@ fn read_class(alloc: Global, text: &[u8]) -> Result<Option<Classes>, AllocError>
     }
 }
 
+/// Adds the class that a text is. `false` if it is none.
+fn add_class(alloc: Global, classes: &mut Vec<Vias>, text: &[u8]) -> Result<bool, AllocError>
+    ensures added { result ≡ Ok true → option_map (λ vias. classes.old.items ++ vias ∷ []) (vias_of text.now) ≡ Some classes.new.items }
+    ensures none { result ≡ Ok false → vias_of text.now ≡ None }
+{
+    match read_vias(alloc, text)? {
+        Some(vias) => {
+            classes.push(vias)?;
+            Ok(true)
+        }
+        None => Ok(false),
+    }
+}
+
 /// Classes joined by `/`.
 fn read_joined_classes(alloc: Global, text: &[u8]) -> Result<Option<Classes>, AllocError>
     ensures { IfOk result (λ classes. classes ≡ pieces_of 47 vias_of text.now) }
@@ -54,15 +68,15 @@ fn read_joined_classes(alloc: Global, text: &[u8]) -> Result<Option<Classes>, Al
     let mut classes = Vec::with_capacity(alloc, strokes.saturating_add(1))?;
     let mut rest = text;
     while let Some((first, after)) = split_at_byte(rest, b'/') {
-        match read_vias(alloc, first)? {
-            Some(vias) => classes.push(vias)?,
-            None => return Ok(None),
+        let added = add_class(alloc, &mut classes, first)?;
+        if !added {
+            return Ok(None);
         }
         rest = after;
     }
-    match read_vias(alloc, rest)? {
-        Some(vias) => classes.push(vias)?,
-        None => return Ok(None),
+    let added = add_class(alloc, &mut classes, rest)?;
+    if !added {
+        return Ok(None);
     }
     Ok(Some(Classes::from_vec(classes)))
 }
@@ -126,8 +140,3 @@ pub fn read_row(alloc: Global, text: &[u8]) -> Result<Option<Row>, AllocError>
         None => Ok(None),
     }
 }
-
-/// The rows' tokens are exactly what is written of rows with vias in each class.
-pub fn row_tokens()
-    ensures { (row : Row) (text : List ℕ) → (row_of text ≡ Some row) ↔ (IsRow row × (text ≡ row_text row)) }
-{}

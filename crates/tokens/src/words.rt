@@ -1,8 +1,7 @@
 //! Words between spaces.
 
-ghost use Rattle.std.specs.Prelude.{◌≡◌, ℕ, List, map, IfOk};
-ghost use Rattle.std.specs.List.{AllByRecursion, join_with_byte};
-ghost use Rattle.tokens.specs.Words.{words_of, IsWord};
+ghost use Rattle.std.specs.Prelude.{◌≡◌, map, IfOk};
+ghost use Rattle.tokens.specs.Words.{words_of};
 
 use point_codes::split_at_byte;
 use smallvec::SmallVec;
@@ -28,8 +27,3 @@ pub fn split_words<'a>(alloc: Global, text: &'a [u8]) -> Result<SmallVec<&'a [u8
     words.push(rest)?;
     Ok(words)
 }
-
-/// The law: the words of what is joined by spaces are the words that were joined.
-pub fn joined_words()
-    ensures { (ws : List (List ℕ)) → AllByRecursion IsWord ws → words_of (join_with_byte 32 ws) ≡ ws }
-{}

@@ -1,7 +1,7 @@
-pub mod Sweeping
-pub mod Making
-pub mod Matching
-pub mod Membership
-pub mod Promising
+pub mod SweepLemmas
+pub mod TableLemmas
+pub mod MatchLemmas
+pub mod MemberLemmas
+pub mod PromiseLemmas
 pub mod RouteLemmas
-pub mod Sizes
+pub mod SizeLemmas

@@ -49,12 +49,12 @@ AreRightBefore src table i = (k : ℕ) (row : Row) (state : RowState) → k < i 
 -- the complaint is of the first wrong row, and of the first clause in which it is wrong
 pub record IsFirstWrong (src : Source) (table : Table) (complaint : Complaint) : Type 0 where
   pub points : HasPoints src table
-  pub place : ℕ
+  pub position : ℕ
   pub row : Row
   pub state : RowState
-  pub row_at : slice_get src.rows place ≡ Some row
-  pub state_at : slice_get table.rows place ≡ Some state
-  pub before : AreRightBefore src table place
+  pub row_at : slice_get src.rows position ≡ Some row
+  pub state_at : slice_get table.rows position ≡ Some state
+  pub before : AreRightBefore src table position
   pub point : complaint.point ≡ row.point
   pub wrong : IsWrongIn complaint.clause state (right_state src table row)
 

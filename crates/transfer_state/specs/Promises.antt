@@ -12,11 +12,11 @@ use Rattle.profile.specs.Walk.{Walk}
 abbrev pub state_in : Table → ℕ → Option RowState
 state_in table y = find (λ (state : RowState). state.point == y) table.rows
 
--- the status of a point by a table: allowed at the destination, prohibited where there is no row
+-- the status of a point by a table: allowed at the destination, prohibited if there is no row
 abbrev pub status_in : Table → ℕ → Far
 status_in table y = if y == table.dest then Allowed else option_map_or (λ (state : RowState). state.choice.status) (state_in table y) Prohibited
 
--- a status isn't prohibited exactly where a walk over available sets leads to the destination
+-- a status isn't prohibited exactly if a walk over available sets leads to the destination
 abbrev pub TellsWalks : Source → Table → Type 0
 TellsWalks src table = (y : ℕ) → (status_in table y ≢ Prohibited) ↔ Walk src true y
 

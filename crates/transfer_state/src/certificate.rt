@@ -14,7 +14,7 @@ use crate::sweep::rows_of;
 use excerpts::Excerpt;
 use net_items::Row;
 use point_codes::PointCode;
-use profile::tables::{Message, RowLinks, RowState, Table};
+use profile::{Message, RowLinks, RowState, Table};
 use route_choice::{Choice, Far};
 
 /// What can be wrong with a table, in the order in which it is looked for (own).
@@ -35,7 +35,7 @@ pub enum Clause {
 /// The first fault of a table (own).
 #[derive(Clone, Copy, Debug, PartialEq, Eq)]
 pub struct Complaint {
-    /// The point of the first wrong row, or the plan's destination where the points are wrong.
+    /// The point of the first wrong row, or the plan's destination if the points are wrong.
     pub point: PointCode,
     /// What is wrong there.
     pub clause: Clause,

@@ -1,6 +1,6 @@
 //! What a row hears from a table, and the choice that follows: the local rule of `profile`.
 //!
-//! The rows of the table stand in the places of the plan's, so a point's row is found by halves among the plan's rows.
+//! The rows of the table stand in the places of the plan's, so a point's row is found by binary search among the plan's rows.
 
 ghost use Rattle.std.specs.Prelude.{◌≡◌, ◌≤◌, ◌==◌, length, All, map, find};
 ghost use Rattle.std.specs.Option.{option_copied};
@@ -15,9 +15,9 @@ ghost use Rattle.transfer_state.specs.Complaints.{far_from, mate_from, HasPoints
 use crate::sweep::rows_of;
 use excerpts::Excerpt;
 use net_items::Row;
-use net_items::copies::place_of_row;
+use net_items::copies::position_of_row;
 use point_codes::{MsgKind, PointCode};
-use profile::tables::{Messages, Table};
+use profile::{Messages, Table};
 use route_choice::{Choice, Far};
 
 /// The status that a message tells (Q.704 clauses 13.2 to 13.4).
@@ -47,18 +47,18 @@ fn heard_from(e: &Excerpt, table: &Table, y: PointCode, z: PointCode) -> Far
     ensures { result ≡ heard_from_of table.now y z }
 {
     e.validity();
-    match place_of_row(rows_of(e), z) {
+    match position_of_row(rows_of(e), z) {
         Ok(at) => heard_in(&table.rows.as_slice()[at].messages, y),
         Err(_) => Far::Prohibited,
     }
 }
 
-/// What a point hears over a via: prohibited where no available set joins them, allowed of the destination.
+/// What a point hears over a via: prohibited if no available set joins them, allowed of the destination.
 fn offer_heard(e: &Excerpt, table: &Table, y: PointCode, via: PointCode) -> Far
     requires { HasPoints (source_of e.now) table.now }
     ensures { result ≡ (offer (source_of e.now) (far_from (source_of e.now) table.now y) y via).far }
 {
-    if !e.are_joined(y, via) {
+    if !e.is_connected(y, via) {
         Far::Prohibited
     } else if via == e.dest() {
         Far::Allowed
@@ -98,7 +98,7 @@ fn fars_heard(e: &Excerpt, table: &Table, row: &Row) -> [[Far; 2]; 4]
     fars
 }
 
-/// What a row hears of its mate, where it may use it.
+/// What a row hears of its mate, if it may use it.
 fn mate_heard(e: &Excerpt, table: &Table, row: &Row) -> Option<(PointCode, Far)>
     requires { HasPoints (source_of e.now) table.now }
     ensures { mate_of_pair result ≡ mate_from (source_of e.now) table.now row.now }
@@ -108,7 +108,7 @@ fn mate_heard(e: &Excerpt, table: &Table, row: &Row) -> Option<(PointCode, Far)>
     }
     let point = e.mate_of(row.point)?;
     let mate = e.row(point)?;
-    if e.are_joined(row.point, mate.point) {
+    if e.is_connected(row.point, mate.point) {
         let far = heard_from(e, table, row.point, mate.point);
         Some((mate.point, far))
     } else {

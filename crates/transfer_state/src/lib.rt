@@ -5,13 +5,16 @@
 //!    the ranks in rising order gives every choice with its status (own, after Q.704 clauses 13.2 to 13.4).
 //! 2. With its choice each row has the link of each signalling link selection (Q.704 clause 2.3) and, at a transfer
 //!    point, its messages in force (Q.704 clauses 13.2 to 13.4). The links are held by the sets to the members.
-//! 3. A transfer point tells each neighbour but the destination: prohibited where it leads its own traffic over that
+//! 3. A transfer point tells each neighbour but the destination: prohibited if it leads its own traffic over that
 //!    neighbour, and else its status. An end point tells nothing (Q.704 clauses 13.2 to 13.4).
 //! 4. The table is the one that the definitions of `profile` give from scratch.
 //! 5. A table that is at hand is checked by the local rule (own): each row is what it makes of the messages that its
 //!    neighbours hold towards it. Exactly the table from scratch passes.
 //! 6. The routing towards a destination is the choice of each row. It is shared, and what follows from the choices, links and
 //!    messages, is worked out when it is asked for.
+//!
+//! Stands on `excerpts`. A change here also changes specs/ (Complaints, Members, Promises, Routing, Told), proofs/ and
+//! must-fail/.
 #![tactic(auto)]
 
 pub mod certificate;
@@ -24,8 +27,5 @@ pub mod table;
 
 pub use certificate::{Clause, Complaint, check};
 pub use profile::tables::{LinkRef, Message, Messages, RowLinks, RowState, RowStates, Table};
-pub use routing::{Place, Routing};
+pub use routing::{Routing, RoutingSlot};
 pub use table::table_of;
-
-#[cfg(test)]
-mod tests;

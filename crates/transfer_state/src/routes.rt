@@ -14,10 +14,9 @@ use crate::states::{links_of, member, messages_of, used_size};
 use crate::sweep::rows_of;
 use excerpts::Excerpt;
 use net_items::Row;
-use net_items::copies::place_of_row;
+use net_items::copies::position_of_row;
 use point_codes::PointCode;
-use profile::hops::Hop;
-use profile::tables::{LinkRef, Messages, RowLinks};
+use profile::{Hop, LinkRef, Messages, RowLinks};
 use route_choice::Choice;
 use sls_share::{link_for, member_for};
 use std::alloc::{AllocError, Global};
@@ -30,7 +29,7 @@ fn found<'a>(e: &'a Excerpt, choices: &[Choice], point: PointCode) -> Option<(&'
 {
     e.validity();
     let rows = rows_of(e);
-    match place_of_row(rows, point) {
+    match position_of_row(rows, point) {
         Ok(at) => Some((&rows[at], choices[at])),
         Err(_) => None,
     }
@@ -86,8 +85,8 @@ fn hop_by_choice(e: &Excerpt, row: &Row, choice: &Choice, s: u8) -> Option<Hop>
 {
     e.validity();
     let used = [member(choice, 0).is_some(), member(choice, 1).is_some()];
-    let (place, share) = member_for(used_size(row, choice), used, s);
-    let to = member(choice, usize::from(place))?;
+    let (position, share) = member_for(used_size(row, choice), used, s);
+    let to = member(choice, usize::from(position))?;
     let set = e.set_between(row.point, to)?;
     let slc = link_for(set, share)?;
     Some(Hop {
@@ -97,7 +96,7 @@ fn hop_by_choice(e: &Excerpt, row: &Row, choice: &Choice, s: u8) -> Option<Hop>
     })
 }
 
-/// The link that a signalling link selection takes from a point, with both its ends, where it takes one.
+/// The link that a signalling link selection takes from a point, with both its ends, if it takes one.
 pub(crate) fn hop_at(e: &Excerpt, choices: &[Choice], point: PointCode, s: u8) -> Option<Hop>
     requires chosen { IsChosen e.now choices.now }
     requires sls { s < 16 }

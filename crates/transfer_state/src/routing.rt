@@ -12,8 +12,7 @@ use crate::sweep::choices;
 use crate::table::table_by;
 use excerpts::Excerpt;
 use point_codes::PointCode;
-use profile::hops::Hop;
-use profile::tables::{Messages, RowLinks, Table};
+use profile::{Hop, Messages, RowLinks, Table};
 use route_choice::Choice;
 use std::alloc::{AllocError, Global};
 use std::marker::Model;
@@ -33,10 +32,10 @@ pub struct Routing {
 impl Model for Routing {
     ghost use Rattle.std.specs.Prelude.{◌≡◌};
     ghost use Rattle.std.specs.Arc.{arc_value};
-    ghost use Rattle.excerpts.specs.Excerpts.{Extract};
+    ghost use Rattle.excerpts.specs.Excerpts.{ExcerptValue};
     ghost use Rattle.transfer_state.specs.Routing.{IsChosen};
 
-    ghost Value = { Extract };
+    ghost Value = { ExcerptValue };
 
     ghost view = { λ r. r.excerpt };
 
@@ -44,7 +43,7 @@ impl Model for Routing {
 }
 
 impl Routing {
-    /// The settled routing of an excerpt, from scratch. Where memory is refused it hands the excerpt back.
+    /// The settled routing of an excerpt, from scratch. If memory is refused it hands the excerpt back.
     pub fn of(alloc: Global, excerpt: Excerpt) -> Result<Routing, (Excerpt, AllocError)>
         ensures ok { IfOk result (λ r. r ≡ excerpt) }
         ensures err { IfErr result (λ e. e.0 ≡ excerpt) }
@@ -77,7 +76,7 @@ impl Routing {
         self.dest
     }
 
-    /// The same routing once more. It fails only where no further share can be counted.
+    /// The same routing once more. It fails only if no further share can be counted.
     pub fn share(&self) -> Result<Routing, AllocError>
         ensures { IfOk result (λ r. r ≡ self.now) }
     {
@@ -88,7 +87,7 @@ impl Routing {
         })
     }
 
-    /// The same routing of an excerpt whose table reads the same. It fails only where no further share can be counted.
+    /// The same routing of an excerpt whose table reads the same. It fails only if no further share can be counted.
     pub fn of_same(&self, excerpt: Excerpt) -> Result<Routing, AllocError>
         requires { content_of excerpt ≡ content_of self.now }
         ensures { IfOk result (λ r. r ≡ excerpt) }
@@ -123,7 +122,7 @@ impl Routing {
         messages_at(alloc, &self.excerpt, &self.choices, point)
     }
 
-    /// The link that a signalling link selection takes from a point, with both its ends, where it takes one (Q.704 clause
+    /// The link that a signalling link selection takes from a point, with both its ends, if it takes one (Q.704 clause
     /// 2.3).
     pub fn hop(&self, point: PointCode, s: u8) -> Option<Hop>
         requires { s < 16 }
@@ -142,43 +141,43 @@ impl Routing {
 
 /// A place for the settled routing of an excerpt, which has come or not.
 #[derive(Drop)]
-pub struct Place {
+pub struct RoutingSlot {
     excerpt: Excerpt,
     choices: Option<Arc<Vec<Choice>>>,
 }
 
-impl Model for Place {
+impl Model for RoutingSlot {
     ghost use Rattle.std.specs.Prelude.{is_some};
     ghost use Rattle.std.specs.Option.{IfSome};
     ghost use Rattle.std.specs.Arc.{arc_value};
-    ghost use Rattle.transfer_state.specs.Routing.{Seat, IsChosen};
+    ghost use Rattle.transfer_state.specs.Routing.{RoutingSlotValue, IsChosen};
 
-    ghost Value = { Seat };
+    ghost Value = { RoutingSlotValue };
 
-    ghost view = { λ p. record { extract = p.excerpt; settled = is_some p.choices } };
+    ghost view = { λ p. record { excerpt = p.excerpt; settled = is_some p.choices } };
 
     ghost invariant = { λ p. IfSome p.choices (λ c. IsChosen p.excerpt (arc_value c).items) };
 }
 
-impl Place {
+impl RoutingSlot {
     /// A place for the routing of an excerpt, which has not come.
-    pub fn new(excerpt: Excerpt) -> Place
-        ensures { result ≡ record { extract = excerpt; settled = false } }
+    pub fn new(excerpt: Excerpt) -> RoutingSlot
+        ensures { result ≡ record { excerpt = excerpt; settled = false } }
     {
-        Place {
+        RoutingSlot {
             excerpt,
             choices: None,
         }
     }
 
     /// A place for the routing of an excerpt whose table reads the same as that of a routing that is there.
-    pub fn of_same(excerpt: Excerpt, routing: &Routing) -> Result<Place, AllocError>
+    pub fn of_same(excerpt: Excerpt, routing: &Routing) -> Result<RoutingSlot, AllocError>
         requires { content_of excerpt ≡ content_of routing.now }
-        ensures { IfOk result (λ p. p ≡ record { extract = excerpt; settled = true }) }
+        ensures { IfOk result (λ p. p ≡ record { excerpt = excerpt; settled = true }) }
     {
         excerpt.validity();
         routing.excerpt.validity();
-        Ok(Place {
+        Ok(RoutingSlot {
             choices: Some(Arc::try_clone(&routing.choices)?),
             excerpt,
         })
@@ -186,14 +185,14 @@ impl Place {
 
     /// The destination.
     pub fn dest(&self) -> PointCode
-        ensures { result ≡ self.now.extract.plan.dest }
+        ensures { result ≡ self.now.excerpt.plan.dest }
     {
         self.excerpt.dest()
     }
 
     /// Takes in a routing whose table reads the same. It takes no memory.
     pub fn fill(&mut self, routing: Routing)
-        requires { content_of routing ≡ content_of self.old.extract }
+        requires { content_of routing ≡ content_of self.old.excerpt }
         ensures { self.new ≡ record self.old { settled = true } }
     {
         self.excerpt.validity();
@@ -201,9 +200,9 @@ impl Place {
         self.choices = Some(routing.choices);
     }
 
-    /// The routing that has come, shared. It fails only where no further share can be counted.
+    /// The routing that has come, shared. It fails only if no further share can be counted.
     pub fn routing(&self) -> Result<Option<Routing>, AllocError>
-        ensures { IfOk result (λ r. r ≡ (if self.now.settled then Some self.now.extract else None)) }
+        ensures { IfOk result (λ r. r ≡ (if self.now.settled then Some self.now.excerpt else None)) }
     {
         match &self.choices {
             Some(choices) => Ok(Some(Routing {

@@ -10,7 +10,7 @@ ghost use Rattle.transfer_state.specs.Members.{set_to};
 use excerpts::Excerpt;
 use net_items::Row;
 use point_codes::{MsgKind, PointCode};
-use profile::tables::{Message, Messages, RowLinks, SetLinks};
+use profile::{Message, Messages, RowLinks, SetLinks};
 use route_choice::{Choice, Far};
 use sls_share::Carried;
 use std::alloc::{AllocError, Global};
@@ -23,10 +23,10 @@ pub(crate) fn size_of(row: &Row, class: u8) -> u8
     if class == 5 {
         return 1;
     }
-    let place = usize::from(class).saturating_sub(1);
+    let position = usize::from(class).saturating_sub(1);
     let classes = row.classes.as_slice();
-    if place < classes.len() {
-        classes[place].as_slice().len() as u8
+    if position < classes.len() {
+        classes[position].as_slice().len() as u8
     } else {
         0
     }
@@ -47,11 +47,11 @@ pub(crate) fn used_size(row: &Row, choice: &Choice) -> u8
 }
 
 /// The member in a place of a choice, 0 or 1.
-pub(crate) fn member(choice: &Choice, place: usize) -> Option<PointCode>
-    requires { place < 2 }
-    ensures { result ≡ member_of choice.now place }
+pub(crate) fn member(choice: &Choice, position: usize) -> Option<PointCode>
+    requires { position < 2 }
+    ensures { result ≡ member_of choice.now position }
 {
-    choice.members[place]
+    choice.members[position]
 }
 
 /// The set to a member, with the links that carry its share numbers.
@@ -69,7 +69,7 @@ fn set_over(e: &Excerpt, y: PointCode, member: Option<PointCode>) -> Option<SetL
 
 /// The links of the sixteen signalling link selections (Q.704 clause 2.3), by the configured number of vias of the class
 /// in use.
-#[tactic(auto, using(crate::proofs::Membership::links_made))]
+#[tactic(auto, using(crate::proofs::MemberLemmas::links_made))]
 pub(crate) fn links_of(e: &Excerpt, row: &Row, choice: &Choice, size: u8) -> RowLinks
     requires { size ≡ size_by row.now choice.now.class }
     ensures { result ≡ (state_by (source_of e.now) row.now choice.now).links }
@@ -98,7 +98,7 @@ fn is_member(z: PointCode, choice: &Choice) -> bool
     is_at(choice.members[0], z) || is_at(choice.members[1], z)
 }
 
-/// The message in force from a point with this choice to a point: prohibited where that point is used, and else the
+/// The message in force from a point with this choice to a point: prohibited if that point is used, and else the
 /// status (Q.704 clauses 13.2 to 13.4).
 pub(crate) fn message(choice: &Choice, z: PointCode) -> MsgKind
     ensures { result ≡ message_of choice.now z }

@@ -32,12 +32,12 @@ fn tell(fars: &mut [Far], code: PointCode, far: Far)
     fars[usize::from(code.number())] = far;
 }
 
-/// What a point is offered over a via: prohibited where no available set joins them.
+/// What a point is offered over a via: prohibited if no available set joins them.
 fn offer_of(e: &Excerpt, fars: &[Far], point: PointCode, via: PointCode) -> Far
     requires { length fars.now ≡ 16384 }
     ensures { result ≡ (offer (source_of e.now) (far_at fars.now) point via).far }
 {
-    if e.are_joined(point, via) {
+    if e.is_connected(point, via) {
         fars[usize::from(via.number())]
     } else {
         Far::Prohibited
@@ -86,7 +86,7 @@ fn mate_offer(e: &Excerpt, fars: &[Far], row: &Row) -> Option<(PointCode, Far)>
     }
     let point = e.mate_of(row.point)?;
     let mate = e.row(point)?;
-    if e.are_joined(row.point, mate.point) {
+    if e.is_connected(row.point, mate.point) {
         let status = route_choice::direct(mate, &fars_of(e, fars, mate), e.tfr());
         Some((mate.point, status))
     } else {
@@ -108,16 +108,16 @@ fn choice_of(e: &Excerpt, fars: &[Far], row: &Row) -> Choice
 fn put_choice(
     choices: &mut [Choice],
     fars: &mut [Far],
-    place: usize,
+    position: usize,
     code: PointCode,
     choice: &Choice,
 )
-    requires here { place < length choices.old }
+    requires here { position < length choices.old }
     requires coded { length fars.old ≡ 16384 }
-    ensures choices { choices.new ≡ slice_set choices.old place choice.now }
+    ensures choices { choices.new ≡ slice_set choices.old position choice.now }
     ensures fars { fars.new ≡ slice_set fars.old code choice.now.status }
 {
-    choices[place] = *choice;
+    choices[position] = *choice;
     tell(fars, code, choice.status);
 }
 

@@ -9,14 +9,14 @@ ghost use Rattle.transfer_state.specs.Routing.{IsChosen};
 use crate::states::{links_of, messages_of, size_of};
 use crate::sweep::{choices, rows_of};
 use excerpts::Excerpt;
-use profile::tables::{RowState, RowStates, Table};
+use profile::{RowState, RowStates, Table};
 use route_choice::Choice;
 use std::alloc::{AllocError, Global};
 
 /// The table of an excerpt, from scratch (own, after Q.704 clauses 2.3 and 13.2 to 13.4). It fails where memory is
 /// refused.
 ///
-/// So its statuses are not prohibited exactly where a walk leads to the destination, no two mates use each other, and the
+/// So its statuses are not prohibited exactly if a walk leads to the destination, no two mates use each other, and the
 /// table is what its own messages make of it.
 pub fn table_of(alloc: Global, e: &Excerpt) -> Result<Table, AllocError>
     ensures scratch { IfOk result (λ table. table ≡ scratch (source_of e.now)) }

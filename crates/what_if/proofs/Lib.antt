@@ -1,2 +1,2 @@
-pub mod Gathering
-pub mod Unchanged
+pub mod GatheringLemmas
+pub mod UnchangedLemmas

@@ -16,7 +16,7 @@ use Rattle.route_choice.specs.declared.choices.Far.{Far}
 use Rattle.route_choice.specs.declared.choices.Far.TheVariants.{Prohibited}
 use Rattle.route_choice.specs.Routes.{same_far}
 use Rattle.profile.specs.Status.{choice}
-use Rattle.excerpts.specs.Excerpts.{Extract, excerpt_at, source_of}
+use Rattle.excerpts.specs.Excerpts.{ExcerptValue, excerpt_at, source_of}
 use Rattle.what_if.specs.declared.changes.Change.{Change}
 use Rattle.what_if.specs.declared.reports.Refused.{Refused}
 use Rattle.what_if.specs.declared.reports.Report.{Report}
@@ -30,12 +30,12 @@ both (x ∷ xs) ys = both xs (put (λ n. n) x ys)
 abbrev pub dests : Network → List ℕ
 dests net = map (λ (p : Plan). p.dest) net.plans
 
--- the points with a row, where there is a plan
-abbrev pub points : Option Extract → List ℕ
+-- the points with a row, if there is a plan
+abbrev pub points : Option ExcerptValue → List ℕ
 points x = option_map_or (λ e. map (λ row. row.point) e.plan.rows) x []
 
--- the status of a point by the table from scratch: none where there is no plan, or no row
-abbrev pub status_of : Option Extract → ℕ → Option Far
+-- the status of a point by the table from scratch: none if there is no plan, or no row
+abbrev pub status_of : Option ExcerptValue → ℕ → Option Far
 status_of x y = option_and_then (λ e. option_map (λ row. (choice (source_of e) row).status) (row_at e.plan.rows y)) x
 
 -- whether two statuses are the same
@@ -46,13 +46,13 @@ is_same (Some f) None = false
 is_same (Some f) (Some g) = same_far f g
 
 -- the change of a point towards a destination, where its status before and after differs
-abbrev pub change_between : Option Extract → Option Extract → ℕ → ℕ → List Change
+abbrev pub change_between : Option ExcerptValue → Option ExcerptValue → ℕ → ℕ → List Change
 change_between old new x y =
     if is_same (status_of old y) (status_of new y) then []
     else record { point = y; dest = x; before = status_of old y; after = status_of new y } ∷ []
 
 -- the changes towards a destination, of each point that has a row before or after
-abbrev pub changes_between : Option Extract → Option Extract → ℕ → List Change
+abbrev pub changes_between : Option ExcerptValue → Option ExcerptValue → ℕ → List Change
 changes_between old new x = flat_map (change_between old new x) (both (points old) (points new))
 
 -- the changes from a network to another, towards each destination that is planned before or after
@@ -102,6 +102,6 @@ report_after old events (Err refused) = Err refused
 abbrev pub report_of : Network → List Event → Result Report Refused
 report_of net events = report_after net events (after 1 net events)
 
--- the answer: the report or the refusal; want of memory may be told in the place of either
+-- the answer: the report or the refusal; out of memory may be told in the place of either
 abbrev pub IsReported : Network → List Event → Result Report Refused → Type 0
 IsReported net events result = (result ≡ report_of net events) ⊎ (result ≡ Err (record { place = 0; refusal = OutOfMemory }))

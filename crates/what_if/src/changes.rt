@@ -15,9 +15,9 @@ pub struct Change {
     pub point: PointCode,
     /// The destination.
     pub dest: PointCode,
-    /// Its status before, none where it has no row.
+    /// Its status before, none if it has no row.
     pub before: Option<Far>,
-    /// Its status after, none where it has no row.
+    /// Its status after, none if it has no row.
     pub after: Option<Far>,
 }
 

@@ -7,15 +7,14 @@ ghost use Rattle.what_if.specs.Reports.{changes as the_changes, change_between, 
 
 use crate::changes::{Change, is_same};
 use crate::codes::{dests_of, merged, points_of};
-use excerpts::{Excerpt, ExcerptFault};
-use frozen_nets::Frozen;
+use excerpts::{Excerpt, ExcerptFault, Frozen};
 use net_versions::Version;
 use point_codes::PointCode;
 use route_choice::Far;
 use std::alloc::{AllocError, Global};
 use transfer_state::Routing;
 
-/// The status of a point, none where there is no plan or no row.
+/// The status of a point, none if there is no plan or no row.
 fn status_of(routing: Option<&Routing>, point: PointCode) -> Option<Far>
     ensures { result ≡ the_status (option_copied routing.entry) point }
 {
@@ -78,7 +77,7 @@ fn settled(alloc: Global, excerpt: Excerpt) -> Result<Routing, AllocError>
     }
 }
 
-/// The settled routing towards a destination of a network, where it is planned.
+/// The settled routing towards a destination of a network, if it is planned.
 fn routing_in(alloc: Global, net: &Frozen, dest: PointCode) -> Result<Option<Routing>, AllocError>
     ensures { IfOk result (λ r. r ≡ excerpt_at net.now dest) }
 {

@@ -6,7 +6,7 @@ ghost use Rattle.what_if.specs.Reports.{after as the_network_after, inhibits as 
 
 use crate::changes::{Changes, any_loss};
 use crate::comparing::changes_of;
-use frozen_nets::Frozen;
+use excerpts::Frozen;
 use link_state::LinkChange;
 use net_data::{Event, Net, Refusal};
 use net_versions::Version;
@@ -21,7 +21,7 @@ pub struct Report {
     pub denied: bool,
 }
 
-/// The first event that is refused; or want of memory, at place 0.
+/// The first event that is refused; or out of memory, at place 0.
 #[derive(Clone, Copy, Debug, PartialEq, Eq)]
 pub struct Refused {
     /// Its place, counted from 1.
@@ -94,7 +94,7 @@ fn compare(
     })
 }
 
-/// What is reported of the events, or want of memory.
+/// What is reported of the events, or out of memory.
 fn make_report(
     alloc: Global,
     version: &Version,
@@ -115,7 +115,7 @@ fn make_report(
 /// What a list of events would change, made one after the other on the network of a published version, which stays as it
 /// is (own, after Q.704 clause 10).
 ///
-/// The first event that is refused is told. Want of memory may be told in the place of any answer.
+/// The first event that is refused is told. Out of memory may be told in the place of any answer.
 pub fn what_if(alloc: Global, version: &Version, events: &[Event]) -> Result<Report, Refused>
     ensures { IsReported version.now.network events.now result }
 {

@@ -4,8 +4,7 @@ ghost use Rattle.std.specs.Prelude.{◌≡◌, IfOk};
 ghost use Rattle.excerpts.specs.Excerpts.{excerpt_at};
 ghost use Rattle.work_units.specs.Work.{IsJob};
 
-use excerpts::{Excerpt, ExcerptFault};
-use frozen_nets::Frozen;
+use excerpts::{Excerpt, ExcerptFault, Frozen};
 use net_data::Net;
 use point_codes::PointCode;
 use std::alloc::{AllocError, Global};
@@ -23,7 +22,7 @@ impl Model for Job {
 
     ghost Value = { Work };
 
-    ghost view = { λ j. record { version = j.version; extract = j.excerpt } };
+    ghost view = { λ j. record { version = j.version; excerpt = j.excerpt } };
 }
 
 /// A frozen copy of a network.
@@ -35,8 +34,8 @@ fn frozen_copy(alloc: Global, net: &Net) -> Result<Frozen, AllocError>
 }
 
 impl Job {
-    /// A job for a destination of a network, which is copied. It is refused where the network has no plan for the
-    /// destination, and, last, where memory is refused.
+    /// A job for a destination of a network, which is copied. It is refused if the network has no plan for the
+    /// destination, and, last, if memory is refused.
     pub fn new(alloc: Global, version: u64, net: &Net, dest: PointCode) -> Result<Job, ExcerptFault>
         ensures { IsJob version (excerpt_at net.now dest) result }
     {
@@ -50,8 +49,8 @@ impl Job {
         }
     }
 
-    /// A job for a destination of a network, which is shared. It is refused where the network has no plan for the
-    /// destination, and, last, where no further share can be counted.
+    /// A job for a destination of a network, which is shared. It is refused if the network has no plan for the
+    /// destination, and, last, if no further share can be counted.
     pub fn of(version: u64, net: &Frozen, dest: PointCode) -> Result<Job, ExcerptFault>
         ensures { IsJob version (excerpt_at net.now dest) result }
     {
@@ -63,7 +62,7 @@ impl Job {
 
     /// A job for an excerpt.
     pub(crate) fn from_parts(version: u64, excerpt: Excerpt) -> Job
-        ensures { result ≡ record { version = version; extract = excerpt } }
+        ensures { result ≡ record { version = version; excerpt = excerpt } }
     {
         Job { version, excerpt }
     }
@@ -71,7 +70,7 @@ impl Job {
     /// The version that it is for, and the excerpt.
     pub(crate) fn into_parts(self) -> (u64, Excerpt)
         ensures version { result.0 ≡ self.version }
-        ensures extract { result.1 ≡ self.extract }
+        ensures excerpt { result.1 ≡ self.excerpt }
     {
         (self.version, self.excerpt)
     }
@@ -85,14 +84,14 @@ impl Job {
 
     /// The destination.
     pub fn dest(&self) -> PointCode
-        ensures { result ≡ self.now.extract.plan.dest }
+        ensures { result ≡ self.now.excerpt.plan.dest }
     {
         self.excerpt.dest()
     }
 
     /// What the table of the destination reads.
     pub fn excerpt(&self) -> &Excerpt
-        ensures { result.now ≡ self.now.extract }
+        ensures { result.now ≡ self.now.excerpt }
     {
         &self.excerpt
     }

@@ -21,7 +21,7 @@ impl Model for Settled {
 
     ghost Value = { Work };
 
-    ghost view = { λ s. record { version = s.version; extract = s.routing } };
+    ghost view = { λ s. record { version = s.version; excerpt = s.routing } };
 }
 
 impl Settled {
@@ -34,34 +34,34 @@ impl Settled {
 
     /// The destination.
     pub fn dest(&self) -> PointCode
-        ensures { result ≡ self.now.extract.plan.dest }
+        ensures { result ≡ self.now.excerpt.plan.dest }
     {
         self.routing.dest()
     }
 
     /// What the table of the destination reads.
     pub fn excerpt(&self) -> &Excerpt
-        ensures { result.now ≡ self.now.extract }
+        ensures { result.now ≡ self.now.excerpt }
     {
         self.routing.excerpt()
     }
 
     /// The settled routing of the excerpt.
     pub fn routing(&self) -> &Routing
-        ensures { result.now ≡ self.now.extract }
+        ensures { result.now ≡ self.now.excerpt }
     {
         &self.routing
     }
 
     /// The settled routing, given away.
     pub fn into_routing(self) -> Routing
-        ensures { result ≡ self.extract }
+        ensures { result ≡ self.excerpt }
     {
         self.routing
     }
 }
 
-/// Does a job: the result has its version and its excerpt. Where memory is refused it hands the job back.
+/// Does a job: the result has its version and its excerpt. If memory is refused it hands the job back.
 pub fn settle(alloc: Global, job: Job) -> Result<Settled, (Job, AllocError)>
     ensures ok { IfOk result (λ s. s ≡ job) }
     ensures err { IfErr result (λ e. e.0 ≡ job) }

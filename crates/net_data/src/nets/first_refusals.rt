@@ -6,10 +6,9 @@ ghost use Rattle.net_data.specs.Edits.{refusal_of as the_refusal};
 use crate::events::{Event, Refusal};
 use crate::nets::Net;
 use link_state::LinkChange;
-use net_items::items::{Kind, Plan};
-use net_items::lists::Slcs;
 use net_items::lookups::{find_set_between, is_point, is_stp, mate_of};
-use net_sets::set_tests::{
+use net_items::{Kind, Plan, Slcs};
+use net_sets::set_questions::{
     are_good_links, find_set, is_any_end, is_set, set_has_last_link, set_has_link,
 };
 use plan_rows::causes::{are_small_rows, has_points, wrong_row};
@@ -97,7 +96,7 @@ impl Net {
         if is_set(self.sets.as_slice(), id) {
             return Some(Refusal::SetThere);
         }
-        if self.sets.is_joined(a, b) {
+        if self.sets.is_adjacent(a, b) {
             if let Some(set) = find_set_between(self.sets.as_slice(), a, b) {
                 return Some(Refusal::Joined(set.id));
             }

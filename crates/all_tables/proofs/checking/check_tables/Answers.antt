@@ -2,7 +2,7 @@ use Rattle.std.proofs.Common.{Some, None, length, slice_get, get_or, refl, ap, �
 use Rattle.std.proofs.lemmas.Bool.{cases_eq}
 use Rattle.std.proofs.lemmas.Option.{slice_get_read, slice_get-get_or}
 use Rattle.all_tables.specs.Tables.{IsJudged}
-use Rattle.all_tables.proofs.Judged.{at_place, same_length, settled_before}
+use Rattle.all_tables.proofs.CheckingLemmas.{at_place, same_length, settled_before}
 use Rattle.all_tables.proofs.checking.check_tables.Goals as goal
 
 pub index-requires : goal.index-requires
@@ -14,28 +14,28 @@ returns-in-Some g c =
     let tables = c.args.tables.now in
     let found = c.in_ok-complaints.complaints.items in
     let same = same_length (IsJudged net) tables found c.in_ok-complaints.ensures in
-    let there = slice_get_read found (length found) c.loop-place.place c.index.result.now refl (omega arith) c.index.ensures ∙ ap Some c.in-Some.is in
-    let judged = at_place (IsJudged net) tables found c.loop-place.place c.index-tables-place.result (Some c.in-Some.complaint) c.in_ok-complaints.ensures there in
+    let there = slice_get_read found (length found) c.loop-position.position c.index.result.now refl (omega arith) c.index.ensures ∙ ap Some c.in-Some.is in
+    let judged = at_place (IsJudged net) tables found c.loop-position.position c.index-tables-position.result (Some c.in-Some.complaint) c.in_ok-complaints.ensures there in
     record {
-      place = c.loop-place.place;
-      table = get_or tables c.loop-place.place c.index-tables-place.result;
-      there = slice_get-get_or tables c.loop-place.place c.index-tables-place.result (omega arith);
-      before = settled_before net tables found c.loop-place.place c.in_ok-complaints.ensures c.loop-place.invariant;
+      position = c.loop-position.position;
+      table = get_or tables c.loop-position.position c.index-tables-position.result;
+      there = slice_get-get_or tables c.loop-position.position c.index-tables-position.result (omega arith);
+      before = settled_before net tables found c.loop-position.position c.in_ok-complaints.ensures c.loop-position.invariant;
       dest = refl;
       unsettled = judged.1;
       complaint = judged.0;
     }
 
-pub loop-place-preserved : goal.loop-place-preserved
-loop-place-preserved g c = λ k low.
+pub loop-position-preserved : goal.loop-position-preserved
+loop-position-preserved g c = λ k low.
     let found = c.in_ok-complaints.complaints.items in
     let same = same_length (IsJudged c.args.net.now) c.args.tables.now found c.in_ok-complaints.ensures in
-    elim (cases_eq k c.loop-place.place) [
+    elim (cases_eq k c.loop-position.position) [
       | inl e ↦
           ap (slice_get found) e
-          ∙ slice_get_read found (length found) c.loop-place.place c.index.result.now refl (omega arith) c.index.ensures ∙ ap Some c.in_default.is
-      | inr ne ↦ c.loop-place.invariant k (omega arith)
+          ∙ slice_get_read found (length found) c.loop-position.position c.index.result.now refl (omega arith) c.index.ensures ∙ ap Some c.in_default.is
+      | inr ne ↦ c.loop-position.invariant k (omega arith)
     ]
 
 pub returns : goal.returns
-returns g c = λ k d low. at_place (IsJudged c.args.net.now) c.args.tables.now c.in_ok-complaints.complaints.items k d None c.in_ok-complaints.ensures (c.loop-place.invariant k (omega arith))
+returns g c = λ k d low. at_place (IsJudged c.args.net.now) c.args.tables.now c.in_ok-complaints.complaints.items k d None c.in_ok-complaints.ensures (c.loop-position.invariant k (omega arith))

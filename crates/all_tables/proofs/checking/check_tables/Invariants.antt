@@ -1,5 +1,5 @@
 use Rattle.std.proofs.Common.{◌≡◌, ℕ, ◌<◌, Some, None, slice_get}
 use Rattle.all_tables.proofs.checking.check_tables.Given as goal
 
-abbrev pub invariant-loop-place : goal.invariant-loop-place
-invariant-loop-place g l = (k : ℕ) → k < l.place → slice_get l.complaints.items k ≡ Some None
+abbrev pub invariant-loop-position : goal.invariant-loop-position
+invariant-loop-position g l = (k : ℕ) → k < l.position → slice_get l.complaints.items k ≡ Some None

@@ -2,7 +2,7 @@ use Rattle.std.proofs.Common.{ap, ◌∙◌}
 use Rattle.std.specs.Prelude.{IfOk}
 use Rattle.rayon.proofs.ToStd.{slice-AllZip}
 use Rattle.all_tables.specs.Tables.{IsJudged}
-use Rattle.all_tables.proofs.Judged.{collected}
+use Rattle.all_tables.proofs.CheckingLemmas.{collected}
 use Rattle.all_tables.proofs.checking.judge_all.Goals as goal
 
 pub returns : goal.returns

@@ -1,5 +1,5 @@
 use Rattle.std.proofs.Common.{◌∷◌, ◌++◌, [], ap, sym, ◌∙◌}
-use Rattle.all_tables.proofs.Present.{one_there, none_there}
+use Rattle.all_tables.proofs.MakingLemmas.{one_there, none_there}
 use Rattle.all_tables.proofs.making.present.Goals as goal
 
 pub loop-one-preserved-in-Continue-branch-2 : goal.loop-one-preserved-in-Continue-branch-2

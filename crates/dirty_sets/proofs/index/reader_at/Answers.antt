@@ -12,6 +12,6 @@ sets_read-requires-clause-leads c = λ _e.
     let net = c.args.net.now in
     let plan = c.at-plan.result.now in
     let right : IsRightPlan net.points net.sets plan =
-    subst (IsRightPlan net.points net.sets) (sym (c.at-plan.ensures ∙ ap (λ (ps : List Plan). get_or ps c.args.place plan) c.plans.ensures))
-    (All-from_recursion (IsRightPlan net.points net.sets) net.plans c.validity.ensures.plans_right c.args.place plan c.requires) in
+    subst (IsRightPlan net.points net.sets) (sym (c.at-plan.ensures ∙ ap (λ (ps : List Plan). get_or ps c.args.position plan) c.plans.ensures))
+    (All-from_recursion (IsRightPlan net.points net.sets) net.plans c.validity.ensures.plans_right c.args.position plan c.requires) in
     subst (λ (ps : List Point). LeadsOn ps plan) (sym c.points.ensures) (leads_on net c.validity.ensures plan right)

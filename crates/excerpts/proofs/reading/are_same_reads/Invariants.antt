@@ -3,7 +3,7 @@ use Rattle.std.specs.Prelude.{filter}
 use Rattle.excerpts.specs.Excerpts.{is_read_by}
 use Rattle.excerpts.proofs.reading.are_same_reads.Given as goal
 
--- what is left of both is the same exactly where both are
+-- what is left of both is the same exactly if both are
 abbrev pub invariant-loop-set : goal.invariant-loop-set
 invariant-loop-set l = record {
   to : filter (is_read_by l.points l.plan) l.left ≡ filter (is_read_by l.other_points l.plan) l.right → filter (is_read_by l.points l.plan) l.sets ≡ filter (is_read_by l.other_points l.plan) l.other_sets;

@@ -1,7 +1,7 @@
 use Rattle.std.proofs.Common.{◌+◌, ◌∙◌, ap, sym, subst, arith, List, length, ◌<◌}
 use Rattle.net_items.specs.declared.links.Link.{Link}
 use Rattle.link_sets.specs.Availability.{IsMask}
-use Rattle.link_sets.proofs.Masking.{IsMaskUpTo, available_at_is, mask_set, mask_past, mask_all}
+use Rattle.link_sets.proofs.MaskLemmas.{IsMaskUpTo, available_at_is, mask_set, mask_past, mask_all}
 use Rattle.link_sets.proofs.availability.mask.Goals as goal
 use Rattle.link_sets.proofs.availability.mask.Goals.{then-available, else-available}
 

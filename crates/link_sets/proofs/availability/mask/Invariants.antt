@@ -1,4 +1,4 @@
-use Rattle.link_sets.proofs.Masking.{IsMaskUpTo}
+use Rattle.link_sets.proofs.MaskLemmas.{IsMaskUpTo}
 use Rattle.link_sets.proofs.availability.mask.Given as goal
 
 -- the links so far have their bits

@@ -4,7 +4,7 @@ use Rattle.std.proofs.lemmas.Bool.{cases_eq}
 use Rattle.std.proofs.lemmas.Option.{slice_get_read, same_Some, slice_get_within}
 use Rattle.net_items.specs.declared.items.LinkSet.{LinkSet}
 use Rattle.net_items.specs.Lookups.{joins}
-use Rattle.link_sets.proofs.Neighbouring.{next_is}
+use Rattle.link_sets.proofs.NeighbourLemmas.{next_is}
 use Rattle.link_sets.proofs.neighbours.next_neighbour.Goals as goal
 
 pub loop-i-preserved : goal.loop-i-preserved

@@ -3,4 +3,4 @@ use Rattle.net_sets.proofs.SetLemmas.{IsRising-new_links}
 use Rattle.net_sets.proofs.changes.new_links.Goals as goal
 
 pub put-requires : goal.put-requires
-put-requires c = rw c.loop-place.invariant.done (IsRising-new_links (drop c.loop-place.place c.args.slcs.now))
+put-requires c = rw c.loop-position.invariant.done (IsRising-new_links (drop c.loop-position.position c.args.slcs.now))

@@ -3,9 +3,9 @@ use Rattle.profile.specs.declared.hops.Hop.{Hop}
 use Rattle.profile.specs.Status.{Source}
 use Rattle.excerpts.specs.Excerpts.{source_of}
 use Rattle.profile.specs.Traces.{hops_within}
-use Rattle.profile.proofs.Hopping.{hops_at_dest, hops_end}
+use Rattle.profile.proofs.HopLemmas.{hops_at_dest, hops_end}
 use Rattle.std.proofs.lemmas.Bool.{not-true, not-false}
-use Rattle.path_trace.proofs.Following.{after, after_none, after_all, one_more, stopped}
+use Rattle.path_trace.proofs.FollowingLemmas.{after, after_none, after_all, one_more, stopped}
 use Rattle.path_trace.proofs.tracing.follow.Goals as goal
 
 pub overflow_mul-left : goal.overflow_mul-left

@@ -1,7 +1,7 @@
 use Rattle.std.proofs.Common.{◌≡◌, ◌*◌}
 use Rattle.profile.specs.Traces.{hops_within}
 use Rattle.excerpts.specs.Excerpts.{source_of}
-use Rattle.path_trace.proofs.Following.{after}
+use Rattle.path_trace.proofs.FollowingLemmas.{after}
 use Rattle.path_trace.proofs.tracing.follow.Given as goal
 
 -- the hops so far and those that are left make all

@@ -1,6 +1,6 @@
 use Rattle.std.proofs.Common.{subst}
 use Rattle.excerpts.specs.Excerpts.{IsRight}
-use Rattle.path_trace.proofs.Telling.{told}
+use Rattle.path_trace.proofs.TellingLemmas.{told}
 use Rattle.path_trace.proofs.tracing.trace.Goals as goal
 
 pub returns-clause-law : goal.returns-clause-law

@@ -1,7 +1,7 @@
 use Rattle.std.proofs.Common.{◌∙◌, refl, take, map, false}
 use Rattle.std.proofs.lemmas.List.{get_or-replicate}
 use Rattle.net_items.specs.declared.lists.Row.{Row}
-use Rattle.net_items.proofs.ListFacts.{list_any_map}
+use Rattle.net_items.proofs.ListLemmas.{list_any_map}
 use Rattle.plan_rows.proofs.causes.wrong_row.Goals as goal
 
 pub note_ranks-requires-clause-blank : goal.note_ranks-requires-clause-blank
@@ -11,10 +11,10 @@ pub note_transfers-requires-clause-blank : goal.note_transfers-requires-clause-b
 note_transfers-requires-clause-blank c = λ z within. get_or-replicate 16384 z false false within
 
 -- no point was seen
-pub loop-place-init : goal.loop-place-init
-loop-place-init c = record { long = refl; seen = λ z within. get_or-replicate 16384 z false false within; rest = refl }
+pub loop-position-init : goal.loop-position-init
+loop-position-init c = record { long = refl; seen = λ z within. get_or-replicate 16384 z false false within; rest = refl }
 
 pub cause_of-cause-requires-clause-twice : goal.cause_of-cause-requires-clause-twice
 cause_of-cause-requires-clause-twice c =
-    c.see-twice.ensures.before (map (λ (r : Row). r.point) (take c.loop-place.place c.args.rows.now)) c.loop-place.invariant.seen
-    ∙ list_any_map _ (λ (r : Row). r.point) (take c.loop-place.place c.args.rows.now)
+    c.see-twice.ensures.before (map (λ (r : Row). r.point) (take c.loop-position.position c.args.rows.now)) c.loop-position.invariant.seen
+    ∙ list_any_map _ (λ (r : Row). r.point) (take c.loop-position.position c.args.rows.now)

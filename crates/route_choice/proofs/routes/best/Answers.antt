@@ -1,6 +1,6 @@
 use Rattle.std.proofs.Common.{arith}
 use Rattle.route_choice.specs.Routes.{best, offered}
-use Rattle.route_choice.proofs.Offered.{best_more, best_end, none_better_of}
+use Rattle.route_choice.proofs.OfferLemmas.{best_more, best_end, none_better_of}
 use Rattle.route_choice.proofs.routes.best.Goals as goal
 
 pub loop-i-init : goal.loop-i-init

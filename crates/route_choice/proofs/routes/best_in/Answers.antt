@@ -1,7 +1,7 @@
 use Rattle.std.proofs.Common.{arith, ap, sym, ◌∙◌, get_or}
 use Rattle.route_choice.specs.declared.choices.Far.TheVariants.{Allowed}
 use Rattle.route_choice.specs.Routes.{best_in, better_of}
-use Rattle.route_choice.proofs.Offered.{offered_one, offered_two, better_of_none}
+use Rattle.route_choice.proofs.OfferLemmas.{offered_one, offered_two, better_of_none}
 use Rattle.route_choice.proofs.routes.best_in.Goals as goal
 
 pub returns-in-len1 : goal.returns-in-len1

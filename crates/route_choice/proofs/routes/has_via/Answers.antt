@@ -1,7 +1,7 @@
 use Rattle.std.proofs.Common.{arith, ap, sym, ◌∙◌, get_or}
 use Rattle.route_choice.specs.declared.choices.Far.TheVariants.{Allowed}
 use Rattle.route_choice.specs.Routes.{has_via, same_far}
-use Rattle.route_choice.proofs.Offered.{offered_one, offered_two, or_false}
+use Rattle.route_choice.proofs.OfferLemmas.{offered_one, offered_two, or_false}
 use Rattle.route_choice.proofs.routes.has_via.Goals as goal
 
 pub returns-in-len1 : goal.returns-in-len1

@@ -1,6 +1,6 @@
 use Rattle.std.proofs.Common.{arith, sym, ap, ◌∙◌, ◌+◌}
 use Rattle.route_choice.specs.Routes.{lowest}
-use Rattle.route_choice.proofs.Offered.{lowest_here, lowest_past, offered_all}
+use Rattle.route_choice.proofs.OfferLemmas.{lowest_here, lowest_past, offered_all}
 use Rattle.route_choice.proofs.routes.lowest.Goals as goal
 
 pub loop-i-preserved : goal.loop-i-preserved

@@ -8,5 +8,5 @@ use Rattle.sls_share.proofs.carried.code_at.Given as goal
 abbrev pub invariant-loop-code : goal.invariant-loop-code
 invariant-loop-code l = record {
   passed : l.before ≡ length (filter (λ c. eqb (bit_at l.codes c) 1) (range_with_len 0 l.code));
-  early : l.before ≤ l.place;
+  early : l.before ≤ l.position;
 }

@@ -1,6 +1,6 @@
 use Rattle.std.proofs.Common.{arith, ap, length, List}
 use Rattle.net_items.specs.declared.links.Link.{Link}
-use Rattle.sls_share.proofs.Carrying.{code_set}
+use Rattle.sls_share.proofs.CarriedLemmas.{code_set}
 use Rattle.sls_share.proofs.carried.codes_of.Goals as goal
 
 pub loop-link-preserved : goal.loop-link-preserved

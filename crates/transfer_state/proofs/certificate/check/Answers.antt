@@ -3,9 +3,9 @@ use Rattle.std.proofs.lemmas.Bool.Decides.{not_from_Decides}
 use Rattle.std.proofs.lemmas.Option.{slice_get_within}
 use Rattle.net_items.specs.declared.lists.Row.{Row}
 use Rattle.excerpts.specs.Excerpts.{source_of}
-use Rattle.profile.proofs.Certificate.{settled_table}
+use Rattle.profile.proofs.CertificateLemmas.{settled_table}
 use Rattle.transfer_state.specs.Complaints.{HasPoints}
-use Rattle.transfer_state.proofs.Matching.{points_at, state_read, element_read, right_before_more, settled_by_rows, complaint_wrong}
+use Rattle.transfer_state.proofs.MatchLemmas.{points_at, state_read, element_read, right_before_more, settled_by_rows, complaint_wrong}
 use Rattle.transfer_state.proofs.certificate.check.Goals as goal
 
 pub returns-then-not-has_points-clause-wrong : goal.returns-then-not-has_points-clause-wrong
@@ -25,7 +25,7 @@ returns-in-Some-clause-first c =
     let has : HasPoints (source_of c.args.e.now) c.args.table.now = c.has_points.ensures.0 c.if-not-has_points.false in
     inr (record {
       points = has;
-      place = c.loop-i.i;
+      position = c.loop-i.i;
       row = c.index-rows-i.result;
       state = c.index-states-i.result;
       row_at = element_read c.rows_of-rows.result.now c.args.e.now.plan.rows c.loop-i.i c.index-rows-i.result c.rows_of-rows.ensures c.loop-i-test.true c.index-rows-i.is;

@@ -5,7 +5,7 @@ use Rattle.profile.specs.declared.tables.Message.{Message}
 use Rattle.profile.specs.declared.tables.RowState.{RowState}
 use Rattle.profile.specs.Whole.{heard_in}
 use Rattle.excerpts.specs.Excerpts.{source_of}
-use Rattle.transfer_state.proofs.Matching.{heard_at, heard_nowhere}
+use Rattle.transfer_state.proofs.MatchLemmas.{heard_at, heard_nowhere}
 use Rattle.transfer_state.proofs.hearing.heard_from.Goals as goal
 
 pub returns-in-Ok : goal.returns-in-Ok

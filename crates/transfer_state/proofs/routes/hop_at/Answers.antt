@@ -1,6 +1,6 @@
 use Rattle.std.proofs.Common.{◌∙◌}
 use Rattle.transfer_state.proofs.RouteLemmas.{hop_is, hop_none}
-use Rattle.transfer_state.proofs.Sizes.{found_two}
+use Rattle.transfer_state.proofs.SizeLemmas.{found_two}
 use Rattle.transfer_state.proofs.routes.hop_at.Goals as goal
 
 pub hop_by_choice-requires-clause-two : goal.hop_by_choice-requires-clause-two

@@ -1,5 +1,5 @@
 use Rattle.std.proofs.Common.{sym}
-use Rattle.profile.proofs.Available.{found_few}
+use Rattle.profile.proofs.AvailabilityLemmas.{found_few}
 use Rattle.transfer_state.proofs.routes.hop_by_choice.Goals as goal
 
 pub link_for-requires-clause-few : goal.link_for-requires-clause-few

@@ -1,4 +1,4 @@
-use Rattle.transfer_state.proofs.Sizes.{found_two}
+use Rattle.transfer_state.proofs.SizeLemmas.{found_two}
 use Rattle.transfer_state.proofs.routes.links_at.Goals as goal
 
 pub used_size-size-requires-clause-two : goal.used_size-size-requires-clause-two

@@ -3,11 +3,11 @@ use Rattle.std.specs.Prelude.{filter}
 use Rattle.std.proofs.lemmas.List.{map-id}
 use Rattle.profile.specs.Local.{message}
 use Rattle.profile.specs.declared.tables.Message.{Message}
-use Rattle.transfer_state.proofs.Making.{filter_past, messages_from}
-use Rattle.profile.proofs.Receiving.{messages_never}
+use Rattle.transfer_state.proofs.TableLemmas.{filter_past, messages_from}
+use Rattle.profile.proofs.ReceiverLemmas.{messages_never}
 use Rattle.std.proofs.lemmas.Iterator.Consumers.{YieldsList-from_first, YieldsList-end}
 use Rattle.link_sets.specs.Neighbours.{neighbours}
-use Rattle.frozen_nets.specs.Around.{left_of}
+use Rattle.excerpts.specs.Around.{left_of}
 use Rattle.profile.specs.Status.{Source}
 use Rattle.excerpts.specs.Excerpts.{source_of}
 use Rattle.transfer_state.proofs.states.messages_of.Goals as goal

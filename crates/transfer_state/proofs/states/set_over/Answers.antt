@@ -1,8 +1,8 @@
 use Rattle.std.proofs.Common.{sym}
 use Rattle.net_items.specs.Lookups.{joins}
 use Rattle.profile.specs.Valid.{HasLinksInOrder}
-use Rattle.profile.proofs.Available.{found_few}
-use Rattle.link_sets.proofs.Lists.{find_gives}
+use Rattle.profile.proofs.AvailabilityLemmas.{found_few}
+use Rattle.link_sets.proofs.ListLemmas.{find_gives}
 use Rattle.transfer_state.proofs.states.set_over.Goals as goal
 
 pub of-requires-clause-few : goal.of-requires-clause-few

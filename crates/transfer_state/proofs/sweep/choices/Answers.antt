@@ -1,7 +1,7 @@
 use Rattle.excerpts.specs.Excerpts.{source_of}
-use Rattle.profile.proofs.Unfold.{row_valid}
-use Rattle.profile.proofs.Placing.{row_at_place}
-use Rattle.transfer_state.proofs.Sweeping.{first_swept}
+use Rattle.profile.proofs.UnfoldingLemmas.{row_valid}
+use Rattle.profile.proofs.PlacingLemmas.{row_at_place}
+use Rattle.transfer_state.proofs.SweepLemmas.{first_swept}
 use Rattle.std.proofs.Common.{◌≤◌, arith, ap, ◌∙◌, List, length, slice_get}
 use Rattle.net_items.specs.declared.lists.Row.{Row}
 use Rattle.transfer_state.proofs.sweep.choices.Goals as goal

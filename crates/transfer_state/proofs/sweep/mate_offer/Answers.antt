@@ -1,6 +1,6 @@
 use Rattle.std.proofs.Common.{sym}
 use Rattle.excerpts.specs.Excerpts.{source_of}
-use Rattle.transfer_state.proofs.Sweeping.{found_small, rows_small}
+use Rattle.transfer_state.proofs.SweepLemmas.{found_small, rows_small}
 use Rattle.transfer_state.proofs.sweep.mate_offer.Goals as goal
 
 pub fars_of-requires-clause-few : goal.fars_of-requires-clause-few

@@ -1,5 +1,5 @@
 use Rattle.excerpts.specs.Excerpts.{source_of}
-use Rattle.transfer_state.proofs.Sweeping.{IsSwept}
+use Rattle.transfer_state.proofs.SweepLemmas.{IsSwept}
 use Rattle.transfer_state.proofs.sweep.sweep_rank.Given as goal
 
 abbrev pub invariant-loop-i : goal.invariant-loop-i

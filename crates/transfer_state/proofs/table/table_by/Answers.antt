@@ -8,8 +8,8 @@ use Rattle.profile.specs.declared.tables.RowState.{RowState}
 use Rattle.profile.specs.Status.{Source, choice}
 use Rattle.excerpts.specs.Excerpts.{source_of}
 use Rattle.profile.specs.Whole.{state_of, scratch}
-use Rattle.transfer_state.proofs.Making.{made_more, made_all, state_made}
-use Rattle.transfer_state.proofs.Matching.{element_read, map_at}
+use Rattle.transfer_state.proofs.TableLemmas.{made_more, made_all, state_made}
+use Rattle.transfer_state.proofs.MatchLemmas.{element_read, map_at}
 use Rattle.transfer_state.proofs.table.table_by.Goals as goal
 
 pub loop-i-preserved : goal.loop-i-preserved

@@ -2,10 +2,10 @@ use Rattle.std.proofs.Common.{subst, sym}
 use Rattle.profile.specs.Status.{Source}
 use Rattle.profile.specs.Whole.{IsSettledTable}
 use Rattle.profile.specs.declared.tables.Table.{Table}
-use Rattle.profile.proofs.Certificate.{scratch_table}
+use Rattle.profile.proofs.CertificateLemmas.{scratch_table}
 use Rattle.excerpts.specs.Excerpts.{source_of}
 use Rattle.transfer_state.specs.Promises.{TellsWalks, KeepsMatesApart}
-use Rattle.transfer_state.proofs.Promising.{tells_walks, keeps_apart}
+use Rattle.transfer_state.proofs.PromiseLemmas.{tells_walks, keeps_apart}
 use Rattle.transfer_state.proofs.RouteLemmas.{chosen}
 use Rattle.transfer_state.proofs.table.table_of.Goals as goal
 

@@ -3,7 +3,7 @@ use Rattle.std.specs.List.{flat_map}
 use Rattle.std.specs.Option.{option_copied}
 use Rattle.what_if.specs.declared.changes.Change.{Change}
 use Rattle.what_if.specs.Reports.{both, points, change_between}
-use Rattle.what_if.proofs.Gathering.{each_more, each_all, both_are}
+use Rattle.what_if.proofs.GatheringLemmas.{each_more, each_all, both_are}
 use Rattle.what_if.proofs.comparing.add_changes_between.Goals as goal
 
 pub loop-point-init : goal.loop-point-init

@@ -3,7 +3,7 @@ use Rattle.std.specs.List.{flat_map}
 use Rattle.excerpts.specs.Excerpts.{excerpt_at}
 use Rattle.what_if.specs.declared.changes.Change.{Change}
 use Rattle.what_if.specs.Reports.{both, dests, changes_between}
-use Rattle.what_if.proofs.Gathering.{each_more, each_all, both_are}
+use Rattle.what_if.proofs.GatheringLemmas.{each_more, each_all, both_are}
 use Rattle.what_if.proofs.comparing.changes_of.Goals as goal
 
 pub loop-dest-init : goal.loop-dest-init

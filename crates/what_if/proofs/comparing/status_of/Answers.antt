@@ -1,7 +1,7 @@
 use Rattle.std.proofs.Common.{ap, ◌∙◌}
 use Rattle.std.specs.Option.{option_map}
 use Rattle.route_choice.specs.declared.choices.Choice.{Choice}
-use Rattle.what_if.proofs.Gathering.{status_is}
+use Rattle.what_if.proofs.GatheringLemmas.{status_is}
 use Rattle.what_if.proofs.comparing.status_of.Goals as goal
 
 pub returns-in-Some-choice : goal.returns-in-Some-choice

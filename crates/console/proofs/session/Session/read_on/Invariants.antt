@@ -1,5 +1,5 @@
 use Rattle.std.proofs.Common.{ℕ, ◌+◌, ◌*◌, ◌≤◌, List, Option}
-use Rattle.desk_console.specs.Console.{Standing}
+use Rattle.desk_console.specs.Console.{ConsoleValue}
 use Rattle.answers.specs.Text.{line_count}
 use Rattle.console.specs.Run.{HasAnswered}
 use Rattle.console.proofs.session.Session.read_on.Given as goal
@@ -7,7 +7,7 @@ use Rattle.console.proofs.session.Session.read_on.Given as goal
 -- what was read is answered
 abbrev pub invariant-loop-turn : goal.invariant-loop-turn
 invariant-loop-turn g l = record {
-  answered : (start : Standing) (unread held : Option (List ℕ))
+  answered : (start : ConsoleValue) (unread held : Option (List ℕ))
       → HasAnswered start unread (g.R.Read.remaining l.fn.reader) held (g.W.Write.contents l.fn.writer) l.initial.self
       → HasAnswered start unread (g.R.Read.remaining l.reader) held (g.W.Write.contents l.writer) l.self;
   few : l.self.lines + line_count l.self.answers.items ≤ l._turn * 65536;

@@ -1,39 +1,39 @@
 use Rattle.std.proofs.Common.{◌≡◌, ap, sym, ◌∙◌, subst, Some, List}
 use Rattle.net_items.specs.Keyed.{IsFoundAt, IsGapAt}
 use Rattle.excerpts.specs.Excerpts.{content_at, content_of}
-use Rattle.transfer_state.specs.Routing.{Seat}
-use Rattle.desk_core.specs.Targets.{OpenNet}
-use Rattle.desk_core.proofs.TargetLemmas.{seats_rise, found_content, nowhere_content, filled-done}
+use Rattle.transfer_state.specs.Routing.{RoutingSlotValue}
+use Rattle.desk_core.specs.Targets.{TargetValue}
+use Rattle.desk_core.proofs.TargetLemmas.{slots_rise, found_content, nowhere_content, filled-done}
 use Rattle.desk_core.proofs.targets.Target.fill.Goals as goal
 
-pub place_of_seat-requires : goal.place_of_seat-requires
-place_of_seat-requires c = rw c.as_slice.ensures.value (seats_rise c.self.inside.net c.self.inside.waiting c.self.inside.places.items c.self.invariant c.validity.ensures.plans_rise)
+pub position_of_slot-requires : goal.position_of_slot-requires
+position_of_slot-requires c = rw c.as_slice.ensures.value (slots_rise c.self.inside.net c.self.inside.waiting c.self.inside.slots.items c.self.invariant c.validity.ensures.plans_rise)
 
 pub fill-requires : goal.fill-requires
 fill-requires c =
     let net = c.self.inside.net in
-    let seats = c.self.inside.places.items in
+    let slots = c.self.inside.slots.items in
     let x = c.dest-dest.result in
-    let at : content_at net x ≡ Some (content_of c.args.settled.extract)
-    = ap (content_at net) c.dest-dest.ensures ∙ ap (λ (t : OpenNet). content_at t.network c.args.settled.extract.plan.dest) c.self.view_is ∙ c.requires.same in
-    let found : IsFoundAt (λ (s : Seat). s.extract.plan.dest) x seats c.in-Ok.at = subst (λ (ss : List Seat). IsFoundAt (λ (s : Seat). s.extract.plan.dest) x ss c.in-Ok.at) c.as_slice.ensures.value c.in-Ok.ensures.found in
+    let at : content_at net x ≡ Some (content_of c.args.settled.excerpt)
+    = ap (content_at net) c.dest-dest.ensures ∙ ap (λ (t : TargetValue). content_at t.network c.args.settled.excerpt.plan.dest) c.self.view_is ∙ c.requires.same in
+    let found : IsFoundAt (λ (s : RoutingSlotValue). s.excerpt.plan.dest) x slots c.in-Ok.at = subst (λ (ss : List RoutingSlotValue). IsFoundAt (λ (s : RoutingSlotValue). s.excerpt.plan.dest) x ss c.in-Ok.at) c.as_slice.ensures.value c.in-Ok.ensures.found in
     ap content_of c.into_routing.ensures
-    ∙ found_content net c.self.inside.waiting seats c.self.invariant c.validity.ensures.plans_rise x c.in-Ok.at c.index_mut.result.now (content_of c.args.settled.extract) found c.index_mut.ensures.value at
+    ∙ found_content net c.self.inside.waiting slots c.self.invariant c.validity.ensures.plans_rise x c.in-Ok.at c.index_mut.result.now (content_of c.args.settled.excerpt) found c.index_mut.ensures.value at
 
 pub unreachable-requires : goal.unreachable-requires
 unreachable-requires c =
     let net = c.self.inside.net in
-    let seats = c.self.inside.places.items in
+    let slots = c.self.inside.slots.items in
     let x = c.dest-dest.result in
-    let at : content_at net x ≡ Some (content_of c.args.settled.extract)
-    = ap (content_at net) c.dest-dest.ensures ∙ ap (λ (t : OpenNet). content_at t.network c.args.settled.extract.plan.dest) c.self.view_is ∙ c.requires.same in
-    let gap : IsGapAt (λ (s : Seat). s.extract.plan.dest) x seats c.in-Err.field-0 = subst (λ (ss : List Seat). IsGapAt (λ (s : Seat). s.extract.plan.dest) x ss c.in-Err.field-0) c.as_slice.ensures.value c.in-Err.ensures.absent in
-    nowhere_content net c.self.inside.waiting seats c.self.invariant c.validity.ensures.plans_rise x c.in-Err.field-0 (content_of c.args.settled.extract) gap at
+    let at : content_at net x ≡ Some (content_of c.args.settled.excerpt)
+    = ap (content_at net) c.dest-dest.ensures ∙ ap (λ (t : TargetValue). content_at t.network c.args.settled.excerpt.plan.dest) c.self.view_is ∙ c.requires.same in
+    let gap : IsGapAt (λ (s : RoutingSlotValue). s.excerpt.plan.dest) x slots c.in-Err.field-0 = subst (λ (ss : List RoutingSlotValue). IsGapAt (λ (s : RoutingSlotValue). s.excerpt.plan.dest) x ss c.in-Err.field-0) c.as_slice.ensures.value c.in-Err.ensures.absent in
+    nowhere_content net c.self.inside.waiting slots c.self.invariant c.validity.ensures.plans_rise x c.in-Err.field-0 (content_of c.args.settled.excerpt) gap at
 
 pub invariant_of-self : goal.invariant_of-self
 invariant_of-self c =
     let net = c.self.inside.net in
-    let seats = c.self.inside.places.items in
+    let slots = c.self.inside.slots.items in
     let x = c.dest-dest.result in
-    let found : IsFoundAt (λ (s : Seat). s.extract.plan.dest) x seats c.in-Ok.at = subst (λ (ss : List Seat). IsFoundAt (λ (s : Seat). s.extract.plan.dest) x ss c.in-Ok.at) c.as_slice.ensures.value c.in-Ok.ensures.found in
-    rw (c.done.ensures, c.fill.ensures) (filled-done net c.self.inside.waiting seats c.self.invariant c.validity.ensures.plans_rise x c.in-Ok.at c.index_mut.result.now found c.index_mut.ensures.value)
+    let found : IsFoundAt (λ (s : RoutingSlotValue). s.excerpt.plan.dest) x slots c.in-Ok.at = subst (λ (ss : List RoutingSlotValue). IsFoundAt (λ (s : RoutingSlotValue). s.excerpt.plan.dest) x ss c.in-Ok.at) c.as_slice.ensures.value c.in-Ok.ensures.found in
+    rw (c.done.ensures, c.fill.ensures) (filled-done net c.self.inside.waiting slots c.self.invariant c.validity.ensures.plans_rise x c.in-Ok.at c.index_mut.result.now found c.index_mut.ensures.value)

@@ -1,10 +1,10 @@
 use Rattle.std.proofs.Common.{◌≡◌, ap, sym, ◌∙◌, true}
 use Rattle.dirty_sets.specs.Waiting.{is_out}
-use Rattle.desk_core.specs.Targets.{OpenNet}
+use Rattle.desk_core.specs.Targets.{TargetValue}
 use Rattle.desk_core.proofs.TargetLemmas.{filled-put_last}
 use Rattle.desk_core.proofs.targets.Target.put_back.Goals as goal
 
 pub invariant_of-self : goal.invariant_of-self
 invariant_of-self c =
     rw c.put_last.ensures
-    (filled-put_last c.self.inside.net c.self.inside.waiting c.self.inside.places.items c.self.invariant c.args.dest (ap (λ (t : OpenNet). is_out t.tasks c.args.dest) c.self.view_is ∙ c.requires))
+    (filled-put_last c.self.inside.net c.self.inside.waiting c.self.inside.slots.items c.self.invariant c.args.dest (ap (λ (t : TargetValue). is_out t.tasks c.args.dest) c.self.view_is ∙ c.requires))

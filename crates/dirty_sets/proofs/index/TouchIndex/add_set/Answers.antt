@@ -9,7 +9,7 @@ use Rattle.net_data.specs.declared.events.Event.TheVariants as on
 use Rattle.net_data.specs.Edits.{changed}
 use Rattle.dirty_sets.specs.declared.readers.Reader.{Reader}
 use Rattle.dirty_sets.specs.Touch.{IsIndex}
-use Rattle.dirty_sets.specs.Index.{Held, IsWithId, bare_set, reads_of, would_read}
+use Rattle.dirty_sets.specs.Index.{TouchIndexValue, IsWithId, bare_set, reads_of, would_read}
 use Rattle.dirty_sets.proofs.ReaderLemmas.{rising_keys, with_id-planned}
 use Rattle.dirty_sets.proofs.IndexLemmas.{index-AddSet}
 use Rattle.dirty_sets.proofs.index.TouchIndex.add_set.Goals as goal
@@ -29,7 +29,7 @@ returns c = λ slcs.
     let news : List Reader = c.add_set.new.readers in
     let v = with_items c.self.inside.readers news in
     let items : v.items ≡ news = with_items_is c.self.inside.readers news (c.add_set.auto.readers ∙ c.deref_mut.ensures.len) in
-    let same : c.deref_mut.result.now ≡ held.readers = c.deref_mut.ensures.value ∙ ap (λ (h : Held). h.readers) c.self.view_is in
+    let same : c.deref_mut.result.now ≡ held.readers = c.deref_mut.ensures.value ∙ ap (λ (h : TouchIndexValue). h.readers) c.self.view_is in
     let all : AllZip (IsWithId c.args.id (would_read net (bare_set c.args.id c.args.a c.args.b))) held.readers news =
     subst (λ (s : LinkSet). AllZip (IsWithId s.id (would_read net s)) held.readers news) c.bare_set-set.ensures
     (subst (λ rs. AllZip (IsWithId c.bare_set-set.result.id (would_read net c.bare_set-set.result)) rs news) same c.add_set.ensures) in

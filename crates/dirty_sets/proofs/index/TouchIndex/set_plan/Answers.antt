@@ -7,7 +7,7 @@ use Rattle.excerpts.specs.Excerpts.{is_read_by}
 use Rattle.net_items.specs.Keyed.{IsRising, put}
 use Rattle.net_items.proofs.KeyedLemmas.{IsRising-put}
 use Rattle.dirty_sets.specs.declared.readers.Reader.{Reader}
-use Rattle.dirty_sets.specs.Index.{Held}
+use Rattle.dirty_sets.specs.Index.{TouchIndexValue}
 use Rattle.dirty_sets.proofs.IndexLemmas.{index-SetPlan}
 use Rattle.dirty_sets.proofs.index.TouchIndex.set_plan.Goals as goal
 
@@ -20,7 +20,7 @@ returns c =
     let held = c.args.self.now in
     let plan = c.args.plan.now in
     let v = c.put_reader.new.readers in
-    let same : c.self.inside.readers.items ≡ held.readers = ap (λ (h : Held). h.readers) c.self.view_is in
+    let same : c.self.inside.readers.items ≡ held.readers = ap (λ (h : TouchIndexValue). h.readers) c.self.view_is in
     index-SetPlan net held.readers held.room c.requires.index c.validity.ensures plan c.requires.accepted c.sets_read-ids.result
     (λ n. c.sets_read-ids.ensures n
     ∙ (ap (λ ps. option_map_or (is_read_by ps plan) (set_at c.sets.result.now n) false) c.points.ensures

@@ -1,6 +1,6 @@
 use Rattle.std.proofs.Common.{◌≡◌, ◌<◌, ℕ, Bool, false, length, ◌∙◌, sym, subst, arith}
 use Rattle.std.specs.List.{AllByRecursion}
-use Rattle.dirty_sets.proofs.WaitingEntries.{fill-more, fill-all, small-insert_entry}
+use Rattle.dirty_sets.proofs.WaitingEntryLemmas.{fill-more, fill-all, small-insert_entry}
 use Rattle.dirty_sets.proofs.waiting.Waiting.fill.Goals as goal
 
 pub loop-dest-preserved : goal.loop-dest-preserved

@@ -1,6 +1,6 @@
 use Rattle.std.proofs.Common.{◌≡◌, ◌<◌, take}
 use Rattle.std.specs.List.{AllByRecursion}
-use Rattle.dirty_sets.specs.Entries.{waiting_entries}
+use Rattle.dirty_sets.proofs.WaitingEntryLemmas.{waiting_entries}
 use Rattle.dirty_sets.proofs.waiting.Waiting.fill.Given as goal
 
 -- those so far are the entries

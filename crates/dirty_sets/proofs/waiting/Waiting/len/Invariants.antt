@@ -3,8 +3,8 @@ use Rattle.dirty_sets.specs.Waiting.{waiting}
 use Rattle.dirty_sets.proofs.waiting.Waiting.len.Given as goal
 
 -- as many as wait before the place
-abbrev pub invariant-loop-place : goal.invariant-loop-place
-invariant-loop-place l = record {
-  counted : l.count ≡ length (waiting (take l.place l.self));
-  few : l.count ≤ l.place;
+abbrev pub invariant-loop-position : goal.invariant-loop-position
+invariant-loop-position l = record {
+  counted : l.count ≡ length (waiting (take l.position l.self));
+  few : l.count ≤ l.position;
 }

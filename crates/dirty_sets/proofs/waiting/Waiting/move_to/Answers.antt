@@ -2,7 +2,7 @@ use Rattle.std.proofs.Common.{◌<◌, ℕ, Bool, ap, ◌∙◌, sym, subst}
 use Rattle.std.specs.List.{AllByRecursion}
 use Rattle.indexmap.specs.IndexMap.{move_index}
 use Rattle.dirty_sets.specs.Entries.{tasks_of}
-use Rattle.dirty_sets.proofs.WaitingEntries.{tasks-move_index, All-move_index}
+use Rattle.dirty_sets.proofs.WaitingEntryLemmas.{tasks-move_index, All-move_index}
 use Rattle.dirty_sets.proofs.waiting.Waiting.move_to.Goals as goal
 
 pub invariant_of-self : goal.invariant_of-self

@@ -2,7 +2,7 @@ use Rattle.std.proofs.Common.{◌≡◌, Some, sym, ◌∙◌, ap}
 use Rattle.std.specs.Arc.{arc_value}
 use Rattle.std.specs.Option.{option_map}
 use Rattle.net_items.specs.Lookups.{plan_at}
-use Rattle.excerpts.proofs.Extracting.{extract_right}
+use Rattle.excerpts.proofs.ExcerptLemmas.{extract_right}
 use Rattle.excerpts.proofs.excerpt.Excerpt.of.Goals as goal
 
 pub invariant_of-result : goal.invariant_of-result

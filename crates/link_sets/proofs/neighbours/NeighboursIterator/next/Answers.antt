@@ -2,20 +2,20 @@ use Rattle.std.proofs.Common.{◌∙◌, ap, sym, arith, ℕ, ◌∷◌, ◌+◌
 use Rattle.std.specs.Prelude.{filter}
 use Rattle.std.specs.List.{range_with_len}
 use Rattle.std.specs.Iterator.{YieldsFirst}
-use Rattle.link_sets.specs.Availability.{are_joined}
+use Rattle.link_sets.specs.Availability.{connected}
 use Rattle.link_sets.specs.Neighbours.{code_count, left_of}
-use Rattle.link_sets.proofs.Neighbouring.{rest_none, rest_some}
+use Rattle.link_sets.proofs.NeighbourLemmas.{rest_none, rest_some}
 use Rattle.link_sets.proofs.neighbours.NeighboursIterator.next.Goals as goal
 
 pub returns-in_err-z-clause-steps : goal.returns-in_err-z-clause-steps
 returns-in_err-z-clause-steps c =
-    let none = rest_none (are_joined c.args.self.now.sets.now c.args.self.now.point) c.args.self.now.from (sym c.next_neighbour.ensures.value ∙ c.in_err-z.was) in
+    let none = rest_none (connected c.args.self.now.sets.now c.args.self.now.point) c.args.self.now.from (sym c.next_neighbour.ensures.value ∙ c.in_err-z.was) in
     subst (λ (o : Option ℕ). YieldsFirst left_of c.args.self.now o c.args.self.now) (sym c.from_residual.ensures) (none, none)
 
 pub returns-clause-steps : goal.returns-clause-steps
 returns-clause-steps c =
-    rest_some (are_joined c.args.self.now.sets.now c.args.self.now.point) c.args.self.now.from c.in_ok-z.z (sym c.next_neighbour.ensures.value ∙ c.in_ok-z.was)
-    ∙ ap (λ n. c.in_ok-z.z ∷ filter (are_joined c.args.self.now.sets.now c.args.self.now.point) (range_with_len (n + 1) (code_count - (n + 1)))) (sym c.number.ensures.value)
+    rest_some (connected c.args.self.now.sets.now c.args.self.now.point) c.args.self.now.from c.in_ok-z.z (sym c.next_neighbour.ensures.value ∙ c.in_ok-z.was)
+    ∙ ap (λ n. c.in_ok-z.z ∷ filter (connected c.args.self.now.sets.now c.args.self.now.point) (range_with_len (n + 1) (code_count - (n + 1)))) (sym c.number.ensures.value)
 
 pub returns-clause-goes : goal.returns-clause-goes
 returns-clause-goes c =

@@ -3,7 +3,7 @@ use Rattle.net_data.specs.declared.events.Event.TheVariants.{Pair}
 use Rattle.net_data.specs.Network.{Network}
 use Rattle.net_items.specs.Lookups.{has_point}
 use Rattle.net_data.specs.Edits.{refusal_of}
-use Rattle.net_data.proofs.Pairs.{valid-Pair, IsRising-set_mate, has_point-set_mate, pair_there}
+use Rattle.net_data.proofs.PairLemmas.{valid-Pair, IsRising-set_mate, has_point-set_mate, pair_there}
 use Rattle.net_data.proofs.nets.Net.pair.Goals as goal
 
 pub set_mate-requires-2-clause-rising : goal.set_mate-requires-2-clause-rising

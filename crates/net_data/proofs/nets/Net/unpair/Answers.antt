@@ -3,7 +3,7 @@ use Rattle.net_data.specs.declared.events.Event.TheVariants.{Unpair}
 use Rattle.net_data.specs.Network.{Network}
 use Rattle.net_items.specs.Lookups.{mate_of}
 use Rattle.net_data.specs.Edits.{refusal_of}
-use Rattle.net_data.proofs.Pairs.{valid-Unpair, IsRising-set_mate, has_point-set_mate, mate_there}
+use Rattle.net_data.proofs.PairLemmas.{valid-Unpair, IsRising-set_mate, has_point-set_mate, mate_there}
 use Rattle.net_data.proofs.nets.Net.unpair.Goals as goal
 
 pub set_mate-requires-clause-there : goal.set_mate-requires-clause-there

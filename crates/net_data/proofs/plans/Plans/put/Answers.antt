@@ -4,7 +4,7 @@ use Rattle.std.specs.List.{insert}
 use Rattle.std.specs.Arc.{arc_value}
 use Rattle.net_items.specs.declared.items.Plan.{Plan}
 use Rattle.net_items.specs.Keyed.{put}
-use Rattle.net_items.proofs.ListFacts.{map_insert}
+use Rattle.net_items.proofs.ListLemmas.{map_insert}
 use Rattle.net_data.proofs.plans.Plans.put.Goals as goal
 
 pub returns-in-Ok-clause-ok : goal.returns-in-Ok-clause-ok

@@ -2,7 +2,7 @@ use Rattle.std.proofs.Common.{ap, ◌∙◌, map}
 use Rattle.std.specs.Arc.{arc_value}
 use Rattle.net_items.specs.declared.items.Plan.{Plan}
 use Rattle.net_items.specs.Keyed.{without}
-use Rattle.net_items.proofs.ListFacts.{map_remove}
+use Rattle.net_items.proofs.ListLemmas.{map_remove}
 use Rattle.net_data.proofs.plans.Plans.remove.Goals as goal
 
 pub returns : goal.returns

@@ -1,6 +1,6 @@
 use Rattle.std.proofs.Common.{rules, ◌∙◌, ap, sym, Option, length, arith}
 use Rattle.profile.specs.declared.tables.LinkRef.{LinkRef}
-use Rattle.profile.proofs.Linking.{length-links_at, same_links}
+use Rattle.profile.proofs.LinkLemmas.{length-links_at, same_links}
 use Rattle.profile.proofs.tables.RowLinks.equals.Goals as goal
 
 pub returns : goal.returns

@@ -1,4 +1,4 @@
-use Rattle.profile.proofs.Linking.{links_none}
+use Rattle.profile.proofs.LinkLemmas.{links_none}
 use Rattle.profile.proofs.tables.RowLinks.none.Goals as goal
 
 pub returns : goal.returns

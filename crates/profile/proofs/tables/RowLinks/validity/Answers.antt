@@ -1,6 +1,6 @@
 use Rattle.std.proofs.Common.{◌∙◌, ap, sym, Option, length}
 use Rattle.profile.specs.declared.tables.LinkRef.{LinkRef}
-use Rattle.profile.proofs.Linking.{length-links_at}
+use Rattle.profile.proofs.LinkLemmas.{length-links_at}
 use Rattle.profile.proofs.tables.RowLinks.validity.Goals as goal
 
 pub returns : goal.returns

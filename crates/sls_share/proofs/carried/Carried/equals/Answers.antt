@@ -1,7 +1,7 @@
 use Rattle.std.proofs.Common.{rules, ℕ, ◌∙◌, Option, sym, ap, length, arith, below_more}
 use Rattle.std.proofs.lemmas.Bool.{not-false}
 use Rattle.sls_share.specs.Carried.{codes_in, codes_for}
-use Rattle.sls_share.proofs.Carrying.{length-codes_for, same_option, same_answers}
+use Rattle.sls_share.proofs.CarriedLemmas.{length-codes_for, same_option, same_answers}
 use Rattle.sls_share.proofs.carried.Carried.equals.Goals as goal
 
 pub returns-then-self-other-2 : goal.returns-then-self-other-2

@@ -1,0 +1,25 @@
+use Rattle.std.proofs.Common.{◌≡◌, Some, sym, ◌∙◌}
+use Rattle.desk_core.specs.Steps.{target_number}
+use Rattle.desk_console.proofs.StepLemmas.{IsAbandoned, abandon_first, none_first}
+use Rattle.desk_console.proofs.syncing.call_back.Goals as goal
+
+-- fewer are out
+pub loop-dest-smaller : goal.loop-dest-smaller
+loop-dest-smaller c =
+    let named : target_number c.loop-dest.desk ≡ Some c.args.number = c.loop-dest.invariant.number ∙ c.requires in
+    let is : IsAbandoned c.loop-dest.desk c.abandon.result c.abandon.new.self
+    = abandon_first c.loop-dest.desk c.args.number c.in-Some.dest c.abandon.result c.abandon.new.self named (sym c.first_out.ensures ∙ c.in-Some.is) c.abandon.ensures in
+    is.fewer
+
+-- no abandonment is refused
+pub unreachable-requires : goal.unreachable-requires
+unreachable-requires c =
+    let named : target_number c.loop-dest.desk ≡ Some c.args.number = c.loop-dest.invariant.number ∙ c.requires in
+    let is : IsAbandoned c.loop-dest.desk c.abandon.result c.abandon.new.self
+    = abandon_first c.loop-dest.desk c.args.number c.in-Some.dest c.abandon.result c.abandon.new.self named (sym c.first_out.ensures ∙ c.in-Some.is) c.abandon.ensures in
+    let wrong = sym c.in-Err.is ∙ is.done in
+    cc
+
+-- without a first nothing is out
+pub returns-clause-none : goal.returns-clause-none
+returns-clause-none c = none_first c.loop-dest.desk (sym c.first_out.ensures ∙ c.in_default.is)

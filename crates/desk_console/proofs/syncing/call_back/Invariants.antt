@@ -1,0 +1,9 @@
+use Rattle.desk_console.specs.Settling.{HasOnlyTasks, out_count}
+use Rattle.desk_console.proofs.syncing.call_back.Given as goal
+
+-- only tasks differ so far
+abbrev pub invariant-loop-dest : goal.invariant-loop-dest
+invariant-loop-dest l = HasOnlyTasks l.fn.desk l.desk
+
+abbrev pub decreases-loop-dest : goal.decreases-loop-dest
+decreases-loop-dest l = out_count l.desk

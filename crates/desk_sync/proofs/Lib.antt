@@ -1,3 +1,0 @@
-pub mod TaskLemmas
-pub mod StepLemmas
-pub mod KeptLemmas

@@ -1,9 +1,0 @@
-use Rattle.desk_sync.specs.Settling.{HasOnlyTasks, out_count}
-use Rattle.desk_sync.proofs.syncing.call_back.Given as goal
-
--- only tasks differ so far
-abbrev pub invariant-loop-dest : goal.invariant-loop-dest
-invariant-loop-dest l = HasOnlyTasks l.fn.desk l.desk
-
-abbrev pub decreases-loop-dest : goal.decreases-loop-dest
-decreases-loop-dest l = out_count l.desk

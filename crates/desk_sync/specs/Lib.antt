@@ -1,2 +1,0 @@
-pub mod Sync
-pub mod Settling

@@ -1,8 +1,0 @@
-use Rattle.std.proofs.Common.{◌≡◌, true, take}
-use Rattle.std.specs.List.{list_all}
-use Rattle.dirty_sets.specs.Waiting.{Task}
-use Rattle.dirty_sets.proofs.waiting.Waiting.first_place.Given as goal
-
--- all before the place are out
-abbrev pub invariant-loop-place : goal.invariant-loop-place
-invariant-loop-place l = list_all (λ (t : Task). t.is_out) (take l.place l.self) ≡ true

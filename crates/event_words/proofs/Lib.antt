@@ -1,4 +1,0 @@
-pub mod ListLemmas
-pub mod FormLemmas
-pub mod ReadLemmas
-pub mod WriteLemmas

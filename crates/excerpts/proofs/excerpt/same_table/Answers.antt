@@ -1,8 +1,0 @@
-use Rattle.excerpts.proofs.Extracting.{table_alone, table_equal}
-use Rattle.excerpts.proofs.excerpt.same_table.Goals as goal
-
-pub returns-clause-alone : goal.returns-clause-alone
-returns-clause-alone c = table_alone
-
-pub returns-clause-equal : goal.returns-clause-equal
-returns-clause-equal c = table_equal

@@ -1,0 +1,10 @@
+-- The neighbours of a point of a frozen network one by one.
+use Rattle.std.specs.Prelude.{ℕ, ◌-◌, List, filter}
+use Rattle.std.specs.List.{range_with_len}
+use Rattle.link_sets.specs.Availability.{connected}
+use Rattle.link_sets.specs.Neighbours.{code_count}
+use Rattle.excerpts.specs.declared.neighbours.Neighbours.{Neighbours}
+
+-- the neighbours that are left
+abbrev pub left_of : Neighbours → List ℕ
+left_of s = filter (connected s.net.now.sets s.point) (range_with_len s.from (code_count - s.from))

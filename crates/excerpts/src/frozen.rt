@@ -1,0 +1,97 @@
+//! The frozen network.
+
+ghost use Rattle.std.specs.Prelude.{◌≡◌, IfOk};
+ghost use Rattle.std.specs.Option.{IfSome, option_copied};
+ghost use Rattle.net_items.specs.Lookups.{set_between as between};
+ghost use Rattle.net_data.specs.Valid.{IsValid};
+ghost use Rattle.link_sets.specs.Availability.{connected};
+ghost use Rattle.link_sets.specs.Neighbours.{neighbours as neighbours_of, next_from, IsCodeFrom};
+ghost use Rattle.excerpts.specs.Around.{left_of};
+
+use crate::indexed::Indexed;
+use crate::neighbours::Neighbours;
+use net_data::Net;
+use net_items::LinkSet;
+use point_codes::PointCode;
+use std::alloc::{AllocError, Global};
+use std::marker::Model;
+use std::sync::Arc;
+
+/// A network that doesn't change, with an index of the pairs that its sets join. It can be shared.
+#[derive(Drop)]
+pub struct Frozen {
+    indexed: Arc<Indexed>,
+}
+
+impl Model for Frozen {
+    ghost use Rattle.std.specs.Arc.{arc_value};
+    ghost use Rattle.net_data.specs.Network.{Network};
+
+    ghost Value = { Network };
+
+    ghost view = { λ f. arc_value f.indexed };
+}
+
+impl Frozen {
+    /// The network, frozen. It fails if memory is refused.
+    pub fn new(alloc: Global, net: Net) -> Result<Frozen, AllocError>
+        ensures { IfOk result (λ f. f ≡ net) }
+    {
+        let indexed = Indexed::new(alloc, net)?;
+        Ok(Frozen {
+            indexed: Arc::new(alloc, indexed)?,
+        })
+    }
+
+    /// The same network once more. It fails only if no further share can be counted.
+    pub fn share(&self) -> Result<Frozen, AllocError>
+        ensures { IfOk result (λ f. f ≡ self.now) }
+    {
+        Ok(Frozen {
+            indexed: Arc::try_clone(&self.indexed)?,
+        })
+    }
+
+    /// The fact that the network keeps: it is valid. It does nothing when it runs.
+    pub fn validity(&self)
+        ensures { IsValid self.now }
+    {
+        self.indexed.validity();
+    }
+
+    /// The network.
+    pub fn net(&self) -> &Net
+        ensures { result.now ≡ self.now }
+    {
+        self.indexed.net()
+    }
+
+    /// Whether an available set joins two points (own, after Q.704 clause 3.2).
+    pub fn is_connected(&self, y: PointCode, z: PointCode) -> bool
+        ensures { result ≡ connected self.now.sets y z }
+    {
+        self.indexed.is_connected(y, z)
+    }
+
+    /// The set that joins two points, in either order.
+    pub fn set_between(&self, y: PointCode, z: PointCode) -> Option<&LinkSet>
+        ensures { option_copied result ≡ between self.now.sets y z }
+    {
+        self.indexed.set_between(y, z)
+    }
+
+    /// The first point of code `from` or above that an available set joins to `y`.
+    pub fn next_neighbour(&self, y: PointCode, from: u16) -> Option<PointCode>
+        ensures value { result ≡ next_from (connected self.now.sets y) from }
+        ensures within { IfSome result (IsCodeFrom from) }
+    {
+        self.indexed.next_neighbour(y, from)
+    }
+
+    /// The points that available sets join to a point, in rising code.
+    pub fn neighbours(&self, point: PointCode) -> Neighbours<'_>
+        ensures { left_of result ≡ neighbours_of self.entry.now.sets point }
+    {
+        Neighbours::new(&self.indexed, point)
+    }
+}

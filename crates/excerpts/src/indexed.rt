@@ -1,0 +1,85 @@
+//! A network with its index.
+
+ghost use Rattle.std.specs.Prelude.{◌≡◌, IfOk};
+ghost use Rattle.std.specs.Option.{IfSome, option_copied};
+ghost use Rattle.net_items.specs.Lookups.{set_between as between};
+ghost use Rattle.net_data.specs.Valid.{IsValid};
+ghost use Rattle.link_sets.specs.Availability.{connected};
+ghost use Rattle.link_sets.specs.Neighbours.{next_from, IsCodeFrom};
+
+use crate::index::{find_joint, index_of, next_up};
+use crate::joints::Joints;
+use net_data::Net;
+use net_items::LinkSet;
+use point_codes::PointCode;
+use std::alloc::{AllocError, Global};
+use std::marker::Model;
+
+/// A network that doesn't change, with an index of the pairs that its sets join.
+#[derive(Drop)]
+pub struct Indexed {
+    net: Net,
+    joints: Joints,
+}
+
+impl Model for Indexed {
+    ghost use Rattle.net_data.specs.Network.{Network};
+    ghost use Rattle.excerpts.specs.Index.{IsIndex};
+
+    ghost Value = { Network };
+
+    ghost view = { λ f. f.net };
+
+    ghost invariant = { λ f. IsIndex f.joints f.net.sets };
+}
+
+impl Indexed {
+    /// The network with its index. It fails if memory is refused.
+    pub fn new(alloc: Global, net: Net) -> Result<Indexed, AllocError>
+        ensures { IfOk result (λ f. f ≡ net) }
+    {
+        let list = index_of(alloc, net.sets())?;
+        let joints = Joints::new(alloc, list)?;
+        Ok(Indexed { net, joints })
+    }
+
+    /// The network.
+    pub fn net(&self) -> &Net
+        ensures { result.now ≡ self.now }
+    {
+        &self.net
+    }
+
+    /// The fact that the network keeps: it is valid. It does nothing when it runs.
+    pub fn validity(&self)
+        ensures { IsValid self.now }
+    {
+        self.net.validity();
+    }
+
+    /// Whether an available set joins two points (own, after Q.704 clause 3.2).
+    pub fn is_connected(&self, y: PointCode, z: PointCode) -> bool
+        ensures { result ≡ connected self.now.sets y z }
+    {
+        match find_joint(self.joints.of_point(y), y, z) {
+            Some(joint) => joint.up,
+            None => false,
+        }
+    }
+
+    /// The set that joins two points, in either order.
+    pub fn set_between(&self, y: PointCode, z: PointCode) -> Option<&LinkSet>
+        ensures { option_copied result ≡ between self.now.sets y z }
+    {
+        let joint = find_joint(self.joints.of_point(y), y, z)?;
+        Some(&self.net.sets()[joint.position])
+    }
+
+    /// The first point of code `from` or above that an available set joins to `y`.
+    pub fn next_neighbour(&self, y: PointCode, from: u16) -> Option<PointCode>
+        ensures value { result ≡ next_from (connected self.now.sets y) from }
+        ensures within { IfSome result (IsCodeFrom from) }
+    {
+        next_up(self.joints.of_point(y), y, from)
+    }
+}

@@ -1,4 +1,0 @@
-pub mod IndexLemmas
-pub mod NextLemmas
-pub mod FirstLemmas
-pub mod EntryLemmas

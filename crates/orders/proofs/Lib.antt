@@ -1,3 +1,0 @@
-pub mod FormLemmas
-pub mod NumberLemmas
-pub mod PieceLemmas

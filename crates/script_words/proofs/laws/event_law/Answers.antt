@@ -1,0 +1,5 @@
+use Rattle.script_words.proofs.WriteLemmas.{event_law}
+use Rattle.script_words.proofs.laws.event_law.Goals as goal
+
+pub returns : goal.returns
+returns c = event_law

@@ -1,0 +1,70 @@
+//! Commands, and lists of events.
+
+ghost use Rattle.std.specs.Prelude.{◌≡◌};
+
+use crate::questions::Question;
+use net_data::Event;
+use point_codes::PointCode;
+use std::marker::Model;
+
+/// Some events, in their order.
+#[derive(Debug, Drop)]
+pub struct Events {
+    list: Vec<Event>,
+}
+
+impl Model for Events {
+    ghost use Rattle.std.specs.Prelude.{List};
+    ghost use Rattle.net_data.specs.declared.events.Event.{Event};
+
+    ghost Value = { List Event };
+
+    ghost view = { λ events. events.list.items };
+}
+
+impl Events {
+    /// These events.
+    pub fn from_vec(list: Vec<Event>) -> Events
+        ensures { result ≡ list.items }
+    {
+        Events { list }
+    }
+
+    /// The events as a slice.
+    pub fn as_slice(&self) -> &[Event]
+        ensures { result.now ≡ self.now }
+    {
+        self.list.as_slice()
+    }
+}
+
+/// What a line commands.
+#[derive(Debug, Drop)]
+pub enum Command {
+    /// An event, posted by collector 0.
+    Event(Event),
+    /// A post: the collector, its sequence number, the event.
+    Post(u8, u64, Event),
+    /// The opening of a target.
+    Open,
+    /// A job is taken and done; its result goes to the slot.
+    Take(u8),
+    /// The result in a slot is given.
+    Give(u8),
+    /// The destination of the result in a slot is abandoned.
+    Abandon(u8),
+    /// The target is published.
+    Publish,
+    /// All that is accepted is settled and published.
+    Sync,
+    /// The number of the published version is asked, and how many events are accepted.
+    Version,
+    /// Something of the row of a point, in the table of a destination, is asked.
+    About(Question, PointCode, PointCode),
+    /// The trace of a signalling link selection is asked: from a point, to a destination.
+    Trace(PointCode, PointCode, u8),
+    /// What events would change is asked.
+    WhatIf(Events),
+    /// A check of all tables is asked.
+    Audit,
+}

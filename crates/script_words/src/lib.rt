@@ -1,0 +1,50 @@
+//! Events, commands and questions in words: what a line of a script says.
+//!
+//! The words come split at spaces. ID, SLC, CODE, KIND and ROW are the tokens of the crate `tokens`. The forms of EVENT (own):
+//!
+//! 1. `fail ID SLC` and `restore ID SLC`: a link fails or is restored.
+//! 2. `block ID SLC`, `block ID SLC a` and `block ID SLC b`, and so `unblock`, `inhibit` and `uninhibit`: a change that
+//!    an end makes. `a` is the set's first end, `b` the second; if no end is named, it is the first.
+//! 3. `point add CODE KIND` and `point drop CODE`: a point comes or goes.
+//! 4. `pair CODE CODE` and `unpair CODE`: two points become mates, or a point and its mate are mates no longer.
+//! 5. `set add ID CODE CODE SLC SLC ..`, with at least one SLC, and `set drop ID`: a link set comes, with its first and
+//!    its second point and its links, or goes.
+//! 6. `link add ID SLC` and `link drop ID SLC`: a link of a set comes or goes.
+//! 7. `plan set CODE ROW ROW ..` and `plan drop CODE`: the plan of a destination is set, or goes. No ROW is an empty
+//!    plan.
+//! 8. `tfr on` and `tfr off`: the option of transfer-restricted messages.
+//!
+//! The forms of a command (own):
+//!
+//! 9. EVENT: an event, posted by collector 0. `post C SEQ EVENT`: a post by the collector C, 0 to 255, with the sequence
+//!    number SEQ, a number of 64 bits.
+//! 10. `open`, `publish`, `sync`, `version` and `audit` stand alone; `take K`, `give K` and `abandon K` name a slot, 0 to 31.
+//! 11. `status Y X`, `sls Y X`, `messages Y X` and `octets Y Z X`: a question about the row of the point Y in the table of
+//!     the destination X; `trace Y X S`: the trace of the signalling link selection S, 0 to 15.
+//! 12. `whatif EVENT ; EVENT ..`: what the events would change. `;` is a word of its own between two events, and there is
+//!     at least one EVENT.
+//! 13. Words are read exactly if they are what is written of their event or command: no other word, and none too many or
+//!     too few. Only a change of the first end has two forms, with `a` and without.
+//!
+//! Stands on `net_data`, `tokens`. A change here also changes specs/ (Commands, Events, Numbers, Written), proofs/ and
+//! must-fail/.
+#![tactic(auto)]
+
+mod changes;
+mod commands;
+mod edits;
+mod events;
+pub mod laws;
+mod lines;
+mod lists;
+mod numbers;
+mod queries;
+pub mod questions;
+mod verbs;
+mod what_ifs;
+
+pub use commands::{Command, Events};
+pub use events::read_event;
+pub use laws::{event_law, sequence_law};
+pub use lines::read_command;
+pub use questions::Question;

@@ -1,0 +1,16 @@
+//! Questions about a row of a table.
+
+use point_codes::PointCode;
+
+/// What is asked of a row.
+#[derive(Clone, Copy, Debug, PartialEq, Eq)]
+pub enum Question {
+    /// What it uses: its status, its class and the members of the class.
+    Status,
+    /// The link of each signalling link selection (Q.704 clause 2.3).
+    Links,
+    /// The transfer messages in force from its point (Q.704 clauses 13.2 to 13.4).
+    Messages,
+    /// The octets of the message in force from its point to this one (Q.704 clauses 15.7 to 15.9).
+    Octets(PointCode),
+}

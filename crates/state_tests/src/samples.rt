@@ -1,0 +1,86 @@
+//! What the tests start from: networks after changes of links, and excerpts, tables and versions of them.
+
+use excerpts::{Excerpt, Frozen};
+use link_state::LinkChange;
+use net_data::{Event, Net};
+use net_versions::Version;
+use point_codes::PointCode;
+use sample_nets::{code, two_ends, worked};
+use script_words::read_event;
+use std::alloc::Global;
+use std::process::Abort;
+use tokens::split_words;
+use transfer_state::{Table, table_of};
+
+/// A change of one link: its set, its code, the change.
+pub(crate) type Edit = (u16, u8, LinkChange);
+
+/// The code that a text is.
+pub(crate) fn point(rt: &impl Abort, text: &str) -> PointCode {
+    code(text).expect(rt, "a code")
+}
+
+/// The network of two ends.
+pub(crate) fn two_ends_net(rt: &impl Abort, alloc: Global) -> Net {
+    two_ends(alloc).expect(rt, "a network")
+}
+
+/// The network after some changes of links.
+fn edited(rt: &impl Abort, alloc: Global, mut net: Net, edits: &[Edit]) -> Net {
+    for (id, slc, change) in edits {
+        let event = Event::Link(*id, *slc, *change);
+        net.apply(alloc, &event).expect(rt, "a change");
+    }
+    net
+}
+
+/// The worked network after some changes of links.
+pub(crate) fn worked_after(rt: &impl Abort, alloc: Global, edits: &[Edit]) -> Net {
+    let net = worked(alloc).expect(rt, "a network");
+    edited(rt, alloc, net, edits)
+}
+
+/// A network that doesn't change.
+pub(crate) fn frozen(rt: &impl Abort, alloc: Global, net: Net) -> Frozen {
+    Frozen::new(alloc, net).expect(rt, "memory")
+}
+
+/// What the table of a destination reads of a network.
+pub(crate) fn excerpt_of(rt: &impl Abort, net: &Frozen, dest: &str) -> Excerpt {
+    Excerpt::of(net, point(rt, dest)).expect(rt, "a plan")
+}
+
+/// What the table of 2-1-2 reads of the worked network after some changes of links.
+pub(crate) fn worked_excerpt(rt: &impl Abort, alloc: Global, edits: &[Edit]) -> Excerpt {
+    let net = frozen(rt, alloc, worked_after(rt, alloc, edits));
+    excerpt_of(rt, &net, "2-1-2")
+}
+
+/// What the table of 2-1-2 reads between two ends.
+pub(crate) fn two_ends_excerpt(rt: &impl Abort, alloc: Global) -> Excerpt {
+    let net = frozen(rt, alloc, two_ends_net(rt, alloc));
+    excerpt_of(rt, &net, "2-1-2")
+}
+
+/// The table of an excerpt.
+pub(crate) fn new_table(rt: &impl Abort, alloc: Global, excerpt: &Excerpt) -> Table {
+    table_of(alloc, excerpt).expect(rt, "memory")
+}
+
+/// The table of 2-1-2 between two ends.
+pub(crate) fn two_ends_table(rt: &impl Abort, alloc: Global) -> Table {
+    new_table(rt, alloc, &two_ends_excerpt(rt, alloc))
+}
+
+/// A version of two ends, after some changes of links.
+pub(crate) fn version_after(rt: &impl Abort, alloc: Global, edits: &[Edit]) -> Version {
+    let net = edited(rt, alloc, two_ends_net(rt, alloc), edits);
+    Version::opening(alloc, net).expect(rt, "memory")
+}
+
+/// The event that a line of words says.
+pub(crate) fn event_of(rt: &impl Abort, alloc: Global, line: &str) -> Event {
+    let words = split_words(alloc, line.as_bytes()).expect(rt, "memory");
+    let event = read_event(alloc, words.as_slice()).expect(rt, "memory");
+    event.expect(rt, "an event")
+}
