@@ -23,12 +23,28 @@ memory=$(awk '/^MemAvailable:/ { print int($2 / 4000000) }' /proc/meminfo)
 [ "$jobs" -lt 1 ] && jobs=1
 
 echo "proving $count crates, those that changed, $jobs jobs at a time; the first time it takes a quarter of an hour or more"
-(cd crates/route_desk && rt run --jobs "$jobs" -- --help) 2>&1 | tee "$log" | awk -v count="$count" '
-    function minutes() { "date +%s" | getline now; close("date +%s"); return sprintf("%d:%02d", (now - start) / 60, (now - start) % 60) }
-    BEGIN { "date +%s" | getline start; close("date +%s") }
-    /^crate / { name = $2; sub(/:$/, "", name); done++; printf "%s  %2d of %d crates proved: %s\n", minutes(), done, count, name; fflush() }
-    /^so far: [1-9]/ { printf "%s  the next crate: %s of %s functions\n", minutes(), $3, $5; fflush() }'
-status=$?
+start=$SECONDS
+done=0
+
+# what a line of the prover's output says of the progress
+tell() {
+    local spent
+    printf -v spent '%d:%02d' $(((SECONDS - start) / 60)) $(((SECONDS - start) % 60))
+    case $1 in
+    "crate "*)
+        done=$((done + 1))
+        set -- $1
+        echo "$spent  $done of $count crates proved: ${2%:}"
+        ;;
+    "so far: "[1-9]*)
+        set -- $1
+        echo "$spent  the next crate: $3 of $5 functions"
+        ;;
+    esac
+}
+
+(cd crates/route_desk && rt run --jobs "$jobs" -- --help) 2>&1 | tee "$log" | while IFS= read -r line; do tell "$line"; done
+status=${PIPESTATUS[0]}
 if [ $status -ne 0 ]; then
     tail -40 "$log"
     echo "the whole output is in $log"
