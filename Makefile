@@ -1,12 +1,14 @@
-# make demo   builds the program, if its sources have changed, and runs it on the networks of examples/
-# make test   the gate: every proof from nothing, the edits that must be refused, the tests, the stored run, the transcripts of the pages
+# make demo      builds the program, if its sources have changed, and runs it on the networks of examples/
+# make test      the gate: every proof from nothing, the edits that must be refused, the tests, the stored run, the transcripts
+#                of the pages, the worked examples, and a part of the hostile runs
+# make hostile   takes memory away from the program and breaks its input and output, at each place in turn
 
 PROGRAM = crates/route_desk/out/route_desk
 # what the last build was made from: newer than each source
 BUILT = crates/route_desk/out/built
 SOURCES = crates.txt $(shell find crates \( -name out -o -name must-fail \) -prune -o -type f \( -name '*.rt' -o -name '*.antt' \) -print)
 
-.PHONY: demo build test
+.PHONY: demo build test hostile
 
 demo: build
 	@scripts/demo.sh $(PROGRAM)
@@ -19,3 +21,6 @@ $(BUILT): $(SOURCES)
 
 test:
 	@scripts/gate.sh $(PROGRAM)
+
+hostile: build
+	@scripts/hostile.py $(PROGRAM)

@@ -1,0 +1,220 @@
+#!/usr/bin/env python3
+"""hostile.py [--short] PROGRAM: takes memory away from the program, and breaks what it reads and writes.
+
+scripts/refuse.c, which is compiled with `cc` and loaded before the C library, refuses the k-th request for memory (alone, and with
+all after it), stops reading or writing after k bytes, lets one byte through a call, and interrupts the k-th call. Each k has a run of
+its own, until none is reached. What such a run may do is said at `memory`, `reads`, `writes`, `saves` and `calls`; nothing else may
+happen. The inputs are a script that uses every word, networks that aren't loaded, command lines, and the worked examples, of
+which --short leaves out most; for the few long ones k grows by a tenth at a time. What isn't yet as it should be stands in KNOWN,
+and has to happen still. The last line is 'N cases, M failed': a case is an input and a way of breaking, or an entry of KNOWN."""
+import os
+import subprocess
+import sys
+import tempfile
+from concurrent.futures import ThreadPoolExecutor
+
+sys.dont_write_bytecode = True
+from worked import HERE, examples_of
+
+MEMORY, READ, WRITE = (b"route_desk: " + fault + b"\n" for fault in (b"1 OutOfMemory", b"63 Read", b"64 Write"))
+# what `clap` says if the words of the command line can't be read for want of memory
+CLAP = (b"", b"error: out of memory\n", 2)
+
+# Not yet as it should be: what happens, in which way of breaking, and how the run ends. Take an entry out if it is mended.
+KNOWN = {
+    "want of memory while the words are fetched ends with a text of the kit":
+        lambda case, way, got: way == "memory" and got == (b"", b"Error: Kind(OutOfMemory)\n", 1),
+    "a word that isn't UTF-8 ends with a text of the kit":
+        lambda case, way, got: way == "plain" and got == (b"", b"Error: Kind(InvalidData)\n", 1),
+    "an interrupted write isn't tried again":
+        lambda case, way, got: way == "interrupt" and case.is_prefix(got, WRITE),
+}
+SEEN = set()
+
+
+class Case:
+    """A command line with its standard input and files, and what it does if nothing is broken."""
+
+    program = library = None
+    runs = 0
+
+    def __init__(self, name, words, text=b"", files=None, head=0, answered=(), large=False):
+        self.name, self.words, self.text, self.files, self.large = name, words, text, files or {}, large
+        # how much of what is read is the network, before which nothing is answered; and where each answered line ends
+        self.head, self.answered = head, answered
+        self.wanted, self.written, _ = self.run()
+
+    def run(self, **broken):
+        """How a run ends (standard output, standard error, status), its files then, and whether anything was broken."""
+        Case.runs += 1
+        with tempfile.TemporaryDirectory() as folder, tempfile.TemporaryDirectory() as beside:
+            for name, text in self.files.items():
+                with open(os.path.join(folder, name), "wb") as it:
+                    it.write(text)
+            typed, note = os.path.join(beside, "typed"), os.path.join(beside, "note")
+            with open(typed, "wb") as it:
+                it.write(self.text)
+            more = {f"REFUSE_{key.upper()}": str(value) for key, value in broken.items()}
+            with open(typed, "rb") as it:
+                ran = subprocess.run([self.program, *self.words], stdin=it, capture_output=True, cwd=folder, timeout=60,
+                                     env={**os.environ, "LD_PRELOAD": self.library, "REFUSE_NOTE": note, **more})
+            left = {}
+            for name in os.listdir(folder):
+                with open(os.path.join(folder, name), "rb") as it:
+                    left[name] = it.read()
+            return (ran.stdout, ran.stderr, ran.returncode), left, os.path.exists(note)
+
+    def is_prefix(self, got, errors):
+        """Whether a run ended with 1 and that line, after a prefix of the text that it should write."""
+        return self.wanted[0].startswith(got[0]) and got[1:] == (errors, 1)
+
+    def is_saved(self, left):
+        """Whether the files are those of a whole run. For want of memory a saved text may be laid out otherwise, if it says the same."""
+        return left == self.written or Case(self.name, ["run", "kept", "--save", "kept"], files=left).written == self.written
+
+    def each(self, way, start=1, **more):
+        """Runs with each k from the start until none is reached, wants the files to be right, and gives k and how the run ended."""
+        k = start
+        while True:
+            got, left, reached = self.run(**{way: k}, **more)
+            if not reached:
+                if (got, left) != (self.wanted, self.written):
+                    raise Wrong(self, f"{way} {k} isn't reached", got, left)
+                return
+            # a run that did all has saved its network; any other leaves the files as they were
+            if not (self.is_saved(left) if got == self.wanted else left == self.files):
+                raise Wrong(self, f"{way} {k} {more}", got, left)
+            yield k, got
+            k += 1 + (k // 10 if self.large else 0)
+
+    def want(self, right, way, what, got):
+        """Wants that a run went right, or is known."""
+        known = [text for text, holds in KNOWN.items() if not right and holds(self, way, got)]
+        SEEN.update(known)
+        if not right and not known:
+            raise Wrong(self, what, got, {})
+
+
+class Wrong(Exception):
+    """A run that ended as none may."""
+
+    def __init__(self, case, what, got, left):
+        names = f", files {sorted(left)}" if left else ""
+        super().__init__(f"{case.name}: {what}: ..{got[0][-100:]!r}, {got[1][-300:]!r}, status {got[2]}{names}")
+
+
+def memory(case):
+    """The run does all that it should, or ends with 1 after a prefix of it; or `clap` says so before anything is written."""
+    for every in 0, 1:
+        for k, got in case.each("memory", all=every):
+            right = got in (case.wanted, CLAP) or case.is_prefix(got, MEMORY)
+            case.want(right, "memory", f"request {k} refused, all after it: {every}", got)
+
+
+def reads(case):
+    """The run ends with 63 after the answers to the whole lines before; what isn't loaded is told only if it was read whole."""
+    for k, got in case.each("read", 0, files=int(not case.text)):
+        answers = sum(end <= k for end in case.answered)
+        wanted = (b"".join(case.wanted[0].splitlines(True)[:answers]), READ, 1)
+        if case.wanted[2] == 1 and k >= case.head:
+            wanted = case.wanted
+        case.want(got == wanted, "read", f"no more than {k} bytes read", got)
+
+
+def writes(case):
+    """The run ends with 64 after exactly the bytes that went out."""
+    for zero in 0, 1:
+        for k, got in case.each("write", 0, zero=zero):
+            case.want(got == (case.wanted[0][:k], WRITE, 1), "write", f"no more than {k} bytes written, with {zero}", got)
+
+
+def saves(case):
+    """All is answered, the run ends with 64, and the file stays as it was."""
+    for zero in 0, 1:
+        for k, got in case.each("write", 0, zero=zero, files=1):
+            case.want(got == (case.wanted[0], WRITE, 1), "save", f"no more than {k} bytes saved, with {zero}", got)
+
+
+def calls(case):
+    """One byte a call, and a call that is interrupted, change nothing."""
+    got, left, _ = case.run(single=1)
+    if left != case.written:
+        raise Wrong(case, "a byte a call", got, left)
+    case.want(got == case.wanted, "single", "a byte a call", got)
+    for k, got in case.each("interrupt"):
+        case.want(got == case.wanted, "interrupt", f"call {k} interrupted", got)
+
+
+def plain(case):
+    """A command line that can't be read is told so by `clap`, with 2."""
+    got = case.wanted
+    case.want(got[2] == 2 and got[1].startswith(b"error: "), "plain", "nothing broken", got)
+
+
+def case_of(example, form):
+    """The case of a worked example: its network and script through one pipe, or from files, or saved."""
+    network, script = example.network.encode("latin-1"), example.script().encode("latin-1")
+    large = len(network) + len(script) > 5000
+    head = len(network) + (3 if form == "run" else 0)
+    ends, at = [], head if form != "save" else 0
+    for _, line, answer in example.lines:
+        at += len(line) + 1
+        if answer is not None:
+            ends.append(at)
+    name = f"{example.place}, {form}"
+    if form == "run":
+        return Case(name, ["run", "-"], network + b"%%\n" + script, None, head, ends, large)
+    if form == "play":
+        return Case(name, ["play", "network", "script"], b"", {"network": network, "script": script}, head + 1, ends, large)
+    return Case(name, ["run", "network", "--save", "kept"], script, {"network": network, "kept": b"before\n"}, 0, ends, large)
+
+
+def cases(short):
+    """Each case, with the ways in which it is broken."""
+    every_word = examples_of(os.path.join(HERE, "every-word.txt"))[0]
+    for form, ways in ("run", (memory, reads, writes, calls)), ("play", (memory, reads, calls)), ("save", (memory, reads, saves, calls)):
+        yield case_of(every_word, form), ways
+    network = {"network": every_word.network.encode()}
+    yield Case("check", ["check", "network"], files=network, head=len(network["network"]) + 1), (memory, reads, writes, calls)
+    for words in (["--help"], ["run", "--help"]):
+        yield Case(" ".join(words), words), (memory, calls)
+    for words in ([], ["fly"], ["run", "network", "--fast"]):
+        yield Case(" ".join(words) or "no word", words), (plain, memory, calls)
+    yield Case("a word that isn't UTF-8", [b"\xff"]), (plain,)
+    for name in sorted(os.listdir(HERE)):
+        if not name.endswith(".txt") or name in ("every-word.txt", "command-lines.txt"):
+            continue
+        found = examples_of(os.path.join(HERE, name))
+        for example in found[::8] if short and name == "faults.txt" else found[:1] if short else found:
+            ways = (memory, reads, calls) if example.status else (memory, reads, writes, calls)
+            if not short or len(example.network) + len(example.script()) < 1000:
+                yield case_of(example, "run"), ways
+
+
+def failure_of(case, way):
+    """What went wrong with a case in one way of breaking, if anything."""
+    try:
+        way(case)
+    except (Wrong, subprocess.TimeoutExpired) as wrong:
+        return f"{way.__name__}: {wrong}"
+
+
+def main():
+    short, program = sys.argv[1:-1] == ["--short"], os.path.abspath(sys.argv[-1])
+    with tempfile.TemporaryDirectory() as folder:
+        Case.program, Case.library = program, os.path.join(folder, "refuse.so")
+        source = os.path.join(os.path.dirname(os.path.abspath(__file__)), "refuse.c")
+        subprocess.run(["cc", "-O2", "-Wall", "-shared", "-fPIC", "-o", Case.library, source], check=True)
+        tried = [(case, way) for case, ways in cases(short) for way in ways]
+        with ThreadPoolExecutor(2) as pool:
+            failures = [text for text in pool.map(lambda pair: failure_of(*pair), tried) if text]
+    failures += [f"known, and no longer so: {text}" for text in KNOWN if text not in SEEN]
+    for text in failures:
+        print(text)
+    print(f"{Case.runs} runs")
+    print(f"{len(tried) + len(KNOWN)} cases, {len(failures)} failed")
+    return 1 if failures else 0
+
+
+if __name__ == "__main__":
+    sys.exit(main())
