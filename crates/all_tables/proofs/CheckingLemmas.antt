@@ -6,7 +6,7 @@ use Rattle.std.proofs.lemmas.Option.{same_Some}
 use Rattle.std.proofs.lemmas.List.{length-take, get_or-take}
 use Rattle.net_data.specs.Network.{Network}
 use Rattle.profile.specs.declared.tables.Table.{Table}
-use Rattle.transfer_state.specs.declared.certificate.Complaint.{Complaint}
+use Rattle.transfer_state.specs.declared.complaints.Complaint.{Complaint}
 use Rattle.all_tables.specs.Tables.{IsSettledIn, IsJudged}
 
 -- if each call succeeded, what is said of its answer is said of the answers in order

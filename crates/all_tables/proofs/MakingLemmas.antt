@@ -10,9 +10,9 @@ use Rattle.std.proofs.lemmas.Simd.{map-map}
 use Rattle.net_items.specs.Lookups.{plan_at}
 use Rattle.net_data.specs.Network.{Network}
 use Rattle.profile.specs.Whole.{scratch}
-use Rattle.excerpts.specs.Excerpts.{network_source}
+use Rattle.excerpts.specs.Excerpt.{network_source}
 use Rattle.net_items.proofs.KeyedLemmas.{All-then}
-use Rattle.excerpts.specs.Excerpts.{table_at}
+use Rattle.excerpts.specs.Excerpt.{table_at}
 use Rattle.all_tables.specs.Tables.{tables, those_there, IsSettledIn}
 
 -- one more

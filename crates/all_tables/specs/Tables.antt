@@ -4,10 +4,10 @@ use Rattle.std.specs.Option.{MatchOption}
 use Rattle.net_data.specs.Network.{Network}
 use Rattle.profile.specs.declared.tables.Table.{Table}
 use Rattle.profile.specs.Whole.{scratch}
-use Rattle.excerpts.specs.Excerpts.{excerpt_at, network_source, source_of, table_at}
+use Rattle.excerpts.specs.Excerpt.{excerpt_at, network_source, source_of, table_at}
 use Rattle.transfer_state.specs.Complaints.{IsFirstComplaint}
-use Rattle.transfer_state.specs.declared.certificate.Clause.TheVariants.{Points}
-use Rattle.transfer_state.specs.declared.certificate.Complaint.{Complaint}
+use Rattle.transfer_state.specs.declared.complaints.Clause.TheVariants.{Points}
+use Rattle.transfer_state.specs.declared.complaints.Complaint.{Complaint}
 use Rattle.all_tables.specs.declared.checking.Wrong.{Wrong}
 
 -- the settled tables of all planned destinations, in rising code
@@ -34,7 +34,7 @@ abbrev pub IsJudged : Network → Table → Option Complaint → Type 0
 IsJudged net table complaint = MatchOption complaint (IsSettledIn net table) (λ c. IsFirstComplaintIn net table c × (IsSettledIn net table → ⊥))
 
 -- the first of some tables that is not the settled one of its destination, with the first complaint about it
-pub record IsFirstWrong (net : Network) (given : List Table) (wrong : Wrong) : Type 0 where
+pub record IsFirstWrongTable (net : Network) (given : List Table) (wrong : Wrong) : Type 0 where
   pub position : ℕ
   pub table : Table
   pub there : slice_get given position ≡ Some table

@@ -3,7 +3,7 @@
 ghost use Rattle.std.specs.Prelude.{◌≡◌, IfOk, All};
 ghost use Rattle.std.specs.List.{AllZip};
 ghost use Rattle.std.specs.Option.{MatchOption};
-ghost use Rattle.all_tables.specs.Tables.{IsSettledIn, IsJudged, IsFirstWrong};
+ghost use Rattle.all_tables.specs.Tables.{IsSettledIn, IsJudged, IsFirstWrongTable};
 
 use excerpts::{Excerpt, ExcerptFault, Frozen};
 use point_codes::PointCode;
@@ -68,7 +68,7 @@ pub fn check_tables(
     net: &Frozen,
     tables: &[Table],
 ) -> Result<Option<Wrong>, AllocError>
-    ensures { IfOk result (λ wrong. MatchOption wrong (All (IsSettledIn net.now) tables.now) (IsFirstWrong net.now tables.now)) }
+    ensures { IfOk result (λ wrong. MatchOption wrong (All (IsSettledIn net.now) tables.now) (IsFirstWrongTable net.now tables.now)) }
 {
     let complaints = judge_all(rt, alloc, net, tables)?;
     for position in 0..tables.len() {

@@ -1,7 +1,7 @@
 //! The tables of all planned destinations.
 
 ghost use Rattle.std.specs.Prelude.{◌≡◌, IfOk, All, map};
-ghost use Rattle.excerpts.specs.Excerpts.{table_at as the_table_at};
+ghost use Rattle.excerpts.specs.Excerpt.{table_at as the_table_at};
 ghost use Rattle.all_tables.specs.Tables.{tables, those_there, IsSettledIn};
 
 use excerpts::{Excerpt, ExcerptFault, Frozen};

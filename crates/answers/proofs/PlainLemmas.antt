@@ -19,9 +19,9 @@ use Rattle.net_data.specs.declared.events.Refusal.TheVariants as refusal
 use Rattle.plan_rows.specs.declared.causes.Cause.{Cause}
 use Rattle.plan_rows.specs.declared.causes.Cause.TheVariants as cause
 use Rattle.profile.specs.declared.hops.Hop.{Hop}
-use Rattle.transfer_state.specs.declared.certificate.Clause.{Clause}
-use Rattle.transfer_state.specs.declared.certificate.Clause.TheVariants as clause
-use Rattle.transfer_state.specs.declared.certificate.Complaint.{Complaint}
+use Rattle.transfer_state.specs.declared.complaints.Clause.{Clause}
+use Rattle.transfer_state.specs.declared.complaints.Clause.TheVariants as clause
+use Rattle.transfer_state.specs.declared.complaints.Complaint.{Complaint}
 use Rattle.what_if.specs.declared.changes.Change.{Change}
 use Rattle.answers.specs.Text.{line_count}
 use Rattle.answers.specs.Audits.{audit_right, clause_letter, complaint_text}
@@ -30,7 +30,7 @@ use Rattle.answers.specs.Status.{far_text, member_text}
 use Rattle.answers.specs.Traces.{hop_text}
 use Rattle.answers.specs.WhatIfs.{change_text, status_word}
 use Rattle.answers.specs.Links.{link_text}
-use Rattle.answers.specs.Messages.{kind_text, message_text, octet_text}
+use Rattle.answers.specs.Messages.{message_kind_text, message_text, octet_text}
 
 pub line_count-append : (a b : List ℕ) → line_count (a ++ b) ≡ line_count a + line_count b
 line_count-append a b = sum_by-append (λ x. cond (x == 10) 1 0) a b
@@ -74,7 +74,7 @@ plain_link id slc small_id small_slc =
     plain_both (decimal id) (58 ∷ decimal slc) (plain_decimal id small_id) (plain_decimal slc small_slc)
 
 -- a kind of message
-pub plain_kind : (kind : MsgKind) → line_count (kind_text kind) ≡ 0
+pub plain_kind : (kind : MsgKind) → line_count (message_kind_text kind) ≡ 0
 plain_kind MsgKind.Tfp = refl
 plain_kind MsgKind.Tfr = refl
 plain_kind MsgKind.Tfa = refl
@@ -82,8 +82,8 @@ plain_kind MsgKind.Tfa = refl
 -- a message
 pub plain_message : (m : Message) → m.to < 16384 → line_count (message_text m) ≡ 0
 plain_message m small =
-    plain_both (32 ∷ []) (kind_text m.kind ++ 62 ∷ code_text m.to) refl
-    (plain_both (kind_text m.kind) (62 ∷ code_text m.to) (plain_kind m.kind) (plain_code m.to small))
+    plain_both (32 ∷ []) (message_kind_text m.kind ++ 62 ∷ code_text m.to) refl
+    (plain_both (message_kind_text m.kind) (62 ∷ code_text m.to) (plain_kind m.kind) (plain_code m.to small))
 
 -- a hexadecimal digit
 plain_glyph : (d : ℕ) → line_count (digit_glyph true d ∷ []) ≡ 0

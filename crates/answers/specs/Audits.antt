@@ -2,9 +2,9 @@
 use Rattle.std.specs.Prelude.{ℕ, List, ◌∷◌, ◌++◌, codes}
 use Rattle.std.specs.Fmt.{decimal}
 use Rattle.point_codes.specs.Codes.{code_text}
-use Rattle.transfer_state.specs.declared.certificate.Clause.{Clause}
-use Rattle.transfer_state.specs.declared.certificate.Clause.TheVariants.{Points, Route, Status, Links, Messages}
-use Rattle.transfer_state.specs.declared.certificate.Complaint.{Complaint}
+use Rattle.transfer_state.specs.declared.complaints.Clause.{Clause}
+use Rattle.transfer_state.specs.declared.complaints.Clause.TheVariants.{Points, Route, Status, Links, Messages}
+use Rattle.transfer_state.specs.declared.complaints.Complaint.{Complaint}
 
 -- the letter of what is wrong
 abbrev pub clause_letter : Clause → List ℕ

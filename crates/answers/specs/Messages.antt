@@ -9,14 +9,14 @@ use Rattle.profile.specs.declared.tables.Message.{Message}
 use Rattle.profile.specs.declared.tables.RowState.{RowState}
 
 -- the kind of a message
-abbrev pub kind_text : MsgKind → List ℕ
-kind_text MsgKind.Tfp = codes "TFP"
-kind_text MsgKind.Tfr = codes "TFR"
-kind_text MsgKind.Tfa = codes "TFA"
+abbrev pub message_kind_text : MsgKind → List ℕ
+message_kind_text MsgKind.Tfp = codes "TFP"
+message_kind_text MsgKind.Tfr = codes "TFR"
+message_kind_text MsgKind.Tfa = codes "TFA"
 
 -- a message after a space, `TFA>CODE`
 abbrev pub message_text : Message → List ℕ
-message_text m = 32 ∷ (kind_text m.kind ++ 62 ∷ code_text m.to)
+message_text m = 32 ∷ (message_kind_text m.kind ++ 62 ∷ code_text m.to)
 
 -- `messages TFA>CODE TFP>CODE ..` in rising code of the receiver
 abbrev pub messages_text : List Message → List ℕ

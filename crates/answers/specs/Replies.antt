@@ -7,11 +7,11 @@ use Rattle.desk_core.specs.declared.replies.Posted.{Posted}
 use Rattle.desk_core.specs.declared.replies.Posted.TheVariants.{Taken, Again}
 use Rattle.desk_core.specs.declared.replies.Opened.{Opened}
 use Rattle.desk_core.specs.declared.replies.Refusal.{Refusal}
-use Rattle.answers.specs.DeskRefusals.{refusal_text}
+use Rattle.answers.specs.DeskRefusals.{desk_refusal_text}
 
 -- `refused NUMBER NAME VALUES`
 abbrev pub refused_text : Refusal → List ℕ
-refused_text refusal = codes "refused " ++ refusal_text refusal
+refused_text refusal = codes "refused " ++ desk_refusal_text refusal
 
 -- of a post: `taken N` or `again N`
 abbrev pub posted_text : Result Posted Refusal → List ℕ

@@ -19,16 +19,16 @@ abbrev pub row_in : Table → ℕ → Option RowState
 row_in table y = find (λ state. state.point == y) table.rows
 
 -- what is asked of a row, with the network indicator and the destination
-abbrev pub row_text : Question → ℕ → ℕ → RowState → List ℕ
-row_text Status ni dest state = status_text state.choice
-row_text Links ni dest state = links_text state
-row_text Messages ni dest state = messages_text state.messages
-row_text (Octets z) ni dest state = octets_text (octets_to ni dest state z)
+abbrev pub asked_text : Question → ℕ → ℕ → RowState → List ℕ
+asked_text Status ni dest state = status_text state.choice
+asked_text Links ni dest state = links_text state
+asked_text Messages ni dest state = messages_text state.messages
+asked_text (Octets z) ni dest state = octets_text (octets_to ni dest state z)
 
 -- the answer from a row
 abbrev pub row_answer : Question → ℕ → ℕ → Option RowState → List ℕ
 row_answer asked ni dest None = no_row
-row_answer asked ni dest (Some state) = row_text asked ni dest state
+row_answer asked ni dest (Some state) = asked_text asked ni dest state
 
 -- the answer from the plan of a destination, whose table is computed from scratch
 abbrev pub plan_answer : Question → Network → ℕ → Option Plan → List ℕ

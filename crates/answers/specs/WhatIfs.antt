@@ -25,10 +25,10 @@ abbrev pub report_text : Report → List ℕ
 report_text report = (if report.denied then codes "whatif denied" else codes "whatif granted") ++ flat_map change_text report.changes
 
 -- a refusal and its place, `refused NUMBER NAME VALUES at PLACE`
-abbrev pub refused_text : Refused → List ℕ
-refused_text r = codes "refused " ++ (refusal_text r.refusal ++ (codes " at " ++ decimal r.place))
+abbrev pub refused_event_text : Refused → List ℕ
+refused_event_text r = codes "refused " ++ (refusal_text r.refusal ++ (codes " at " ++ decimal r.place))
 
 -- the report, or the refusal and its place
 abbrev pub what_if_text : Result Report Refused → List ℕ
 what_if_text (Ok report) = report_text report
-what_if_text (Err r) = refused_text r
+what_if_text (Err r) = refused_event_text r

@@ -3,7 +3,7 @@
 ghost use Rattle.std.specs.Prelude.{◌≡◌, ◌≢◌, ◌++◌, IfOk, OnOk, length, string_bytes};
 ghost use Rattle.std.specs.Option.{IfSome, MatchOption};
 ghost use Rattle.profile.specs.Whole.{scratch, IsSettledTable};
-ghost use Rattle.excerpts.specs.Excerpts.{source_of};
+ghost use Rattle.excerpts.specs.Excerpt.{source_of};
 ghost use Rattle.transfer_state.specs.Complaints.{IsFirstComplaint};
 ghost use Rattle.answers.specs.Audits.{audit_right, audit_wrong, clause_letter, complaint_text};
 ghost use Rattle.answers.specs.Text.{line_count};

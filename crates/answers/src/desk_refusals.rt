@@ -4,7 +4,7 @@ ghost use Rattle.std.specs.Prelude.{◌≡◌, ◌++◌, OnOk, string_bytes};
 ghost use Rattle.std.specs.Fmt.{decimal};
 ghost use Rattle.answers.specs.Refusals.{refusal_text as edit_text};
 ghost use Rattle.answers.specs.Text.{line_count};
-ghost use Rattle.answers.specs.DeskRefusals.{refusal_text};
+ghost use Rattle.answers.specs.DeskRefusals.{desk_refusal_text};
 
 use crate::put_refusal as put_edit_refusal;
 use desk_core::Refusal;
@@ -40,8 +40,8 @@ fn put_edit(alloc: Global, text: &mut String, refusal: EditRefusal) -> Result<()
 
 /// Adds the refusal of a target that is not open, with the number of the open one.
 fn put_stale(alloc: Global, text: &mut String, target: Option<u64>) -> Result<(), AllocError>
-    ensures text { OnOk result (string_bytes text.new ≡ string_bytes text.old ++ refusal_text (Refusal.Stale target)) }
-    ensures plain { line_count (refusal_text (Refusal.Stale target)) ≡ 0 }
+    ensures text { OnOk result (string_bytes text.new ≡ string_bytes text.old ++ desk_refusal_text (Refusal.Stale target)) }
+    ensures plain { line_count (desk_refusal_text (Refusal.Stale target)) ≡ 0 }
 {
     match target {
         Some(number) => put_numbered(alloc, text, "47 Stale ", number),
@@ -55,8 +55,8 @@ pub(crate) fn put_refusal(
     text: &mut String,
     refusal: Refusal,
 ) -> Result<(), AllocError>
-    ensures text { OnOk result (string_bytes text.new ≡ string_bytes text.old ++ refusal_text refusal) }
-    ensures plain { line_count (refusal_text refusal) ≡ 0 }
+    ensures text { OnOk result (string_bytes text.new ≡ string_bytes text.old ++ desk_refusal_text refusal) }
+    ensures plain { line_count (desk_refusal_text refusal) ≡ 0 }
 {
     match refusal {
         Refusal::OutOfMemory => text.push_str("1 OutOfMemory"),

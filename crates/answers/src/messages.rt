@@ -3,7 +3,7 @@
 ghost use Rattle.std.specs.Prelude.{◌≡◌, ◌++◌, ◌<◌, IfOk, OnOk, Some, option_map, string_bytes};
 ghost use Rattle.std.specs.List.{flat_map};
 ghost use Rattle.point_codes.specs.Octets.{octets_of};
-ghost use Rattle.answers.specs.Messages.{kind_text, message_text, messages_text, octet_text, octets_text, message_to};
+ghost use Rattle.answers.specs.Messages.{message_kind_text, message_text, messages_text, octet_text, octets_text, message_to};
 ghost use Rattle.answers.specs.Text.{line_count};
 
 use crate::codes::write_code;
@@ -13,7 +13,7 @@ use std::alloc::{AllocError, Global};
 
 /// The kind of a message.
 fn kind_word(kind: MsgKind) -> &'static str
-    ensures { result.now ≡ kind_text kind }
+    ensures { result.now ≡ message_kind_text kind }
 {
     match kind {
         MsgKind::Tfp => "TFP",
@@ -91,17 +91,17 @@ pub(crate) fn write_octets(
     dest: PointCode,
     point: PointCode,
     messages: &Messages,
-    z: PointCode,
+    neighbour: PointCode,
 ) -> Result<String, AllocError>
     requires { ni < 4 }
     ensures text { IfOk result (λ text. string_bytes text ≡
-        octets_text (option_map (λ m. octets_of ni z point m.kind dest) (message_to messages.now z))) }
+        octets_text (option_map (λ m. octets_of ni neighbour point m.kind dest) (message_to messages.now neighbour))) }
     ensures plain { IfOk result (λ text. line_count (string_bytes text) ≡ 0) }
 {
-    match messages.to(z) {
+    match messages.to(neighbour) {
         None => String::from_str(alloc, "octets none"),
         Some(message) => {
-            let octets = tfm_octets(ni, z, point, message.kind, dest);
+            let octets = tfm_octets(ni, neighbour, point, message.kind, dest);
             let mut text = String::from_str(alloc, "octets")?;
             put_octets(alloc, &mut text, &octets)?;
             Ok(text)

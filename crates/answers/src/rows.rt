@@ -8,7 +8,7 @@ ghost use Rattle.answers.specs.Status.{status_text};
 ghost use Rattle.answers.specs.Links.{links_text};
 ghost use Rattle.answers.specs.Messages.{messages_text, octets_text, octets_to};
 ghost use Rattle.profile.specs.Whole.{scratch};
-ghost use Rattle.excerpts.specs.Excerpts.{source_of};
+ghost use Rattle.excerpts.specs.Excerpt.{source_of};
 ghost use Rattle.transfer_state.specs.Routing.{state_at};
 ghost use Rattle.answers.specs.Text.{line_count};
 
@@ -64,16 +64,16 @@ fn answer_octets(
     ni: u8,
     routing: &Routing,
     point: PointCode,
-    z: PointCode,
+    neighbour: PointCode,
 ) -> Result<String, AllocError>
     requires { ni < 4 }
     ensures text { IfOk result (λ text. string_bytes text ≡
-        option_map_or (λ state. octets_text (octets_to ni routing.now.plan.dest state z))
+        option_map_or (λ state. octets_text (octets_to ni routing.now.plan.dest state neighbour))
         (state_at routing.now point) no_row) }
     ensures plain { IfOk result (λ text. line_count (string_bytes text) ≡ 0) }
 {
     match routing.messages(alloc, point)? {
-        Some(messages) => write_octets(alloc, ni, routing.dest(), point, &messages, z),
+        Some(messages) => write_octets(alloc, ni, routing.dest(), point, &messages, neighbour),
         None => write_no_row(alloc),
     }
 }

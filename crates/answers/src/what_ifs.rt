@@ -4,7 +4,7 @@ ghost use Rattle.std.specs.Prelude.{◌≡◌, ◌++◌, Ok, Err, IfOk, OnOk, st
 ghost use Rattle.std.specs.List.{flat_map};
 ghost use Rattle.what_if.specs.Reports.{report_of};
 ghost use Rattle.answers.specs.Text.{line_count};
-ghost use Rattle.answers.specs.WhatIfs.{change_text, refused_text, report_text, what_if_text};
+ghost use Rattle.answers.specs.WhatIfs.{change_text, refused_event_text, report_text, what_if_text};
 ghost use Rattle.answers.specs.WhatIfs.{status_word as status_text};
 
 use crate::refusals::put_refusal;
@@ -67,7 +67,7 @@ fn write_report(alloc: Global, report: &Report) -> Result<String, AllocError>
 
 /// A refused event in text, with its place.
 fn write_refused(alloc: Global, refused: Refused) -> Result<String, AllocError>
-    ensures text { IfOk result (λ text. string_bytes text ≡ refused_text refused) }
+    ensures text { IfOk result (λ text. string_bytes text ≡ refused_event_text refused) }
     ensures plain { IfOk result (λ text. line_count (string_bytes text) ≡ 0) }
 {
     let place = refused.place;

@@ -15,7 +15,7 @@ use Rattle.console.specs.Run.{IsOutcome, Ran}
 use Rattle.console.specs.declared.faults.Fault.{Fault}
 use Rattle.console.specs.declared.faults.Fault.TheVariants.{OutOfMemory, Read, Write, Load}
 use Rattle.console.specs.declared.input.Opening.{Opening}
-use Rattle.console.specs.Input.{is_mark, has_mark, before_mark, after_mark, joined, text_part, script_part, HasText, IsWithin, IsLoadFault, IsOpened, IsUnloaded, IsUnopened, IsSplit, IsOpening, IsOpenAt, IsMarkAt, RanInput}
+use Rattle.console.specs.Input.{is_mark, has_mark, before_mark, after_mark, joined, text_part, script_part, HasText, IsWithinLimit, IsLoadFault, IsOpened, IsUnloaded, IsUnopened, IsSplit, IsOpening, IsOpenAt, IsMarkAt, RanInput}
 use Rattle.console.proofs.LineLemmas.{cut_joined, cut_ended, cut_grown}
 
 -- the lines and the rest are the text
@@ -221,7 +221,7 @@ ran_unopened unread left held cause fault lines net un zero some none = record {
   outcome = inr (record { cause = subst (λ f. IsUnloaded f un.read left) (sym some) un.cause; none = refl; gone = none });
 }
 
-load_cause : (cause : Fault) (read : List ℕ) (left : Option (List ℕ)) (text : List ℕ) → HasText read left → IsWithin (text_part read) → text_part read ≡ text
+load_cause : (cause : Fault) (read : List ℕ) (left : Option (List ℕ)) (text : List ℕ) → HasText read left → IsWithinLimit (text_part read) → text_part read ≡ text
     → IsLoadFault text cause → IsUnloaded (Some cause) read left
 load_cause OutOfMemory read left text has within same is = tt
 load_cause Read read left text has within same is = absurd is

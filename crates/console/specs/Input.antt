@@ -52,14 +52,14 @@ abbrev pub HasText : List ℕ → Option (List ℕ) → Type 0
 HasText read left = (has_mark (whole_lines read) ≡ true) ⊎ IsAtEnd left
 
 -- a network text has at most 134,217,728 bytes
-abbrev pub IsWithin : List ℕ → Type 0
-IsWithin text = length text ≤ 134217728
+abbrev pub IsWithinLimit : List ℕ → Type 0
+IsWithinLimit text = length text ≤ 134217728
 
 -- the network text says a network, and the script was answered from a new desk over that
 pub record IsScriptWritten (fault : Option Fault) (read : List ℕ) (left : Option (List ℕ)) (written : List ℕ) (net : Option Network) : Type 0 where
   pub start : Network
   pub whole : HasText read left
-  pub within : IsWithin (text_part read)
+  pub within : IsWithinLimit (text_part read)
   pub says : Says (text_part read) (Ok start)
   pub outcome : IsOutcome fault (opening start) left (script_part read) written net
 
@@ -84,7 +84,7 @@ IsUnloaded None read left = ⊥
 IsUnloaded (Some OutOfMemory) read left = Unit {0}
 IsUnloaded (Some Read) read left = (has_mark (whole_lines read) ≡ false) ⊎ (134217728 < length (text_part read))
 IsUnloaded (Some Write) read left = ⊥
-IsUnloaded (Some (Load e)) read left = HasText read left × IsWithin (text_part read) × IsOfText e × Says (text_part read) (Err e)
+IsUnloaded (Some (Load e)) read left = HasText read left × IsWithinLimit (text_part read) × IsOfText e × Says (text_part read) (Err e)
 
 -- no network came of what was read, and nothing was written
 pub record IsNothingWritten (fault : Option Fault) (read : List ℕ) (left : Option (List ℕ)) (written : List ℕ) (net : Option Network) : Type 0 where
@@ -138,7 +138,7 @@ pub record IsUnopened (unread left : Option (List ℕ)) (fault : Fault) : Type 0
 pub record HasReadAll (unread left : Option (List ℕ)) (text : List ℕ) : Type 0 where
   pub consumed : Consumes unread left text
   pub at_end : IsAtEnd left
-  pub within : IsWithin text
+  pub within : IsWithinLimit text
 
 -- not all bytes were read
 abbrev pub HasNotReadAll : Fault → Type 0

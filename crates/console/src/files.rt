@@ -41,9 +41,6 @@ fn read_all<R: Read>(alloc: Global, reader: &mut R) -> Result<Vec<u8>, Fault>
 pub fn read_net<R: Read>(alloc: Global, reader: &mut R) -> Result<Net, Fault>
     ensures { MatchResult result (HasLoaded (R.remaining reader.old) (R.remaining reader.new)) (HasNotLoaded (R.remaining reader.old) (R.remaining reader.new)) }
 {
-    let bytes = match read_all(alloc, reader) {
-        Ok(bytes) => bytes,
-        Err(fault) => return Err(fault),
-    };
+    let bytes = read_all(alloc, reader)?;
     load_text(alloc, bytes.as_slice())
 }

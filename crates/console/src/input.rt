@@ -197,10 +197,7 @@ pub fn load_text(alloc: Global, text: &[u8]) -> Result<Net, Fault>
 fn open_text(alloc: Global, text: &[u8]) -> Result<Console, Fault>
     ensures { MatchResult result (IsOpened text.now) (IsLoadFault text.now) }
 {
-    let net = match load_text(alloc, text) {
-        Ok(net) => net,
-        Err(fault) => return Err(fault),
-    };
+    let net = load_text(alloc, text)?;
     match Console::start(alloc, net) {
         Ok(console) => Ok(console),
         Err(_) => Err(Fault::OutOfMemory),

@@ -1,10 +1,11 @@
 -- What is accepted stays so, whatever of it is published.
 use Rattle.std.proofs.Common.{◌≡◌, ℕ, ◌-◌, ◌≤◌, Option, Some, None, refl, sym, ap, ◌∙◌, subst, length, take, drop, arith, length-drop}
 use Rattle.std.proofs.lemmas.List.{take-append-drop}
-use Rattle.desk_core.specs.Desk.{DeskValue, OpenTarget, accepted, replay}
-use Rattle.desk_core.specs.Runs.{IsSteady}
+use Rattle.net_data.specs.Edits.{replay}
+use Rattle.desk_core.specs.Desk.{DeskValue, OpenTarget, accepted}
+use Rattle.desk_core.specs.Runs.{IsSteadyDesk}
 use Rattle.desk_core.proofs.ReplayLemmas.{replay-append}
-use Rattle.desk_console.specs.Sync.{HasKept, published_to, without_target}
+use Rattle.desk_console.specs.Syncing.{HasKept, published_to, without_target}
 
 -- one after the other
 kept_then : (a b c : DeskValue) → HasKept a b → HasKept b c → HasKept a c
@@ -28,13 +29,13 @@ kept_published s number after within =
     }
 
 -- where the open target is published
-kept_without : (s : DeskValue) → IsSteady s → HasKept s (without_target s)
+kept_without : (s : DeskValue) → IsSteadyDesk s → HasKept s (without_target s)
 kept_without s = go s.target
   where
-    go : (o : Option OpenTarget) → IsSteady (record s { target = o }) → HasKept s (without_target (record s { target = o }))
+    go : (o : Option OpenTarget) → IsSteadyDesk (record s { target = o }) → HasKept s (without_target (record s { target = o }))
     go None steady = record { accepted = refl; net = refl; lasts = refl; spare = refl }
     go (Some t) steady = kept_published s t.number steady.0 steady.1
 
 -- and more is done
-pub kept_over : (old mid new : DeskValue) → IsSteady old → mid ≡ without_target old → HasKept mid new → HasKept old new
+pub kept_over : (old mid new : DeskValue) → IsSteadyDesk old → mid ≡ without_target old → HasKept mid new → HasKept old new
 kept_over old mid new steady is kept = kept_then old mid new (subst (λ (s : DeskValue). HasKept old s) (sym is) (kept_without old steady)) kept

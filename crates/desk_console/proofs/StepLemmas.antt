@@ -6,14 +6,14 @@ use Rattle.std.proofs.lemmas.Bool.{eq-eqb}
 use Rattle.net_items.specs.declared.items.Plan.{Plan}
 use Rattle.net_items.specs.Lookups.{plan_at}
 use Rattle.net_data.specs.Network.{Network}
-use Rattle.excerpts.specs.Excerpts.{ExcerptValue, content_at, content_in, content_of, excerpt_at, excerpt_in}
+use Rattle.excerpts.specs.Excerpt.{ExcerptValue, content_at, content_in, content_of, excerpt_at, excerpt_in}
 use Rattle.work_units.specs.Work.{Work}
 use Rattle.dirty_sets.specs.Waiting.{Task, waiting_task, out, is_out, least, taken, without_task}
 use Rattle.dirty_sets.proofs.ChangeLemmas.{key_of}
 use Rattle.desk_core.specs.declared.replies.Refusal.{Refusal}
 use Rattle.desk_core.specs.declared.replies.Refusal.TheVariants.{OutOfMemory}
 use Rattle.desk_core.specs.Desk.{DeskValue, OpenTarget, net_at}
-use Rattle.desk_core.specs.Steps.{IsGiveReply, IsGiven, IsOfTarget, IsAbandonReply, Abandons, Gives, Takes, left_of, out_refusal, target_number}
+use Rattle.desk_core.specs.Steps.{IsGiveReply, IsGiven, IsOfTarget, IsAbandonReply, Abandons, Gives, Takes, tasks_left, out_refusal, target_number}
 use Rattle.desk_console.specs.Settling.{HasOnlyTasks, out_count, waiting_count}
 use Rattle.desk_console.proofs.TaskLemmas.{first_is_out, first_waits, none_left, out_put_last, out_without_none, waiting_without_le}
 
@@ -189,9 +189,9 @@ settle_one d mid new taken job settled result none some is takes same gives =
 -- ---- publication
 
 -- nothing is left if nothing is out and nothing waits
-pub nothing_left : (d : DeskValue) → out_count d ≡ 0 → waiting_count d ≡ 0 → left_of d ≡ 0
+pub nothing_left : (d : DeskValue) → out_count d ≡ 0 → waiting_count d ≡ 0 → tasks_left d ≡ 0
 nothing_left d = go d.target
   where
-    go : (o : Option OpenTarget) → out_count (record d { target = o }) ≡ 0 → waiting_count (record d { target = o }) ≡ 0 → left_of (record d { target = o }) ≡ 0
+    go : (o : Option OpenTarget) → out_count (record d { target = o }) ≡ 0 → waiting_count (record d { target = o }) ≡ 0 → tasks_left (record d { target = o }) ≡ 0
     go None none idle = refl
     go (Some t) none idle = none_left t.tasks none idle

@@ -1,23 +1,13 @@
 -- What stands at a console (own).
-use Rattle.std.specs.Prelude.{ℕ, List, [], Option, None, replicate, slice_index_or}
+use Rattle.std.specs.Prelude.{ℕ, List, Option, None, replicate, slice_index_or}
 use Rattle.net_data.specs.Network.{Network}
 use Rattle.work_units.specs.Work.{Work}
-use Rattle.desk_core.specs.Desk.{DeskValue, net_now, no_post}
+use Rattle.desk_core.specs.Desk.{DeskValue, net_now, new_desk}
 
 -- a desk, and 32 slots for results
 pub record ConsoleValue : Type 0 where
   pub desk : DeskValue
   pub slots : List (Option Work)
-
--- a desk that has accepted nothing, over a network
-abbrev pub new_desk : Network → DeskValue
-new_desk net = record {
-  published = record { number = 0; batch = []; network = net };
-  pending = [];
-  lasts = replicate 256 no_post;
-  target = None;
-  spare = 0;
-}
 
 -- a new desk over a network, and empty slots
 abbrev pub opening : Network → ConsoleValue

@@ -7,7 +7,7 @@ use Rattle.desk_core.specs.declared.replies.Refusal.{Refusal}
 use Rattle.desk_core.specs.declared.replies.Refusal.TheVariants.{OutOfMemory, EndOfNumbers}
 use Rattle.desk_core.specs.Desk.{DeskValue, accepted}
 use Rattle.desk_core.specs.Steps.{last_of, Posts, Opens, Takes, Gives, Abandons, Publishes}
-use Rattle.desk_console.specs.Sync.{synced}
+use Rattle.desk_console.specs.Syncing.{synced}
 use Rattle.answers.specs.Replies.{refused_text, posted_text, opened_text, job_text, given_text, abandoned_text, published_text, synced_text, version_text}
 use Rattle.path_trace.specs.Traces.{trace_at}
 use Rattle.what_if.specs.Reports.{report_of}

@@ -1,5 +1,5 @@
 pub mod Console
 pub mod Does
 pub mod Commands
-pub mod Sync
+pub mod Syncing
 pub mod Settling

@@ -14,7 +14,7 @@
 //!    answered from the published version alone.
 //! 5. A line that is no command is answered `refused 62 BadLine`.
 //!
-//! Stands on `answers`. A change here also changes specs/ (Commands, Console, Does, Settling, Sync), proofs/ and must-
+//! Stands on `answers`. A change here also changes specs/ (Commands, Console, Does, Settling, Syncing), proofs/ and must-
 //! fail/.
 #![tactic(auto)]
 

@@ -112,28 +112,28 @@ impl Console {
         &self,
         alloc: Global,
         asked: Question,
-        y: PointCode,
-        x: PointCode,
+        point: PointCode,
+        dest: PointCode,
     ) -> Result<String, AllocError>
-        ensures text { IfOk result (λ text. string_bytes text ≡ row_answer asked self.now.desk.published.network y x) }
+        ensures text { IfOk result (λ text. string_bytes text ≡ row_answer asked self.now.desk.published.network point dest) }
         ensures plain { IfOk result (λ text. line_count (string_bytes text) ≡ 0) }
     {
-        answer_about(alloc, asked, self.desk.published(), y, x)
+        answer_about(alloc, asked, self.desk.published(), point, dest)
     }
 
     /// A trace.
     fn ask_trace(
         &self,
         alloc: Global,
-        y: PointCode,
-        x: PointCode,
+        point: PointCode,
+        dest: PointCode,
         s: u8,
     ) -> Result<String, AllocError>
         requires { s < 16 }
-        ensures text { IfOk result (λ text. string_bytes text ≡ trace_answer (trace_at self.now.desk.published.network y x s)) }
+        ensures text { IfOk result (λ text. string_bytes text ≡ trace_answer (trace_at self.now.desk.published.network point dest s)) }
         ensures plain { IfOk result (λ text. line_count (string_bytes text) ≡ 0) }
     {
-        answer_trace(alloc, self.desk.published(), y, x, s)
+        answer_trace(alloc, self.desk.published(), point, dest, s)
     }
 
     /// What events would change.

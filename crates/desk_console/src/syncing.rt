@@ -2,9 +2,9 @@
 
 ghost use Rattle.std.specs.Prelude.{◌≡◌, ◌<◌, None, Some, IfOk, OnOk, OnErr};
 ghost use Rattle.desk_core.specs.Desk.{accepted};
-ghost use Rattle.desk_core.specs.Steps.{left_of, target_number};
+ghost use Rattle.desk_core.specs.Steps.{tasks_left, target_number};
 ghost use Rattle.desk_console.specs.Settling.{HasOnlyTasks, out_count, waiting_count};
-ghost use Rattle.desk_console.specs.Sync.{caught_up, synced, without_target, HasKept};
+ghost use Rattle.desk_console.specs.Syncing.{caught_up, synced, without_target, HasKept};
 
 use desk_core::{Desk, Refusal};
 use std::alloc::{AllocError, Global};
@@ -72,7 +72,7 @@ fn call_back(desk: &mut Desk, number: u64)
 fn settle_all(alloc: Global, desk: &mut Desk) -> Result<(), AllocError>
     requires { out_count desk.old ≡ 0 }
     ensures only { HasOnlyTasks desk.old desk.new }
-    ensures done { OnOk result (left_of desk.new ≡ 0) }
+    ensures done { OnOk result (tasks_left desk.new ≡ 0) }
 {
     while desk.waiting() > 0 {
         settle_next(alloc, desk)?;

@@ -7,17 +7,17 @@ use Rattle.std.specs.Option.{MatchOption, option_map}
 use Rattle.net_data.specs.declared.events.Event.{Event}
 use Rattle.net_data.specs.Network.{Network}
 use Rattle.net_data.specs.Valid.{IsValid}
-use Rattle.net_data.specs.Edits.{changed, refusal_of}
-use Rattle.excerpts.specs.Excerpts.{content_at}
-use Rattle.dirty_sets.specs.Touch.{IsIndex, touches}
+use Rattle.net_data.specs.Edits.{changed, refusal_of, replay}
+use Rattle.excerpts.specs.Excerpt.{content_at}
+use Rattle.dirty_sets.specs.Touch.{IsTouchIndex, touches}
 use Rattle.dirty_sets.specs.Marks.{Marked, IsClear, IsNoted}
 use Rattle.dirty_sets.specs.Waiting.{Task}
 use Rattle.dirty_sets.proofs.UntouchedLemmas.{law}
 use Rattle.net_versions.specs.Versions.{VersionValue}
-use Rattle.desk_core.specs.Desk.{DeskValue, OpenTarget, accepted, net_at, net_now, replay, touched_by, next_version}
+use Rattle.desk_core.specs.Desk.{DeskValue, OpenTarget, accepted, net_at, net_now, touched_by, next_version}
 use Rattle.desk_core.specs.Steps.{with_post, with_target, with_tasks, with_version}
 use Rattle.desk_core.specs.Targets.{TargetValue}
-use Rattle.desk_core.specs.Inside.{IsAhead, IsInside, IsOpened, IsSameMarked, count, fixed, since}
+use Rattle.desk_core.specs.Inside.{IsAhead, IsInside, IsOpenAhead, IsSameMarked, count, fixed, since}
 use Rattle.desk_core.proofs.ReplayLemmas.{replay-append, replay-push, touched_by-push}
 
 or_false : (a b : Bool) → (a || b) ≡ false → (a ≡ false) × (b ≡ false)
@@ -26,11 +26,11 @@ or_false false b e = (refl, e)
 
 module _ (s : DeskValue) (latest : Network) (marked : Marked) (opened : Option TargetValue) (i : IsInside s latest marked opened) where
   -- the fixed network has no more than the accepted events
-  few_fixed : (o : Option TargetValue) → IsOpened s o → count s o ≤ length s.pending
+  few_fixed : (o : Option TargetValue) → IsOpenAhead s o → count s o ≤ length s.pending
   few_fixed None ahead = omega arith
   few_fixed (Some t) ahead = let within = ahead.within in let after = ahead.after in omega arith
 
-  fixed_is : (o : Option TargetValue) → IsOpened s o → fixed s o ≡ replay s.published.network (take (count s o) s.pending)
+  fixed_is : (o : Option TargetValue) → IsOpenAhead s o → fixed s o ≡ replay s.published.network (take (count s o) s.pending)
   fixed_is None ahead = refl
   fixed_is (Some t) ahead = ahead.network
 
@@ -48,7 +48,7 @@ module _ (s : DeskValue) (latest : Network) (marked : Marked) (opened : Option T
     abbrev after : DeskValue
     after = with_post s collector seq event
 
-    ahead_after : (o : Option TargetValue) → IsOpened s o → IsOpened after o
+    ahead_after : (o : Option TargetValue) → IsOpenAhead s o → IsOpenAhead after o
     ahead_after None ahead = tt
     ahead_after (Some t) ahead =
         let within = ahead.within in let low = ahead.after in
@@ -58,7 +58,7 @@ module _ (s : DeskValue) (latest : Network) (marked : Marked) (opened : Option T
           network = ahead.network ∙ ap (replay s.published.network) (sym (take-append-le (t.number - s.published.number) s.pending (event ∷ []) (omega arith)));
         }
 
-    since_after : (o : Option TargetValue) → IsOpened s o → since after o ≡ since s o ++ event ∷ []
+    since_after : (o : Option TargetValue) → IsOpenAhead s o → since after o ≡ since s o ++ event ∷ []
     since_after None ahead = refl
     since_after (Some t) ahead = drop-append-le (t.number - s.published.number) s.pending (event ∷ []) (few_fixed (Some t) ahead)
 
@@ -76,7 +76,7 @@ module _ (s : DeskValue) (latest : Network) (marked : Marked) (opened : Option T
           counted = omega arith;
           collectors = length-set s.lasts collector _ ∙ i.collectors;
           ahead = ahead_after opened i.ahead;
-          index = subst (λ n. IsIndex n marked'.index) (sym now) noted.index;
+          index = subst (λ n. IsTouchIndex n marked'.index) (sym now) noted.index;
           since = λ x low.
               noted.touched x low
               ∙ ap (λ b. b || touches latest event x) (i.since x low)
@@ -119,7 +119,7 @@ inside_open s latest marked marked' tasks i same clear =
         within = omega arith;
         network = i.is_now ∙ ap (replay s.published.network) (sym (ap (λ k. take k s.pending) all ∙ take-length s.pending));
       };
-      index = subst (IsIndex latest) (sym same) i.index;
+      index = subst (IsTouchIndex latest) (sym same) i.index;
       since = λ x low. clear x low ∙ ap (λ es. touched_by latest es x) (sym (ap (λ k. drop k s.pending) all ∙ drop_all s.pending));
       kept = λ x low off. refl;
     }
@@ -183,7 +183,7 @@ inside_alike s s' latest marked opened published pending collectors i =
     with_both : VersionValue → List Event → DeskValue
     with_both v es = record { published = v; pending = es; lasts = s'.lasts; target = s'.target; spare = s'.spare }
 
-    ahead : (o : Option TargetValue) → IsOpened s o → IsOpened (with_both s.published s.pending) o
+    ahead : (o : Option TargetValue) → IsOpenAhead s o → IsOpenAhead (with_both s.published s.pending) o
     ahead None a = tt
     ahead (Some t) a = record { after = a.after; within = a.within; network = a.network }
 
@@ -192,7 +192,7 @@ pub steady_is : (s : DeskValue) (latest : Network) (marked : Marked) (opened : O
     → MatchOption (option_map (λ (t : TargetValue). record { number = t.number; tasks = t.tasks }) opened) (Unit {0}) (λ (t : OpenTarget). (s.published.number ≤ t.number) × (t.number ≤ accepted s))
 steady_is s latest marked opened i = go opened i.ahead
   where
-    go : (o : Option TargetValue) → IsOpened s o → MatchOption (option_map (λ (t : TargetValue). record { number = t.number; tasks = t.tasks }) o) (Unit {0}) (λ (t : OpenTarget). (s.published.number ≤ t.number) × (t.number ≤ accepted s))
+    go : (o : Option TargetValue) → IsOpenAhead s o → MatchOption (option_map (λ (t : TargetValue). record { number = t.number; tasks = t.tasks }) o) (Unit {0}) (λ (t : OpenTarget). (s.published.number ≤ t.number) × (t.number ≤ accepted s))
     go None a = tt
     go (Some t) a = (a.after, a.within)
 

@@ -11,7 +11,7 @@ use Rattle.net_items.specs.Lookups.{has_point, plan_at, point_at}
 use Rattle.net_items.proofs.KeyedLemmas.{found_holds, All-then}
 use Rattle.net_data.specs.Network.{Network}
 use Rattle.net_data.specs.Valid.{IsValid, IsRightPlan}
-use Rattle.excerpts.specs.Excerpts.{ExcerptValue, excerpt_at, excerpt_in}
+use Rattle.excerpts.specs.Excerpt.{ExcerptValue, excerpt_at, excerpt_in}
 use Rattle.transfer_state.specs.Routing.{RoutingSlotValue}
 use Rattle.dirty_sets.specs.Touch.{is_planned}
 use Rattle.dirty_sets.specs.Marks.{Marked}
@@ -24,7 +24,7 @@ use Rattle.desk_core.specs.declared.replies.Refusal.TheVariants.{Busy, Nothing}
 use Rattle.desk_core.specs.Desk.{DeskValue, OpenTarget, accepted, net_now, to_settle, touched_by}
 use Rattle.desk_core.specs.Steps.{IsReply, Opens, with_target}
 use Rattle.desk_core.specs.Inside.{IsInside}
-use Rattle.desk_core.specs.Targets.{AreFilled, IsFilled, IsSlotFor, is_task, slot_of}
+use Rattle.desk_core.specs.Targets.{AreFilled, IsFilled, IsSlotFor, is_task, routing_slot_of}
 
 -- ---- lists
 
@@ -101,11 +101,11 @@ touched_wait touched (x ∷ xs) = go (touched x) refl (touched_wait touched xs)
         let is : filter touched (x ∷ xs) ≡ filter touched xs = rw e refl in
         subst Wait (sym is) ((λ t. absurd (let f : false ≡ true = sym e ∙ t in cc)), rec)
 
-places_filled : (net : Network) (touched : ℕ → Bool) (tasks : List Task) (plans : List Plan) → AllByRecursion (λ x. touched x ≡ true → is_task tasks x ≡ true) (dests plans) → AllByRecursion (IsFilled tasks) (map (slot_of net touched) plans)
+places_filled : (net : Network) (touched : ℕ → Bool) (tasks : List Task) (plans : List Plan) → AllByRecursion (λ x. touched x ≡ true → is_task tasks x ≡ true) (dests plans) → AllByRecursion (IsFilled tasks) (map (routing_slot_of net touched) plans)
 places_filled net touched tasks [] all = tt
 places_filled net touched tasks (p ∷ ps) all = (go (touched p.dest) refl, places_filled net touched tasks ps all.1)
   where
-    go : (b : Bool) → touched p.dest ≡ b → IsFilled tasks (slot_of net touched p)
+    go : (b : Bool) → touched p.dest ≡ b → IsFilled tasks (routing_slot_of net touched p)
     go true e = rw e (all.0 e)
     go false e = rw e refl
 
@@ -125,12 +125,12 @@ plans_found (p ∷ ps) = (
   All-then (λ (q : Plan). q.dest) (λ q. is_some (plan_at ps q.dest) ≡ true) (λ q. is_some (plan_at (p ∷ ps) q.dest) ≡ true) (λ q h. still_found p ps q.dest h) ps (plans_found ps),
 )
 
-excerpts_of : (net : Network) (touched : ℕ → Bool) (plans : List Plan) → map (λ (s : RoutingSlotValue). s.excerpt) (map (slot_of net touched) plans) ≡ map (excerpt_in net) plans
+excerpts_of : (net : Network) (touched : ℕ → Bool) (plans : List Plan) → map (λ (s : RoutingSlotValue). s.excerpt) (map (routing_slot_of net touched) plans) ≡ map (excerpt_in net) plans
 excerpts_of net touched [] = refl
 excerpts_of net touched (p ∷ ps) = ap (λ xs. excerpt_in net p ∷ xs) (excerpts_of net touched ps)
 
 -- the places of a target, of which the touched wait
-pub opened_filled : (net : Network) (touched : ℕ → Bool) → AreFilled net (all_waiting (filter touched (dests net.plans))) (map (slot_of net touched) net.plans)
+pub opened_filled : (net : Network) (touched : ℕ → Bool) → AreFilled net (all_waiting (filter touched (dests net.plans))) (map (routing_slot_of net touched) net.plans)
 opened_filled net touched = record {
   all = excerpts_of net touched net.plans;
   filled = places_filled net touched _ net.plans (touched_wait touched (dests net.plans));

@@ -2,9 +2,9 @@
 use Rattle.std.proofs.Common.{◌≡◌, ℕ, Bool, true, false, ◌||◌, List, [], ◌∷◌, ◌++◌, refl, sym, ap, ◌∙◌}
 use Rattle.net_data.specs.declared.events.Event.{Event}
 use Rattle.net_data.specs.Network.{Network}
-use Rattle.net_data.specs.Edits.{changed}
+use Rattle.net_data.specs.Edits.{changed, replay}
 use Rattle.dirty_sets.specs.Touch.{touches}
-use Rattle.desk_core.specs.Desk.{replay, touched_by}
+use Rattle.desk_core.specs.Desk.{touched_by}
 
 pub replay-push : (net : Network) (es : List Event) (e : Event) → replay net (es ++ e ∷ []) ≡ changed (replay net es) e
 replay-push net [] e = refl

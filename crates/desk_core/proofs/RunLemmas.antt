@@ -9,7 +9,7 @@ use Rattle.work_units.specs.Work.{Work}
 use Rattle.net_items.specs.declared.items.Plan.{Plan}
 use Rattle.net_items.specs.Lookups.{plan_at}
 use Rattle.profile.specs.Whole.{scratch}
-use Rattle.excerpts.specs.Excerpts.{excerpt_in, network_source, source_of, table_at}
+use Rattle.excerpts.specs.Excerpt.{excerpt_in, network_source, source_of, table_at}
 use Rattle.net_versions.specs.Versions.{VersionValue, table_told}
 use Rattle.path_trace.specs.Traces.{trace_at}
 use Rattle.desk_core.specs.declared.replies.Last.{Last}
@@ -22,9 +22,10 @@ use Rattle.desk_core.specs.declared.steps.Step.{Step}
 use Rattle.desk_core.specs.declared.steps.Step.TheVariants as step
 use Rattle.desk_core.specs.declared.steps.Reply.{Reply}
 use Rattle.desk_core.specs.declared.steps.Reply.TheVariants as reply
-use Rattle.desk_core.specs.Desk.{DeskValue, OpenTarget, accepted, replay, next_version}
+use Rattle.net_data.specs.Edits.{replay}
+use Rattle.desk_core.specs.Desk.{DeskValue, OpenTarget, accepted, next_version}
 use Rattle.desk_core.specs.Steps.{IsReply, IsPost, IsJobOf, IsGiven, IsGiveReply, IsAbandonReply, IsNext, Posts, Opens, Takes, Gives, Abandons, Publishes, is_last, last_of, post_refusal, open_refusal, out_refusal, publish_refusal, repeated, first_of, with_post, with_target, with_tasks, with_version}
-use Rattle.desk_core.specs.Runs.{Steps, Runs, event_taken, accepted_by, accepted_in, events_up_to, network_at, Numbers, numbers_by, numbers_after, first_numbers, batch_of, IsRightVersion, IsRightThroughout, IsSteady}
+use Rattle.desk_core.specs.Runs.{Steps, Runs, event_taken, accepted_by, accepted_in, events_up_to, network_at, Numbers, numbers_by, numbers_after, first_numbers, batch_of, IsRightVersion, IsRightThroughout, IsSteadyDesk}
 use Rattle.desk_core.proofs.ReplayLemmas.{replay-append}
 
 -- a desk after steps from another: what it has published and what is pending are the accepted events
@@ -35,7 +36,7 @@ record Tracks (start : DeskValue) (more : List Event) (numbers : Numbers) (s : D
   within : s.published.number - start.published.number ≤ length (start.pending ++ more)
   pending : s.pending ≡ drop (s.published.number - start.published.number) (start.pending ++ more)
   network : s.published.network ≡ replay start.published.network (take (s.published.number - start.published.number) (start.pending ++ more))
-  steady : IsSteady s
+  steady : IsSteadyDesk s
 
 drop-add : {X : Type 0} (a b : ℕ) (xs : List X) → drop b (drop a xs) ≡ drop (a + b) xs
 drop-add zero b xs = let e : 0 + b ≡ b = omega arith in sym (rw e refl)
@@ -84,7 +85,7 @@ module _ (start : DeskValue) (more : List Event) (numbers : Numbers) (old : Desk
   batch_after es = t.batch ∙ batch_grown start more es numbers (let w = t.within in let n = t.number in omega arith)
 
   -- nothing is accepted, and what is published and pending stays
-  stays : (new : DeskValue) → new.published ≡ old.published → new.pending ≡ old.pending → IsSteady new → Tracks start (more ++ []) numbers new
+  stays : (new : DeskValue) → new.published ≡ old.published → new.pending ≡ old.pending → IsSteadyDesk new → Tracks start (more ++ []) numbers new
   stays new published pending steady =
       let number : new.published.number ≡ old.published.number = ap (λ (v : VersionValue). v.number) published in
       let back : more ++ [] ≡ more = append-nil more in
@@ -257,7 +258,7 @@ track_run start (s ∷ ss) (r ∷ rs) more numbers old new t run =
     subst (λ es. Tracks start es (numbers_after (numbers_by numbers r) rs) new) (append_assoc more (accepted_by s r) (accepted_in ss rs))
     (track_run start ss rs (more ++ accepted_by s r) (numbers_by numbers r) run.0 new (track_step start more numbers old t s r run.0 run.1) run.2)
 
-begins : (start : DeskValue) → IsSteady start → Tracks start [] (first_numbers start) start
+begins : (start : DeskValue) → IsSteadyDesk start → Tracks start [] (first_numbers start) start
 begins start steady =
     let none : start.published.number - start.published.number ≡ 0 = omega arith in
     record {
@@ -290,7 +291,7 @@ right_version start more numbers s t =
         go (Some plan) = refl
 
 -- at every point of a run the published version is the one of its number
-pub right_throughout : (start : DeskValue) → IsSteady start → (steps : List Step) (replies : List Reply) → IsRightThroughout start steps replies
+pub right_throughout : (start : DeskValue) → IsSteadyDesk start → (steps : List Step) (replies : List Reply) → IsRightThroughout start steps replies
 right_throughout start steady steps replies = λ k mid run.
     right_version start (accepted_in (take k steps) (take k replies)) (numbers_after (first_numbers start) (take k replies)) mid
     (track_run start (take k steps) (take k replies) [] (first_numbers start) start mid (begins start steady) run)

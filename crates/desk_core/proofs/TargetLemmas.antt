@@ -9,7 +9,7 @@ use Rattle.net_items.specs.Keyed.{IsRising, IsFoundAt, IsGapAt, at_key, edit}
 use Rattle.net_items.specs.Lookups.{plan_at}
 use Rattle.net_data.specs.Network.{Network}
 use Rattle.profile.proofs.CertificateLemmas.{find-map}
-use Rattle.excerpts.specs.Excerpts.{Content, ExcerptValue, content_at, content_in, content_of, excerpt_at, excerpt_in}
+use Rattle.excerpts.specs.Excerpt.{Content, ExcerptValue, content_at, content_in, content_of, excerpt_at, excerpt_in}
 use Rattle.excerpts.specs.declared.faults.ExcerptFault.{ExcerptFault}
 use Rattle.excerpts.specs.declared.faults.ExcerptFault.TheVariants.{NoPlan, OutOfMemory}
 use Rattle.transfer_state.specs.Routing.{RoutingSlotValue}

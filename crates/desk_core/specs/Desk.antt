@@ -1,9 +1,9 @@
 -- The state of a desk, and what it stands for (own).
-use Rattle.std.specs.Prelude.{◌≡◌, ℕ, ◌+◌, ◌-◌, ◌||◌, Bool, false, List, [], ◌∷◌, ◌++◌, Option, Some, None, map, filter, take, length, replicate}
+use Rattle.std.specs.Prelude.{ℕ, ◌+◌, ◌-◌, ◌||◌, Bool, false, List, [], ◌∷◌, Option, None, map, filter, take, length, replicate}
 use Rattle.net_items.specs.declared.items.Plan.{Plan}
 use Rattle.net_data.specs.declared.events.Event.{Event}
 use Rattle.net_data.specs.Network.{Network}
-use Rattle.net_data.specs.Edits.{changed}
+use Rattle.net_data.specs.Edits.{changed, replay}
 use Rattle.dirty_sets.specs.Touch.{touches}
 use Rattle.dirty_sets.specs.Waiting.{Task}
 use Rattle.net_versions.specs.Versions.{VersionValue}
@@ -21,11 +21,6 @@ pub record DeskValue : Type 0 where
   pub lasts : List Last
   pub target : Option OpenTarget
   pub spare : ℕ
-
--- a network after events, one after the other
-abbrev pub replay : Network → List Event → Network
-replay net [] = net
-replay net (e ∷ es) = replay (changed net e) es
 
 -- the number of accepted events
 abbrev pub accepted : DeskValue → ℕ
@@ -61,9 +56,11 @@ abbrev pub no_post : Last
 no_post = record { seq = 0; number = 0; event = None }
 
 -- a desk over a network: version 0, with nothing accepted
-pub record IsStart (net : Network) (s : DeskValue) : Type 0 where
-  pub published : s.published ≡ record { number = 0; batch = []; network = net }
-  pub pending : s.pending ≡ []
-  pub lasts : s.lasts ≡ replicate 256 no_post
-  pub target : s.target ≡ None
-  pub spare : s.spare ≡ 0
+abbrev pub new_desk : Network → DeskValue
+new_desk net = record {
+  published = record { number = 0; batch = []; network = net };
+  pending = [];
+  lasts = replicate 256 no_post;
+  target = None;
+  spare = 0;
+}

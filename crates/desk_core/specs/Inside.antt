@@ -4,8 +4,8 @@ use Rattle.std.specs.Option.{option_map_or}
 use Rattle.net_data.specs.declared.events.Event.{Event}
 use Rattle.net_data.specs.declared.events.Event.TheVariants as on
 use Rattle.net_data.specs.Network.{Network}
-use Rattle.excerpts.specs.Excerpts.{content_at}
-use Rattle.dirty_sets.specs.Touch.{IsIndex}
+use Rattle.excerpts.specs.Excerpt.{content_at}
+use Rattle.dirty_sets.specs.Touch.{IsTouchIndex}
 use Rattle.dirty_sets.specs.Marks.{Marked}
 use Rattle.desk_core.specs.Desk.{DeskValue, accepted, net_at, net_now, touched_by}
 use Rattle.desk_core.specs.Targets.{TargetValue}
@@ -13,17 +13,7 @@ use Rattle.desk_core.specs.Targets.{TargetValue}
 -- a change of a link's marks
 abbrev pub is_link : Event → Bool
 is_link (on.Link id slc change) = true
-is_link (on.AddPoint c kind) = false
-is_link (on.RemovePoint c) = false
-is_link (on.Pair p q) = false
-is_link (on.Unpair p) = false
-is_link (on.AddSet id a b slcs) = false
-is_link (on.RemoveSet id) = false
-is_link (on.AddLink id slc) = false
-is_link (on.RemoveLink id slc) = false
-is_link (on.SetPlan plan) = false
-is_link (on.DropPlan dest) = false
-is_link (on.SetTfr tfr) = false
+is_link _ = false
 
 -- the same index and marks, with other room
 pub record IsSameMarked (old new : Marked) : Type 0 where
@@ -50,9 +40,9 @@ pub record IsAhead (s : DeskValue) (t : TargetValue) : Type 0 where
   pub network : t.network ≡ net_at s t.number
 
 -- an open target, if there is one, is ahead
-abbrev pub IsOpened : DeskValue → Option TargetValue → Type 0
-IsOpened s None = Unit {0}
-IsOpened s (Some t) = IsAhead s t
+abbrev pub IsOpenAhead : DeskValue → Option TargetValue → Type 0
+IsOpenAhead s None = Unit {0}
+IsOpenAhead s (Some t) = IsAhead s t
 
 -- the network now, what events touched since the network that is fixed, and the limits
 pub record IsInside (s : DeskValue) (latest : Network) (marked : Marked) (opened : Option TargetValue) : Type 0 where
@@ -60,7 +50,7 @@ pub record IsInside (s : DeskValue) (latest : Network) (marked : Marked) (opened
   pub few : length s.pending ≤ 65536
   pub counted : accepted s ≤ 2 ^ 64 - 1
   pub collectors : length s.lasts ≡ 256
-  pub ahead : IsOpened s opened
-  pub index : IsIndex latest marked.index
+  pub ahead : IsOpenAhead s opened
+  pub index : IsTouchIndex latest marked.index
   pub since : (x : ℕ) → x < 16384 → marked.touched x ≡ touched_by (fixed s opened) (since s opened) x
   pub kept : (x : ℕ) → x < 16384 → marked.touched x ≡ false → content_at latest x ≡ content_at (fixed s opened) x

@@ -3,7 +3,7 @@ use Rattle.std.specs.Prelude.{◌≡◌, ℕ, ◌-◌, ◌≤◌, List, [], ◌�
 use Rattle.std.specs.Option.{MatchOption, option_map_or}
 use Rattle.net_data.specs.declared.events.Event.{Event}
 use Rattle.net_data.specs.Network.{Network}
-use Rattle.excerpts.specs.Excerpts.{table_at}
+use Rattle.excerpts.specs.Excerpt.{table_at}
 use Rattle.work_units.specs.Work.{Work}
 use Rattle.net_versions.specs.Versions.{VersionValue, table_told}
 use Rattle.path_trace.specs.Traces.{trace_at}
@@ -15,7 +15,8 @@ use Rattle.desk_core.specs.declared.steps.Step.{Step}
 use Rattle.desk_core.specs.declared.steps.Step.TheVariants as step
 use Rattle.desk_core.specs.declared.steps.Reply.{Reply}
 use Rattle.desk_core.specs.declared.steps.Reply.TheVariants as reply
-use Rattle.desk_core.specs.Desk.{DeskValue, accepted, replay}
+use Rattle.net_data.specs.Edits.{replay}
+use Rattle.desk_core.specs.Desk.{DeskValue, accepted}
 use Rattle.desk_core.specs.Steps.{Posts, Opens, Takes, Gives, Abandons, Publishes}
 
 -- one step gives that reply, and leaves that desk
@@ -106,5 +107,5 @@ IsRightThroughout start steps replies =
     → IsRightVersion start (accepted_in (take k steps) (take k replies)) (numbers_after (first_numbers start) (take k replies)) mid.published
 
 -- an open target is not behind the published version, and not ahead of the accepted events
-abbrev pub IsSteady : DeskValue → Type 0
-IsSteady s = MatchOption s.target (Unit {0}) (λ t. (s.published.number ≤ t.number) × (t.number ≤ accepted s))
+abbrev pub IsSteadyDesk : DeskValue → Type 0
+IsSteadyDesk s = MatchOption s.target (Unit {0}) (λ t. (s.published.number ≤ t.number) × (t.number ≤ accepted s))

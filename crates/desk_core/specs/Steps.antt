@@ -4,7 +4,7 @@ use Rattle.std.specs.Option.{option_map, option_map_or, option_and_then, MatchOp
 use Rattle.net_data.specs.declared.events.Event.{Event}
 use Rattle.net_data.specs.Edits.{refusal_of}
 use Rattle.plan_rows.specs.Causes.{when, first}
-use Rattle.excerpts.specs.Excerpts.{content_at, content_of, excerpt_at}
+use Rattle.excerpts.specs.Excerpt.{content_at, content_of, excerpt_at}
 use Rattle.work_units.specs.Work.{Work}
 use Rattle.dirty_sets.specs.Waiting.{Task, all_waiting, first_waiting, taken, is_out, put_last, without_task}
 use Rattle.net_versions.specs.Versions.{VersionValue}
@@ -146,12 +146,12 @@ Abandons s version dest result new = IsAbandonReply (out_refusal s version dest)
 -- ---- publish
 
 -- how many destinations wait or are out
-abbrev pub left_of : DeskValue → ℕ
-left_of s = option_map_or (λ (t : OpenTarget). length t.tasks) s.target 0
+abbrev pub tasks_left : DeskValue → ℕ
+tasks_left s = option_map_or (λ (t : OpenTarget). length t.tasks) s.target 0
 
 -- the refusals of a publication, in their order
 abbrev pub publish_refusal : DeskValue → Option Refusal
-publish_refusal s = first (when (not (is_some s.target)) NotOpen ∷ when (not (left_of s == 0)) (NotReady (left_of s)) ∷ [])
+publish_refusal s = first (when (not (is_some s.target)) NotOpen ∷ when (not (tasks_left s == 0)) (NotReady (tasks_left s)) ∷ [])
 
 -- a version is the one that the target becomes
 abbrev pub IsNext : DeskValue → VersionValue → Type 0

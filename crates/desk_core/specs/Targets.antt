@@ -3,7 +3,7 @@ use Rattle.std.specs.Prelude.{◌≡◌, ℕ, ◌==◌, ◌||◌, Bool, true, no
 use Rattle.std.specs.List.{AllByRecursion, list_any}
 use Rattle.net_items.specs.declared.items.Plan.{Plan}
 use Rattle.net_data.specs.Network.{Network}
-use Rattle.excerpts.specs.Excerpts.{excerpt_at, excerpt_in}
+use Rattle.excerpts.specs.Excerpt.{excerpt_at, excerpt_in}
 use Rattle.transfer_state.specs.Routing.{RoutingSlotValue}
 use Rattle.dirty_sets.specs.Touch.{is_planned}
 use Rattle.dirty_sets.specs.Waiting.{Task}
@@ -34,5 +34,5 @@ abbrev pub IsSlotFor : Network → ℕ → Bool → RoutingSlotValue → Type 0
 IsSlotFor net dest settled slot = (excerpt_at net dest ≡ Some slot.excerpt) × (slot.settled ≡ settled)
 
 -- the place of a plan: its routing is there where the destination wasn't touched
-abbrev pub slot_of : Network → (ℕ → Bool) → Plan → RoutingSlotValue
-slot_of net touched plan = record { excerpt = excerpt_in net plan; settled = not (touched plan.dest) }
+abbrev pub routing_slot_of : Network → (ℕ → Bool) → Plan → RoutingSlotValue
+routing_slot_of net touched plan = record { excerpt = excerpt_in net plan; settled = not (touched plan.dest) }

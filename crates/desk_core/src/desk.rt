@@ -1,14 +1,13 @@
 //! The desk.
 
 ghost use Rattle.std.specs.Prelude.{◌≡◌, ◌≢◌, ◌↔◌, IsTrue, ◌<◌, ◌≤◌, ◌+◌, ◌-◌, ◌^◌, [], true, None, Some, Err, OnOk, OnErr, IfOk, IfErr, IsOk, length, replicate, slice_set, take};
-ghost use Rattle.std.specs.Option.{option_map_or, option_and_then};
 ghost use Rattle.std.specs.Arc.{arc_value};
 ghost use Rattle.net_data.specs.Edits.{refusal_of};
-ghost use Rattle.dirty_sets.specs.Waiting.{least, out, waiting};
-ghost use Rattle.desk_core.specs.Desk.{IsStart, accepted, net_now, no_post};
-ghost use Rattle.desk_core.specs.Steps.{Abandons, Gives, IsNext, IsUnready, Opens, Posts, Publishes, Repeats, Takes, last_of, left_of, out_refusal, post_refusal, publish_refusal, target_number, with_post, with_version};
+ghost use Rattle.desk_core.specs.Desk.{accepted, net_now, new_desk, no_post};
+ghost use Rattle.desk_core.specs.Steps.{Abandons, Gives, IsNext, IsUnready, Opens, Posts, Publishes, Repeats, Takes, tasks_left, out_refusal, post_refusal, publish_refusal, with_post, with_version};
 ghost use Rattle.desk_core.specs.Inside.{is_link};
-ghost use Rattle.desk_core.specs.Runs.{IsSteady};
+
+mod reading;
 
 use crate::following::{copy_of, drop_front, follow_with_copy};
 use crate::opening::new_target;
@@ -44,7 +43,7 @@ impl Model for Desk {
     ghost use Rattle.std.specs.Option.{option_map};
     ghost use Rattle.std.specs.Vec.{vec_len, vec_capacity};
     ghost use Rattle.desk_core.specs.Desk.{DeskValue};
-    ghost use Rattle.dirty_sets.specs.Touched.{marked_of};
+    ghost use Rattle.dirty_sets.specs.Touched.{marks_of};
     ghost use Rattle.desk_core.specs.Inside.{IsInside};
 
     ghost Value = { DeskValue };
@@ -52,7 +51,7 @@ impl Model for Desk {
     ghost view = { λ d. record { published = arc_value d.published; pending = d.pending.items; lasts = d.lasts.items; target = option_map (λ t. record { number = t.number; tasks = t.tasks }) d.target; spare = d.spare } };
 
     ghost invariant = { λ d. record {
-      inside : IsInside (record { published = arc_value d.published; pending = d.pending.items; lasts = d.lasts.items; target = option_map (λ t. record { number = t.number; tasks = t.tasks }) d.target; spare = d.spare }) d.latest (marked_of d.touched) d.target;
+      inside : IsInside (record { published = arc_value d.published; pending = d.pending.items; lasts = d.lasts.items; target = option_map (λ t. record { number = t.number; tasks = t.tasks }) d.target; spare = d.spare }) d.latest (marks_of d.touched) d.target;
       room : vec_len d.pending + d.spare ≤ vec_capacity d.pending;
     } };
 }
@@ -131,7 +130,7 @@ fn opening_version(alloc: Global, net: Net) -> Result<Arc<Version>, AllocError>
 impl Desk {
     /// A desk over a network: version 0, and nothing accepted.
     pub fn start(alloc: Global, net: Net) -> Result<Desk, AllocError>
-        ensures { IfOk result (IsStart net) }
+        ensures { IfOk result (λ desk. desk ≡ new_desk net) }
     {
         let latest = net.copy(alloc)?;
         let published = opening_version(alloc, net)?;
@@ -141,7 +140,7 @@ impl Desk {
     /// A desk over version 0 of a network, with nothing accepted.
     fn fresh(alloc: Global, published: Arc<Version>, latest: Net) -> Result<Desk, AllocError>
         requires { arc_value published ≡ record { number = 0; batch = []; network = latest } }
-        ensures { IfOk result (IsStart latest) }
+        ensures { IfOk result (λ desk. desk ≡ new_desk latest) }
     {
         let touched = Touched::new(alloc, &latest)?;
         let lasts = no_posts(alloc)?;
@@ -154,86 +153,6 @@ impl Desk {
             touched,
             target: None,
         })
-    }
-
-    /// The fact that the type keeps of an open target. It does nothing when it runs.
-    pub fn steady(&self)
-        ensures { IsSteady self.now }
-    {
-        // The proof reads the type's invariant from this.
-        let _spare = self.spare;
-    }
-
-    /// How many events are accepted.
-    pub fn accepted(&self) -> u64
-        ensures { result ≡ accepted self.now }
-    {
-        self.published.number() + self.pending.len() as u64
-    }
-
-    /// The published version.
-    pub fn published(&self) -> &Arc<Version>
-        ensures { arc_value result.now ≡ self.now.published }
-    {
-        &self.published
-    }
-
-    /// The number of the open target.
-    pub fn target(&self) -> Option<u64>
-        ensures { result ≡ target_number self.now }
-    {
-        match &self.target {
-            Some(target) => Some(target.number()),
-            None => None,
-        }
-    }
-
-    /// How many destinations wait.
-    pub fn waiting(&self) -> usize
-        ensures { result ≡ option_map_or (λ t. length (waiting t.tasks)) self.now.target 0 }
-    {
-        match &self.target {
-            Some(target) => target.waiting(),
-            None => 0,
-        }
-    }
-
-    /// The least destination that is out.
-    pub fn first_out(&self) -> Option<PointCode>
-        ensures { result ≡ option_and_then (λ t. least (out t.tasks)) self.now.target }
-    {
-        match &self.target {
-            Some(target) => target.first_out(),
-            None => None,
-        }
-    }
-
-    /// The sequence number of a collector's last accepted post, 0 if it has none.
-    pub fn last_seq(&self, collector: u8) -> u64
-        ensures { result ≡ (last_of self.now collector).seq }
-    {
-        self.lasts[usize::from(collector)].seq
-    }
-
-    /// The network after all accepted events.
-    pub fn net_now(&self) -> &Net
-        ensures { result.now ≡ net_now self.now }
-    {
-        &self.latest
-    }
-
-    /// The network after all accepted events, given away.
-    pub fn into_net(self) -> Net
-        ensures { result ≡ net_now self }
-    {
-        self.latest
-    }
-
-    /// How many more posts of changes of links take no memory.
-    pub fn spare(&self) -> u32
-        ensures { result ≡ self.now.spare }
-    {
-        self.spare
     }
 
     /// Makes room for that many posts of changes of links.
@@ -448,7 +367,7 @@ impl Desk {
     /// A version becomes the published one. It takes no memory.
     pub fn seal(&mut self, version: Arc<Version>)
         requires next { IsNext self.old (arc_value version) }
-        requires none { left_of self.old ≡ 0 }
+        requires none { tasks_left self.old ≡ 0 }
         ensures { self.new ≡ with_version self.old (arc_value version) }
     {
         let count = (version.number() - self.published.number()) as usize;

@@ -3,9 +3,9 @@
 ghost use Rattle.std.specs.Prelude.{◌≡◌, ◌<◌, ◌≤◌, ◌+◌, true, None, IfOk, IsOk, OnOk, OnErr, length, drop};
 ghost use Rattle.std.specs.Vec.{vec_len, vec_capacity};
 ghost use Rattle.net_data.specs.Edits.{changed, refusal_of};
-ghost use Rattle.dirty_sets.specs.Touch.{IsIndex};
+ghost use Rattle.dirty_sets.specs.Touch.{IsTouchIndex};
 ghost use Rattle.dirty_sets.specs.Marks.{IsNoted};
-ghost use Rattle.dirty_sets.specs.Touched.{marked_of};
+ghost use Rattle.dirty_sets.specs.Touched.{marks_of};
 ghost use Rattle.desk_core.specs.Inside.{is_link, IsSameMarked};
 
 use dirty_sets::Touched;
@@ -33,11 +33,11 @@ fn follow_link(
     slc: u8,
     change: LinkChange,
 )
-    requires index { IsIndex latest.old (marked_of touched.old).index }
+    requires index { IsTouchIndex latest.old (marks_of touched.old).index }
     requires accepted { refusal_of latest.old event.now ≡ None }
     requires link { event.now ≡ Event.Link id slc change }
     ensures latest { latest.new ≡ changed latest.old event.now }
-    ensures noted { IsNoted latest.old event.now (marked_of touched.old) (marked_of touched.new) }
+    ensures noted { IsNoted latest.old event.now (marks_of touched.old) (marks_of touched.new) }
 {
     touched.note(latest, event);
     latest.change_link(id, slc, change);
@@ -50,12 +50,12 @@ fn follow_edit(
     touched: &mut Touched,
     event: &Event,
 ) -> Result<(), AllocError>
-    requires index { IsIndex latest.old (marked_of touched.old).index }
+    requires index { IsTouchIndex latest.old (marks_of touched.old).index }
     requires accepted { refusal_of latest.old event.now ≡ None }
     ensures latest { OnOk result (latest.new ≡ changed latest.old event.now) }
-    ensures noted { OnOk result (IsNoted latest.old event.now (marked_of touched.old) (marked_of touched.new)) }
+    ensures noted { OnOk result (IsNoted latest.old event.now (marks_of touched.old) (marks_of touched.new)) }
     ensures kept { OnErr result (latest.new ≡ latest.old) }
-    ensures same { OnErr result (IsSameMarked (marked_of touched.old) (marked_of touched.new)) }
+    ensures same { OnErr result (IsSameMarked (marks_of touched.old) (marks_of touched.new)) }
 {
     touched.make_room()?;
     let mut after = latest.copy(alloc)?;
@@ -74,12 +74,12 @@ fn follow(
     touched: &mut Touched,
     event: &Event,
 ) -> Result<(), AllocError>
-    requires index { IsIndex latest.old (marked_of touched.old).index }
+    requires index { IsTouchIndex latest.old (marks_of touched.old).index }
     requires accepted { refusal_of latest.old event.now ≡ None }
     ensures latest { OnOk result (latest.new ≡ changed latest.old event.now) }
-    ensures noted { OnOk result (IsNoted latest.old event.now (marked_of touched.old) (marked_of touched.new)) }
+    ensures noted { OnOk result (IsNoted latest.old event.now (marks_of touched.old) (marks_of touched.new)) }
     ensures kept { OnErr result (latest.new ≡ latest.old) }
-    ensures same { OnErr result (IsSameMarked (marked_of touched.old) (marked_of touched.new)) }
+    ensures same { OnErr result (IsSameMarked (marks_of touched.old) (marks_of touched.new)) }
     ensures no_memory { is_link event.now ≡ true → IsOk result }
 {
     match event {
@@ -134,16 +134,16 @@ pub(crate) fn follow_with_copy(
     event: &Event,
 ) -> Result<Event, AllocError>
     requires room { vec_len pending.old + spare ≤ vec_capacity pending.old }
-    requires index { IsIndex latest.old (marked_of touched.old).index }
+    requires index { IsTouchIndex latest.old (marks_of touched.old).index }
     requires accepted { refusal_of latest.old event.now ≡ None }
     ensures copy { IfOk result (λ e. e ≡ event.now) }
     ensures items { pending.new.items ≡ pending.old.items }
     ensures room { OnOk result (vec_len pending.new < vec_capacity pending.new) }
     ensures room_kept { vec_len pending.new + spare ≤ vec_capacity pending.new }
     ensures latest { OnOk result (latest.new ≡ changed latest.old event.now) }
-    ensures noted { OnOk result (IsNoted latest.old event.now (marked_of touched.old) (marked_of touched.new)) }
+    ensures noted { OnOk result (IsNoted latest.old event.now (marks_of touched.old) (marks_of touched.new)) }
     ensures kept { OnErr result (latest.new ≡ latest.old) }
-    ensures same { OnErr result (IsSameMarked (marked_of touched.old) (marked_of touched.new)) }
+    ensures same { OnErr result (IsSameMarked (marks_of touched.old) (marks_of touched.new)) }
     ensures no_memory { is_link event.now ≡ true → 0 < spare → IsOk result }
 {
     let copy = copy_with_room(alloc, pending, spare, event)?;

@@ -22,12 +22,12 @@ pub mod desk;
 mod following;
 mod opening;
 pub mod replies;
-pub mod running;
+pub mod runs;
 pub mod steps;
 mod targets;
 
 pub use desk::Desk;
 pub use net_versions::Version;
 pub use replies::{Opened, Posted, Refusal};
-pub use running::run;
+pub use runs::run;
 pub use steps::{Reply, Step};

@@ -2,10 +2,10 @@
 
 ghost use Rattle.std.specs.Prelude.{◌≡◌, ◌<◌, ℕ, true, false, not, IfOk, filter, length, map, slice_index_or};
 ghost use Rattle.net_items.specs.declared.items.Plan.{Plan};
-ghost use Rattle.excerpts.specs.Excerpts.{content_at};
+ghost use Rattle.excerpts.specs.Excerpt.{content_at};
 ghost use Rattle.dirty_sets.specs.Touch.{is_planned};
-ghost use Rattle.desk_core.specs.Targets.{IsSlotFor, slot_of};
-ghost use Rattle.dirty_sets.specs.Touched.{marked_of};
+ghost use Rattle.desk_core.specs.Targets.{IsSlotFor, routing_slot_of};
+ghost use Rattle.dirty_sets.specs.Touched.{marks_of};
 ghost use Rattle.dirty_sets.specs.Waiting.{all_waiting};
 
 use crate::targets::Target;
@@ -19,7 +19,7 @@ use transfer_state::RoutingSlot;
 
 /// The planned destinations that were touched, in rising code.
 fn touched_dests(alloc: Global, net: &Net, touched: &Touched) -> Result<Vec<PointCode>, AllocError>
-    ensures { IfOk result (λ dests. dests.items ≡ filter (marked_of touched.now).touched (map (λ p. p.dest) net.now.plans)) }
+    ensures { IfOk result (λ dests. dests.items ≡ filter (marks_of touched.now).touched (map (λ p. p.dest) net.now.plans)) }
 {
     let plans = net.plans();
     let mut dests = Vec::new(alloc);
@@ -41,8 +41,8 @@ fn slot_for(
     version: &Version,
 ) -> Result<RoutingSlot, AllocError>
     requires planned { is_planned net.now dest ≡ true }
-    requires kept { (x : ℕ) → x < 16384 → (marked_of touched.now).touched x ≡ false → content_at net.now x ≡ content_at version.now.network x }
-    ensures { IfOk result (λ p. IsSlotFor net.now dest (not ((marked_of touched.now).touched dest)) p) }
+    requires kept { (x : ℕ) → x < 16384 → (marks_of touched.now).touched x ≡ false → content_at net.now x ≡ content_at version.now.network x }
+    ensures { IfOk result (λ p. IsSlotFor net.now dest (not ((marks_of touched.now).touched dest)) p) }
 {
     // The proof reads the code's range from this.
     let _number = dest.number();
@@ -67,11 +67,12 @@ fn slot_at(
     version: &Version,
 ) -> Result<RoutingSlot, AllocError>
     requires position { position < length net.now.plans }
-    requires kept { (x : ℕ) → x < 16384 → (marked_of touched.now).touched x ≡ false → content_at net.now x ≡ content_at version.now.network x }
-    ensures { IfOk result (λ p. (d : Plan) → p ≡ slot_of net.now (marked_of touched.now).touched (slice_index_or net.now.plans position d)) }
+    requires kept { (x : ℕ) → x < 16384 → (marks_of touched.now).touched x ≡ false → content_at net.now x ≡ content_at version.now.network x }
+    ensures { IfOk result (λ p. (d : Plan) → p ≡ routing_slot_of net.now (marks_of touched.now).touched (slice_index_or net.now.plans position d)) }
 {
     net.validity();
     let dest = net.net().plans().at(position).dest;
+    // Taken apart, since the proof speaks of the slot.
     match slot_for(net, dest, touched, version) {
         Ok(slot) => Ok(slot),
         Err(refused) => Err(refused),
@@ -85,8 +86,8 @@ fn all_slots(
     touched: &Touched,
     version: &Version,
 ) -> Result<Vec<RoutingSlot>, AllocError>
-    requires { (x : ℕ) → x < 16384 → (marked_of touched.now).touched x ≡ false → content_at net.now x ≡ content_at version.now.network x }
-    ensures { IfOk result (λ v. v.items ≡ map (slot_of net.now (marked_of touched.now).touched) net.now.plans) }
+    requires { (x : ℕ) → x < 16384 → (marks_of touched.now).touched x ≡ false → content_at net.now x ≡ content_at version.now.network x }
+    ensures { IfOk result (λ v. v.items ≡ map (routing_slot_of net.now (marks_of touched.now).touched) net.now.plans) }
 {
     let plans = net.net().plans();
     let mut slots = Vec::with_capacity(alloc, plans.len())?;
@@ -106,7 +107,7 @@ fn frozen_copy(alloc: Global, net: &Net) -> Result<Frozen, AllocError>
 
 /// The touched destinations, all of which wait.
 fn waiting_dests(alloc: Global, net: &Net, touched: &Touched) -> Result<Waiting, AllocError>
-    ensures { IfOk result (λ w. w ≡ all_waiting (filter (marked_of touched.now).touched (map (λ p. p.dest) net.now.plans))) }
+    ensures { IfOk result (λ w. w ≡ all_waiting (filter (marks_of touched.now).touched (map (λ p. p.dest) net.now.plans))) }
 {
     net.validity();
     let dests = touched_dests(alloc, net, touched)?;
@@ -121,8 +122,8 @@ pub(crate) fn new_target(
     touched: &Touched,
     version: &Version,
 ) -> Result<Target, AllocError>
-    requires kept { (x : ℕ) → x < 16384 → (marked_of touched.now).touched x ≡ false → content_at latest.now x ≡ content_at version.now.network x }
-    ensures { IfOk result (λ t. t ≡ record { number = number; network = latest.now; tasks = all_waiting (filter (marked_of touched.now).touched (map (λ p. p.dest) latest.now.plans)) }) }
+    requires kept { (x : ℕ) → x < 16384 → (marks_of touched.now).touched x ≡ false → content_at latest.now x ≡ content_at version.now.network x }
+    ensures { IfOk result (λ t. t ≡ record { number = number; network = latest.now; tasks = all_waiting (filter (marks_of touched.now).touched (map (λ p. p.dest) latest.now.plans)) }) }
 {
     let net = frozen_copy(alloc, latest)?;
     let waiting = waiting_dests(alloc, latest, touched)?;

@@ -4,7 +4,7 @@ ghost use Rattle.std.specs.Prelude.{◌≡◌, ◌↔◌, IsTrue, true, [], None
 ghost use Rattle.std.specs.List.{AllByRecursion};
 ghost use Rattle.std.specs.Option.{MatchOption};
 ghost use Rattle.net_items.specs.Keyed.{IsRising, IsFoundAt, IsGapAt};
-ghost use Rattle.excerpts.specs.Excerpts.{content_at, content_of, excerpt_at};
+ghost use Rattle.excerpts.specs.Excerpt.{content_at, content_of, excerpt_at};
 ghost use Rattle.transfer_state.specs.Routing.{RoutingSlotValue};
 ghost use Rattle.dirty_sets.specs.Waiting.{first_waiting, taken, is_out as out_among, least, out, put_last, waiting, without_task};
 ghost use Rattle.net_versions.specs.Versions.{excerpts};

@@ -33,11 +33,17 @@ fn about(
     rt: &impl Abort,
     alloc: Global,
     asked: Question,
-    y: &str,
-    x: &str,
+    point_code: &str,
+    dest_code: &str,
 ) -> Result<String, AllocError> {
     let version = version_after(rt, alloc, &[]);
-    answer_about(alloc, asked, &version, point(rt, y), point(rt, x))
+    answer_about(
+        alloc,
+        asked,
+        &version,
+        point(rt, point_code),
+        point(rt, dest_code),
+    )
 }
 
 #[test]
@@ -70,11 +76,17 @@ fn trace_after(
     rt: &impl Abort,
     alloc: Global,
     edits: &[Event],
-    y: &str,
-    x: &str,
+    point_code: &str,
+    dest_code: &str,
 ) -> Result<String, AllocError> {
     let version = version_after(rt, alloc, edits);
-    answer_trace(alloc, &version, point(rt, y), point(rt, x), 5)
+    answer_trace(
+        alloc,
+        &version,
+        point(rt, point_code),
+        point(rt, dest_code),
+        5,
+    )
 }
 
 #[test]

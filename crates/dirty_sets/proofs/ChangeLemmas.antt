@@ -25,7 +25,7 @@ use Rattle.net_data.specs.Edits.{refusal_of, changed, in_order, put_rows, set_ma
 use Rattle.net_data.proofs.OrderLemmas.{any_put}
 use Rattle.net_data.proofs.PairLemmas.{is_stp-set_mate}
 use Rattle.net_data.proofs.PreservationLemmas.{when_none, or_none, map_none, not_some}
-use Rattle.excerpts.specs.Excerpts.{is_read_by}
+use Rattle.excerpts.specs.Excerpt.{is_read_by}
 use Rattle.dirty_sets.specs.Touch.{reads_set}
 use Rattle.dirty_sets.specs.Index.{would_read, bare_set}
 

@@ -16,10 +16,10 @@ use Rattle.net_data.specs.Network.{Network}
 use Rattle.net_data.specs.Valid.{IsValid, IsRightSet}
 use Rattle.net_data.specs.Edits.{refusal_of, changed, in_order, takes_none, set_mate}
 use Rattle.net_data.proofs.PreservationLemmas.{when_none, or_none, not_some}
-use Rattle.excerpts.specs.Excerpts.{is_read_by}
+use Rattle.excerpts.specs.Excerpt.{is_read_by}
 use Rattle.dirty_sets.specs.declared.readers.Reader.{Reader}
 use Rattle.dirty_sets.specs.Bits.{is_marked, meets}
-use Rattle.dirty_sets.specs.Touch.{Reads, IsIndex, is_planned, reads_set, sets_plan, touches}
+use Rattle.dirty_sets.specs.Touch.{Reads, IsTouchIndex, is_planned, reads_set, sets_plan, touches}
 use Rattle.dirty_sets.specs.Index.{IsWithId, IsReaderOf, bare_set, reads_among, reads_any, reads_of, would_read}
 use Rattle.dirty_sets.specs.Kept.{is_on_set, keeps_reads}
 use Rattle.dirty_sets.proofs.ChangeLemmas.{option_same, key_of, read_in_order, reads_none, reads-Link, reads-AddLink, reads-RemoveLink, reads-AddSet, reads-RemoveSet, reads-AddPoint, reads-RemovePoint, reads-Pair, reads-Unpair, reads-SetPlan, reads-DropPlan}
@@ -44,15 +44,15 @@ takes-plan (on.DropPlan dest) e = absurd (cc)
 takes-plan (on.SetTfr tfr) e = absurd (cc)
 
 -- the readers of all plans
-pub index_of : (net : Network) (readers : List Reader) (room : ℕ) → AllZip (IsReaderOf net.points net.sets) net.plans readers → IsIndex net (reads_of (record { readers = readers; room = room }))
+pub index_of : (net : Network) (readers : List Reader) (room : ℕ) → AllZip (IsReaderOf net.points net.sets) net.plans readers → IsTouchIndex net (reads_of (record { readers = readers; room = room }))
 index_of net readers room all = record {
   planned = readers-planned net.points net.sets net.plans readers all;
   reads = λ x id small. readers-reads net.points net.sets net.plans readers x id all;
 }
 
 -- an index tells the same of a network that reads the same
-module _ (net : Network) (index : Reads) (old : IsIndex net index) where
-  same_index : (other : Network) → other.plans ≡ net.plans → ((x id : ℕ) → reads_set other x id ≡ reads_set net x id) → IsIndex other index
+module _ (net : Network) (index : Reads) (old : IsTouchIndex net index) where
+  same_index : (other : Network) → other.plans ≡ net.plans → ((x id : ℕ) → reads_set other x id ≡ reads_set net x id) → IsTouchIndex other index
   same_index other plans same = record {
     planned = old.planned ∙ ap (map (λ (p : Plan). p.dest)) (sym plans);
     reads = λ x id small. old.reads x id small ∙ sym (same x id);
@@ -62,7 +62,7 @@ module _ (net : Network) (index : Reads) (old : IsIndex net index) where
   unpaired p None = refl
   unpaired p (Some m) = refl
 
-  pub kept : IsValid net → (event : Event) → refusal_of net event ≡ None → keeps_reads event ≡ true → IsIndex (changed net event) index
+  pub kept : IsValid net → (event : Event) → refusal_of net event ≡ None → keeps_reads event ≡ true → IsTouchIndex (changed net event) index
   kept v (on.Link id slc change) none e = same_index (changed net (on.Link id slc change)) refl (reads-Link net id slc change)
   kept v (on.AddPoint c kind) none e = same_index (changed net (on.AddPoint c kind)) refl (reads-AddPoint net v c kind none)
   kept v (on.RemovePoint c) none e = same_index (changed net (on.RemovePoint c)) refl (reads-RemovePoint net v c none)
@@ -78,12 +78,12 @@ module _ (net : Network) (index : Reads) (old : IsIndex net index) where
 
 -- ---- the index changes with the network
 
-module _ (net : Network) (readers : List Reader) (room : ℕ) (old : IsIndex net (reads_of (record { readers = readers; room = room }))) where
+module _ (net : Network) (readers : List Reader) (room : ℕ) (old : IsTouchIndex net (reads_of (record { readers = readers; room = room }))) where
   -- a planned destination has a reader
   pub some_reader : (x : ℕ) → is_some (at_key (λ (r : Reader). r.dest) x readers) ≡ is_planned net x
   some_reader x = same_keys (λ (r : Reader). r.dest) (λ (p : Plan). p.dest) x readers net.plans old.planned
 
-  pub index-AddSet : (id a b : ℕ) (news : List Reader) (left : ℕ) → AllZip (IsWithId id (would_read net (bare_set id a b))) readers news → (slcs : List ℕ) → IsIndex (changed net (on.AddSet id a b slcs)) (reads_of (record { readers = news; room = left }))
+  pub index-AddSet : (id a b : ℕ) (news : List Reader) (left : ℕ) → AllZip (IsWithId id (would_read net (bare_set id a b))) readers news → (slcs : List ℕ) → IsTouchIndex (changed net (on.AddSet id a b slcs)) (reads_of (record { readers = news; room = left }))
   index-AddSet id a b news left all slcs = record {
     planned = with_id-planned id (would_read net (bare_set id a b)) readers news all ∙ old.planned;
     reads = λ x n small.
@@ -98,7 +98,7 @@ module _ (net : Network) (readers : List Reader) (room : ℕ) (old : IsIndex net
   none_at c true u = refl
   none_at c false u = refl
 
-  pub index-RemoveSet : IsValid net → (id : ℕ) (news : List Reader) (left : ℕ) → AllZip (IsWithId id (λ (x : ℕ). false)) readers news → IsIndex (changed net (on.RemoveSet id)) (reads_of (record { readers = news; room = left }))
+  pub index-RemoveSet : IsValid net → (id : ℕ) (news : List Reader) (left : ℕ) → AllZip (IsWithId id (λ (x : ℕ). false)) readers news → IsTouchIndex (changed net (on.RemoveSet id)) (reads_of (record { readers = news; room = left }))
   index-RemoveSet v id news left all = record {
     planned = with_id-planned id (λ (x : ℕ). false) readers news all ∙ old.planned;
     reads = λ x n small.
@@ -110,7 +110,7 @@ module _ (net : Network) (readers : List Reader) (room : ℕ) (old : IsIndex net
   }
 
   pub index-SetPlan : IsValid net → (p : Plan) → refusal_of net (on.SetPlan p) ≡ None → (ids : List Bool) → ((n : ℕ) → is_marked ids n ≡ option_map_or (is_read_by net.points p) (set_at net.sets n) false)
-      → (news : List Reader) (left : ℕ) → news ≡ put (λ (r : Reader). r.dest) (record { dest = p.dest; ids = ids }) readers → IsIndex (changed net (on.SetPlan p)) (reads_of (record { readers = news; room = left }))
+      → (news : List Reader) (left : ℕ) → news ≡ put (λ (r : Reader). r.dest) (record { dest = p.dest; ids = ids }) readers → IsTouchIndex (changed net (on.SetPlan p)) (reads_of (record { readers = news; room = left }))
   index-SetPlan v p none ids right news left is = record {
     planned = ap (map (λ (r : Reader). r.dest)) is ∙ put_keys (λ (r : Reader). r.dest) (λ (q : Plan). q.dest) one (record p { rows = in_order p.rows }) readers net.plans old.planned refl;
     reads = λ x n small.
@@ -132,7 +132,7 @@ module _ (net : Network) (readers : List Reader) (room : ℕ) (old : IsIndex net
       go true x n same = sorted n
       go false x n same = same
 
-  pub index-DropPlan : IsValid net → (dest : ℕ) → IsRising (λ (r : Reader). r.dest) readers → (news : List Reader) (left : ℕ) → news ≡ without (λ (r : Reader). r.dest) dest readers → IsIndex (changed net (on.DropPlan dest)) (reads_of (record { readers = news; room = left }))
+  pub index-DropPlan : IsValid net → (dest : ℕ) → IsRising (λ (r : Reader). r.dest) readers → (news : List Reader) (left : ℕ) → news ≡ without (λ (r : Reader). r.dest) dest readers → IsTouchIndex (changed net (on.DropPlan dest)) (reads_of (record { readers = news; room = left }))
   index-DropPlan v dest up news left is = record {
     planned = ap (map (λ (r : Reader). r.dest)) is ∙ without_keys (λ (r : Reader). r.dest) (λ (q : Plan). q.dest) dest readers net.plans old.planned;
     reads = λ x n small.

@@ -12,7 +12,7 @@ use Rattle.net_items.specs.declared.items.LinkSet.{LinkSet}
 use Rattle.net_items.specs.declared.items.Plan.{Plan}
 use Rattle.net_items.specs.Keyed.{IsRising, at_key, put, without}
 use Rattle.net_items.specs.Lookups.{set_at, plan_at}
-use Rattle.excerpts.specs.Excerpts.{is_read_by}
+use Rattle.excerpts.specs.Excerpt.{is_read_by}
 use Rattle.dirty_sets.specs.declared.readers.Reader.{Reader}
 use Rattle.dirty_sets.specs.Bits.{is_marked}
 use Rattle.dirty_sets.specs.Index.{IsWithId, IsReaderOf, reads_among}

@@ -12,9 +12,9 @@ use Rattle.net_items.specs.Lookups.{joins, row_at, is_stp}
 use Rattle.net_data.specs.Network.{Network}
 use Rattle.net_data.specs.Valid.{IsRightPlan}
 use Rattle.net_data.specs.Valid.{IsValid as IsValidNet}
-use Rattle.profile.specs.Status.{Source, row_of}
+use Rattle.profile.specs.Status.{Source, source_row}
 use Rattle.profile.specs.Valid.{IsVia, IsValidRow}
-use Rattle.excerpts.specs.Excerpts.{network_source}
+use Rattle.excerpts.specs.Excerpt.{network_source}
 use Rattle.excerpts.proofs.SourceLemmas.{source_valid}
 use Rattle.dirty_sets.specs.Index.{LeadsOn}
 

@@ -12,7 +12,7 @@ use Rattle.net_data.specs.Network.{Network}
 use Rattle.net_data.specs.Edits.{refusal_of, changed, in_order}
 use Rattle.net_data.specs.Valid.{IsValid}
 use Rattle.net_data.proofs.PreservationLemmas.{not_some}
-use Rattle.excerpts.specs.Excerpts.{content_in, content_at}
+use Rattle.excerpts.specs.Excerpt.{content_in, content_at}
 use Rattle.dirty_sets.specs.Touch.{touches, reads_set}
 use Rattle.dirty_sets.proofs.UntouchedSetLemmas.{content-edit_set, content-without_set, content-put_set}
 use Rattle.dirty_sets.proofs.UntouchedPointLemmas.{content-AddPoint, content-RemovePoint, content-Pair, content-Unpair}

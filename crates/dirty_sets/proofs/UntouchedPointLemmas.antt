@@ -23,7 +23,7 @@ use Rattle.net_data.specs.Valid.{IsRightRow, IsRightPlan, IsValid}
 use Rattle.net_data.proofs.FrameLemmas.{All-unless, neither}
 use Rattle.net_data.proofs.PreservationLemmas.{when_none, not_some}
 use Rattle.net_data.proofs.PairLemmas.{point_at-set_mate, has_point-set_mate, mate_of-set_mate, mate_there}
-use Rattle.excerpts.specs.Excerpts.{kind_of, row_point, is_read_by, content_in, content_at}
+use Rattle.excerpts.specs.Excerpt.{point_kind, row_point, is_read_by, content_in, content_at}
 
 -- whether it is a transfer point follows from the kind
 stp-kind : (o : Option Point) → option_map_or (λ (p : Point). kind_is_stp p.kind) o false ≡ kind_is_stp (option_map_or (λ (p : Point). p.kind) o Sep)
@@ -53,18 +53,18 @@ same_point : (points points' : List Point) (r : Row) → point_at points' r.poin
 same_point points points' r e = ap (λ (o : Option Point). record { code = r.point; kind = option_map_or (λ (p : Point). p.kind) o Sep; mate = cond r.mate (option_and_then (λ (p : Point). p.mate) o) None }) e
 
 -- a row whose point has the same kind, and the same mate if the row has the flag
-same_parts : (points points' : List Point) (r : Row) → kind_of points' r.point ≡ kind_of points r.point → (r.mate ≡ true → mate_of points' r.point ≡ mate_of points r.point) → IsSameRow points points' r
+same_parts : (points points' : List Point) (r : Row) → point_kind points' r.point ≡ point_kind points r.point → (r.mate ≡ true → mate_of points' r.point ≡ mate_of points r.point) → IsSameRow points points' r
 same_parts points points' r kind mate =
     let mates : cond r.mate (mate_of points' r.point) None ≡ cond r.mate (mate_of points r.point) None = cond_same r.mate _ _ None mate in
     rw (kind, mates) refl
 
 module _ (points points' : List Point) where
   -- the point of a row has the same kind
-  kind_at : (rows : List Row) (y : ℕ) → AllByRecursion (IsSameRow points points') rows → is_some (row_at rows y) ≡ true → kind_of points' y ≡ kind_of points y
+  kind_at : (rows : List Row) (y : ℕ) → AllByRecursion (IsSameRow points points') rows → is_some (row_at rows y) ≡ true → point_kind points' y ≡ point_kind points y
   kind_at [] y all there = absurd (cc)
   kind_at (r ∷ rs) y all there =
       ⊎_elim
-      (λ here. subst (λ n. kind_of points' n ≡ kind_of points n) (eqb-true _ _ here) (ap (λ (p : Point). p.kind) all.0))
+      (λ here. subst (λ n. point_kind points' n ≡ point_kind points n) (eqb-true _ _ here) (ap (λ (p : Point). p.kind) all.0))
       (λ other. kind_at rs y all.1 (rw other at there))
       (cases_Bool (eqb r.point y))
 
@@ -121,7 +121,7 @@ kind-with_mate true m None = refl
 kind-with_mate true m (Some p) = refl
 kind-with_mate false m o = refl
 
-kind_of-set_mate : (c : ℕ) (m : Option ℕ) (points : List Point) (z : ℕ) → kind_of (set_mate c m points) z ≡ kind_of points z
+kind_of-set_mate : (c : ℕ) (m : Option ℕ) (points : List Point) (z : ℕ) → point_kind (set_mate c m points) z ≡ point_kind points z
 kind_of-set_mate c m points z = ap (λ o. option_map_or (λ (p : Point). p.kind) o Sep) (point_at-set_mate c m points z) ∙ kind-with_mate (eqb c z) m (point_at points z)
 
 -- a row of a point without a mate has no flag

@@ -10,7 +10,7 @@ use Rattle.net_items.specs.Keyed.{at_key, put, edit, without}
 use Rattle.net_items.specs.Lookups.{set_at, plan_at}
 use Rattle.net_items.proofs.KeyedLemmas.{at_key-put}
 use Rattle.net_data.specs.Network.{Network}
-use Rattle.excerpts.specs.Excerpts.{content_in, content_at, is_read_by, row_point}
+use Rattle.excerpts.specs.Excerpt.{content_in, content_at, is_read_by, row_point}
 use Rattle.dirty_sets.specs.Touch.{reads_set}
 
 module _ {X : Type 0} (key : X → ℕ) (test : X → Bool) where

@@ -10,10 +10,10 @@ use Rattle.std.proofs.lemmas.List.Edits.{length-remove}
 use Rattle.std.proofs.lemmas.List.Folds.{list_all-append}
 use Rattle.indexmap.specs.IndexMap.{move_index}
 use Rattle.dirty_sets.specs.Waiting.{Task, first_waiting, is_out, least, lesser, out, put_last, taken, waiting, waiting_task}
-use Rattle.dirty_sets.specs.Entries.{marked, IsAt, IsFirst}
+use Rattle.dirty_sets.specs.Entries.{marked, IsAt, IsFirstWaiting}
 
 -- a task that waits, if all before it are out, is the first
-pub first_is : (ts : List Task) (i : ℕ) (t : Task) → list_all (λ (t : Task). t.is_out) (take i ts) ≡ true → slice_get ts i ≡ Some t → t.is_out ≡ false → IsFirst ts i t.dest
+pub first_is : (ts : List Task) (i : ℕ) (t : Task) → list_all (λ (t : Task). t.is_out) (take i ts) ≡ true → slice_get ts i ≡ Some t → t.is_out ≡ false → IsFirstWaiting ts i t.dest
 first_is [] i t before at waits = absurd (cc)
 first_is (y ∷ ys) zero t before at waits =
     let same : y ≡ t = cc in

@@ -17,7 +17,7 @@ marked zero out (t ∷ ts) = record t { is_out = out } ∷ ts
 marked (suc position) out (t ∷ ts) = t ∷ marked position out ts
 
 -- the first that waits is at that place, and is that destination
-pub record IsFirst (tasks : List Task) (position x : ℕ) : Type 0 where
+pub record IsFirstWaiting (tasks : List Task) (position x : ℕ) : Type 0 where
   pub in_range : position < length tasks
   pub waits : first_waiting tasks ≡ Some x
   pub takes : taken tasks ≡ marked position true tasks

@@ -7,7 +7,7 @@ use Rattle.net_items.specs.declared.items.Plan.{Plan}
 use Rattle.net_items.specs.Keyed.{at_key}
 use Rattle.net_items.specs.Lookups.{plan_at, row_at, set_at, is_stp}
 use Rattle.net_data.specs.Network.{Network}
-use Rattle.excerpts.specs.Excerpts.{is_read_by}
+use Rattle.excerpts.specs.Excerpt.{is_read_by}
 use Rattle.dirty_sets.specs.declared.readers.Reader.{Reader}
 use Rattle.dirty_sets.specs.Bits.{is_marked, meets}
 use Rattle.dirty_sets.specs.Touch.{Reads}

@@ -10,28 +10,18 @@ keeps_reads (on.AddPoint c kind) = true
 keeps_reads (on.RemovePoint c) = true
 keeps_reads (on.Pair p q) = true
 keeps_reads (on.Unpair p) = true
-keeps_reads (on.AddSet id a b slcs) = false
-keeps_reads (on.RemoveSet id) = false
 keeps_reads (on.AddLink id slc) = true
 keeps_reads (on.RemoveLink id slc) = true
-keeps_reads (on.SetPlan plan) = false
-keeps_reads (on.DropPlan dest) = false
 keeps_reads (on.SetTfr tfr) = true
+keeps_reads _ = false
 
 -- the event is on that set, which is there
 abbrev pub is_on_set : ℕ → Event → Bool
 is_on_set n (on.Link id slc change) = id == n
-is_on_set n (on.AddPoint c kind) = false
-is_on_set n (on.RemovePoint c) = false
-is_on_set n (on.Pair p q) = false
-is_on_set n (on.Unpair p) = false
-is_on_set n (on.AddSet id a b slcs) = false
 is_on_set n (on.RemoveSet id) = id == n
 is_on_set n (on.AddLink id slc) = id == n
 is_on_set n (on.RemoveLink id slc) = id == n
-is_on_set n (on.SetPlan plan) = false
-is_on_set n (on.DropPlan dest) = false
-is_on_set n (on.SetTfr tfr) = false
+is_on_set n _ = false
 
 -- the event is on points
 abbrev pub touches_none : Event → Bool
@@ -39,11 +29,4 @@ touches_none (on.AddPoint c kind) = true
 touches_none (on.RemovePoint c) = true
 touches_none (on.Pair p q) = true
 touches_none (on.Unpair p) = true
-touches_none (on.Link id slc change) = false
-touches_none (on.AddSet id a b slcs) = false
-touches_none (on.RemoveSet id) = false
-touches_none (on.AddLink id slc) = false
-touches_none (on.RemoveLink id slc) = false
-touches_none (on.SetPlan plan) = false
-touches_none (on.DropPlan dest) = false
-touches_none (on.SetTfr tfr) = false
+touches_none _ = false

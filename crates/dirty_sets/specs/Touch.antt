@@ -8,7 +8,7 @@ use Rattle.net_data.specs.declared.events.Event.{Event}
 use Rattle.net_data.specs.declared.events.Event.TheVariants as on
 use Rattle.net_data.specs.Network.{Network}
 use Rattle.net_data.specs.Edits.{changed}
-use Rattle.excerpts.specs.Excerpts.{is_read_by}
+use Rattle.excerpts.specs.Excerpt.{is_read_by}
 
 -- the destination has a plan
 abbrev pub is_planned : Network → ℕ → Bool
@@ -19,23 +19,17 @@ abbrev pub reads_set : Network → ℕ → ℕ → Bool
 reads_set net x id = option_map_or (λ plan. option_map_or (is_read_by net.points plan) (set_at net.sets id) false) (plan_at net.plans x) false
 
 -- the set that an event is on
-abbrev pub set_of : Event → Option ℕ
-set_of (on.Link id slc change) = Some id
-set_of (on.AddSet id a b slcs) = Some id
-set_of (on.RemoveSet id) = Some id
-set_of (on.AddLink id slc) = Some id
-set_of (on.RemoveLink id slc) = Some id
-set_of (on.AddPoint c kind) = None
-set_of (on.RemovePoint c) = None
-set_of (on.Pair p q) = None
-set_of (on.Unpair p) = None
-set_of (on.SetPlan plan) = None
-set_of (on.DropPlan dest) = None
-set_of (on.SetTfr tfr) = None
+abbrev pub event_set : Event → Option ℕ
+event_set (on.Link id slc change) = Some id
+event_set (on.AddSet id a b slcs) = Some id
+event_set (on.RemoveSet id) = Some id
+event_set (on.AddLink id slc) = Some id
+event_set (on.RemoveLink id slc) = Some id
+event_set _ = None
 
 -- the table of the destination reads the set that an event is on, before or after it
 abbrev pub reads_changed : Network → Event → ℕ → Bool
-reads_changed net event x = option_map_or (λ id. reads_set net x id || reads_set (changed net event) x id) (set_of event) false
+reads_changed net event x = option_map_or (λ id. reads_set net x id || reads_set (changed net event) x id) (event_set event) false
 
 -- an event touches a destination: a plan its own, the option all that are planned, and an event on a set those that read the set before or after it
 abbrev pub touches : Network → Event → ℕ → Bool
@@ -65,19 +59,9 @@ pub record Reads : Type 0 where
 -- an event that may add a plan
 abbrev pub sets_plan : Event → Bool
 sets_plan (on.SetPlan plan) = true
-sets_plan (on.Link id slc change) = false
-sets_plan (on.AddPoint c kind) = false
-sets_plan (on.RemovePoint c) = false
-sets_plan (on.Pair p q) = false
-sets_plan (on.Unpair p) = false
-sets_plan (on.AddSet id a b slcs) = false
-sets_plan (on.RemoveSet id) = false
-sets_plan (on.AddLink id slc) = false
-sets_plan (on.RemoveLink id slc) = false
-sets_plan (on.DropPlan dest) = false
-sets_plan (on.SetTfr tfr) = false
+sets_plan _ = false
 
 -- the index tells what the tables of a network read; set ids are below 4,096
-pub record IsIndex (net : Network) (index : Reads) : Type 0 where
+pub record IsTouchIndex (net : Network) (index : Reads) : Type 0 where
   pub planned : index.planned ≡ map (λ (plan : Plan). plan.dest) net.plans
   pub reads : (x id : ℕ) → id < 4096 → index.reads x id ≡ reads_set net x id

@@ -11,5 +11,5 @@ pub record TouchedValue : Type 0 where
   pub marks : List Bool
 
 -- a destination is touched if it is marked, or if its table reads a set that an event was on since the last flush
-abbrev pub marked_of : TouchedValue → Marked
-marked_of n = record { index = reads_of n.index; touched = λ x. is_marked n.marks x || reads_any n.index.readers n.ids x }
+abbrev pub marks_of : TouchedValue → Marked
+marks_of n = record { index = reads_of n.index; touched = λ x. is_marked n.marks x || reads_any n.index.readers n.ids x }

@@ -4,7 +4,7 @@ ghost use Rattle.std.specs.Prelude.{◌≡◌, ◌<◌, ◌||◌, ℕ, List, tru
 ghost use Rattle.net_items.specs.declared.items.Plan.{Plan as ThePlan};
 ghost use Rattle.net_data.specs.Edits.{refusal_of, changed, takes_none};
 ghost use Rattle.dirty_sets.specs.Bits.{is_marked};
-ghost use Rattle.dirty_sets.specs.Touch.{IsIndex, is_planned, sets_plan, touched as touched_by, touches};
+ghost use Rattle.dirty_sets.specs.Touch.{IsTouchIndex, is_planned, sets_plan as plan_is_set, touched as touched_by, touches};
 ghost use Rattle.dirty_sets.specs.Index.{IsReaderOf, bare_set as the_bare_set, reads_any as any_read, reads_of};
 ghost use Rattle.dirty_sets.specs.Kept.{is_on_set, keeps_reads};
 
@@ -63,9 +63,9 @@ fn bare_set(alloc: Global, id: u16, a: PointCode, b: PointCode) -> LinkSet
     }
 }
 
-/// Whether an event may add a plan.
-fn is_of_plan(event: &Event) -> bool
-    ensures { result ≡ sets_plan event.now }
+/// Whether an event sets a plan.
+fn sets_plan(event: &Event) -> bool
+    ensures { result ≡ plan_is_set event.now }
 {
     match event {
         Event::SetPlan(_) => true,
@@ -76,7 +76,7 @@ fn is_of_plan(event: &Event) -> bool
 impl TouchIndex {
     /// The index of a network.
     pub fn new(alloc: Global, net: &Net) -> Result<TouchIndex, AllocError>
-        ensures { IfOk result (λ t. IsIndex net.now (reads_of t)) }
+        ensures { IfOk result (λ t. IsTouchIndex net.now (reads_of t)) }
     {
         net.validity();
         let count = net.plans().len();
@@ -112,37 +112,37 @@ impl TouchIndex {
 
     /// Tables read the same after an event on points, links or the option. It does nothing when it runs.
     pub(crate) fn keep(&self, before: &Net, event: &Event)
-        requires index { IsIndex before.now (reads_of self.now) }
+        requires index { IsTouchIndex before.now (reads_of self.now) }
         requires accepted { refusal_of before.now event.now ≡ None }
         requires kept { keeps_reads event.now ≡ true }
-        ensures { IsIndex (changed before.now event.now) (reads_of self.now) }
+        ensures { IsTouchIndex (changed before.now event.now) (reads_of self.now) }
     {
         before.validity();
     }
 
     fn add_set(&mut self, before: &Net, id: u16, a: PointCode, b: PointCode)
-        requires index { IsIndex before.now (reads_of self.old) }
+        requires index { IsTouchIndex before.now (reads_of self.old) }
         requires small { id < 4096 }
-        ensures { (slcs : List ℕ) → IsIndex (changed before.now (Event.AddSet id a b slcs)) (reads_of self.new) }
+        ensures { (slcs : List ℕ) → IsTouchIndex (changed before.now (Event.AddSet id a b slcs)) (reads_of self.new) }
     {
         let set = bare_set(self.alloc, id, a, b);
         readers::add_set(&mut self.readers, before, &set);
     }
 
     fn remove_set(&mut self, before: &Net, id: u16)
-        requires index { IsIndex before.now (reads_of self.old) }
+        requires index { IsTouchIndex before.now (reads_of self.old) }
         requires small { id < 4096 }
-        ensures { IsIndex (changed before.now (Event.RemoveSet id)) (reads_of self.new) }
+        ensures { IsTouchIndex (changed before.now (Event.RemoveSet id)) (reads_of self.new) }
     {
         before.validity();
         readers::remove_set(&mut self.readers, id);
     }
 
     fn set_plan(&mut self, before: &Net, plan: &Plan)
-        requires index { IsIndex before.now (reads_of self.old) }
+        requires index { IsTouchIndex before.now (reads_of self.old) }
         requires accepted { refusal_of before.now (Event.SetPlan plan.now) ≡ None }
         requires room { 0 < self.old.room }
-        ensures { IsIndex (changed before.now (Event.SetPlan plan.now)) (reads_of self.new) }
+        ensures { IsTouchIndex (changed before.now (Event.SetPlan plan.now)) (reads_of self.new) }
     {
         before.validity();
         let ids = sets_read(before.points(), plan, false, before.sets());
@@ -156,9 +156,9 @@ impl TouchIndex {
     }
 
     fn drop_plan(&mut self, before: &Net, dest: PointCode)
-        requires index { IsIndex before.now (reads_of self.old) }
+        requires index { IsTouchIndex before.now (reads_of self.old) }
         requires accepted { refusal_of before.now (Event.DropPlan dest) ≡ None }
-        ensures { IsIndex (changed before.now (Event.DropPlan dest)) (reads_of self.new) }
+        ensures { IsTouchIndex (changed before.now (Event.DropPlan dest)) (reads_of self.new) }
     {
         before.validity();
         readers::remove_reader(&mut self.readers, dest);
@@ -166,10 +166,10 @@ impl TouchIndex {
 
     /// Follows an accepted event. It takes no memory.
     pub fn update(&mut self, before: &Net, event: &Event)
-        requires index { IsIndex before.now (reads_of self.old) }
+        requires index { IsTouchIndex before.now (reads_of self.old) }
         requires accepted { refusal_of before.now event.now ≡ None }
-        requires room { sets_plan event.now ≡ true → 0 < self.old.room }
-        ensures { IsIndex (changed before.now event.now) (reads_of self.new) }
+        requires room { plan_is_set event.now ≡ true → 0 < self.old.room }
+        ensures { IsTouchIndex (changed before.now event.now) (reads_of self.new) }
     {
         before.validity();
         match event {
@@ -190,13 +190,13 @@ impl TouchIndex {
 
     /// Follows an accepted event.
     pub fn follow(&mut self, _alloc: Global, before: &Net, event: &Event) -> Result<(), AllocError>
-        requires index { IsIndex before.now (reads_of self.old) }
+        requires index { IsTouchIndex before.now (reads_of self.old) }
         requires accepted { refusal_of before.now event.now ≡ None }
-        ensures ok { OnOk result (IsIndex (changed before.now event.now) (reads_of self.new)) }
+        ensures ok { OnOk result (IsTouchIndex (changed before.now event.now) (reads_of self.new)) }
         ensures err { OnErr result (self.new ≡ self.old) }
         ensures no_memory { takes_none event.now ≡ true → IsOk result }
     {
-        if is_of_plan(event) {
+        if sets_plan(event) {
             self.make_room()?;
             self.update(before, event);
             return Ok(());
@@ -206,7 +206,7 @@ impl TouchIndex {
     }
 
     fn mark_set(&self, before: &Net, event: &Event, id: u16, marks: &mut Codes)
-        requires index { IsIndex before.now (reads_of self.now) }
+        requires index { IsTouchIndex before.now (reads_of self.now) }
         requires accepted { refusal_of before.now event.now ≡ None }
         requires on_set { is_on_set id event.now ≡ true }
         ensures { (x : ℕ) → is_marked marks.new x ≡ (is_marked marks.old x || touches before.now event.now x) }
@@ -224,7 +224,7 @@ impl TouchIndex {
         slcs: &Slcs,
         marks: &mut Codes,
     )
-        requires index { IsIndex before.now (reads_of self.now) }
+        requires index { IsTouchIndex before.now (reads_of self.now) }
         requires accepted { refusal_of before.now (Event.AddSet id a b slcs.now) ≡ None }
         ensures { (x : ℕ) → is_marked marks.new x ≡ (is_marked marks.old x || touches before.now (Event.AddSet id a b slcs.now) x) }
     {
@@ -233,7 +233,7 @@ impl TouchIndex {
     }
 
     fn mark_planned(&self, before: &Net, marks: &mut Codes)
-        requires index { IsIndex before.now (reads_of self.now) }
+        requires index { IsTouchIndex before.now (reads_of self.now) }
         ensures { (x : ℕ) → is_marked marks.new x ≡ (is_marked marks.old x || is_planned before.now x) }
     {
         readers::mark_all(self.readers.as_slice(), marks);
@@ -241,7 +241,7 @@ impl TouchIndex {
 
     /// Marks the destinations that an accepted event touches.
     pub(crate) fn mark(&self, before: &Net, event: &Event, marks: &mut Codes)
-        requires index { IsIndex before.now (reads_of self.now) }
+        requires index { IsTouchIndex before.now (reads_of self.now) }
         requires accepted { refusal_of before.now event.now ≡ None }
         ensures { (x : ℕ) → is_marked marks.new x ≡ (is_marked marks.old x || touches before.now event.now x) }
     {
@@ -282,7 +282,7 @@ impl TouchIndex {
         before: &Net,
         event: &Event,
     ) -> Result<Vec<PointCode>, AllocError>
-        requires index { IsIndex before.now (reads_of self.now) }
+        requires index { IsTouchIndex before.now (reads_of self.now) }
         requires accepted { refusal_of before.now event.now ≡ None }
         ensures { IfOk result (λ dests. dests.items ≡ touched_by before.now event.now) }
     {

@@ -5,7 +5,7 @@ ghost use Rattle.net_data.specs.declared.events.Event.{Event};
 ghost use Rattle.net_data.specs.Network.{Network};
 ghost use Rattle.net_data.specs.Edits.{changed, refusal_of};
 ghost use Rattle.net_data.specs.Valid.{IsValid};
-ghost use Rattle.excerpts.specs.Excerpts.{content_at};
+ghost use Rattle.excerpts.specs.Excerpt.{content_at};
 ghost use Rattle.dirty_sets.specs.Touch.{touches};
 
 /// The law: an accepted event that doesn't touch a destination leaves what its table reads as it is, and where the

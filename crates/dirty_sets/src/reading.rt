@@ -5,7 +5,7 @@ ghost use Rattle.std.specs.List.{list_any};
 ghost use Rattle.std.specs.Option.{option_map_or};
 ghost use Rattle.net_items.specs.Keyed.{IsRising};
 ghost use Rattle.net_items.specs.Lookups.{joins, row_at, set_at, is_stp as stp_is};
-ghost use Rattle.excerpts.specs.Excerpts.{is_read_by, leads as row_leads};
+ghost use Rattle.excerpts.specs.Excerpt.{is_read_by, leads as row_leads};
 ghost use Rattle.dirty_sets.specs.Bits.{is_marked};
 ghost use Rattle.dirty_sets.specs.Index.{LeadsOn};
 
@@ -17,10 +17,10 @@ use plan_rows::uses::is_via;
 use point_codes::PointCode;
 
 /// Whether a row of a point leads to another.
-fn leads(row: &Row, y: PointCode, z: PointCode) -> bool
-    ensures { result ≡ row_leads (row.now ∷ []) y z }
+fn leads(row: &Row, point: PointCode, via: PointCode) -> bool
+    ensures { result ≡ row_leads (row.now ∷ []) point via }
 {
-    row.point == y && is_via(z, row)
+    row.point == point && is_via(row, via)
 }
 
 /// Whether a set joins a row's point with one of its vias.

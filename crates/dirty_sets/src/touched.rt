@@ -3,11 +3,11 @@
 ghost use Rattle.std.specs.Prelude.{◌≡◌, ◌<◌, ◌||◌, ℕ, List, Bool, true, false, None, OnOk, IfOk};
 ghost use Rattle.net_data.specs.Edits.{refusal_of, changed};
 ghost use Rattle.dirty_sets.specs.Bits.{is_marked, meets};
-ghost use Rattle.dirty_sets.specs.Touch.{IsIndex, sets_plan};
+ghost use Rattle.dirty_sets.specs.Touch.{IsTouchIndex, sets_plan};
 ghost use Rattle.dirty_sets.specs.Marks.{IsClear, IsNoted};
 ghost use Rattle.dirty_sets.specs.Index.{reads_of};
 ghost use Rattle.dirty_sets.specs.Kept.{is_on_set, keeps_reads, touches_none};
-ghost use Rattle.dirty_sets.specs.Touched.{marked_of};
+ghost use Rattle.dirty_sets.specs.Touched.{marks_of};
 
 use crate::bits::{Codes, SetIds};
 use crate::index::TouchIndex;
@@ -37,8 +37,8 @@ impl Model for Touched {
 impl Touched {
     /// The index of a network. Nothing is touched.
     pub fn new(alloc: Global, net: &Net) -> Result<Touched, AllocError>
-        ensures index { IfOk result (λ t. IsIndex net.now (reads_of t.index)) }
-        ensures clear { IfOk result (λ t. IsClear (marked_of t)) }
+        ensures index { IfOk result (λ t. IsTouchIndex net.now (reads_of t.index)) }
+        ensures clear { IfOk result (λ t. IsClear (marks_of t)) }
     {
         Ok(Touched {
             index: TouchIndex::new(alloc, net)?,
@@ -49,17 +49,17 @@ impl Touched {
 
     /// Whether a destination was touched.
     pub fn is_touched(&self, dest: PointCode) -> bool
-        ensures { result ≡ (marked_of self.now).touched dest }
+        ensures { result ≡ (marks_of self.now).touched dest }
     {
         self.marks.has(dest) || self.index.reads_any(dest, &self.ids)
     }
 
     /// Makes room for one more plan.
     pub fn make_room(&mut self) -> Result<(), AllocError>
-        ensures planned { (marked_of self.new).index.planned ≡ (marked_of self.old).index.planned }
-        ensures reads { (marked_of self.new).index.reads ≡ (marked_of self.old).index.reads }
-        ensures touched { (marked_of self.new).touched ≡ (marked_of self.old).touched }
-        ensures ok { OnOk result (0 < (marked_of self.new).index.room) }
+        ensures planned { (marks_of self.new).index.planned ≡ (marks_of self.old).index.planned }
+        ensures reads { (marks_of self.new).index.reads ≡ (marks_of self.old).index.reads }
+        ensures touched { (marks_of self.new).touched ≡ (marks_of self.old).touched }
+        ensures ok { OnOk result (0 < (marks_of self.new).index.room) }
     {
         self.index.make_room()?;
         Ok(())
@@ -68,7 +68,7 @@ impl Touched {
     /// Marks what the events on sets touched.
     fn flush(&mut self)
         ensures index { self.new.index ≡ self.old.index }
-        ensures marks { (x : ℕ) → is_marked self.new.marks x ≡ (marked_of self.old).touched x }
+        ensures marks { (x : ℕ) → is_marked self.new.marks x ≡ (marks_of self.old).touched x }
         ensures blank { (others : List Bool) → meets self.new.ids others ≡ false }
     {
         self.index.mark_any(&self.ids, &mut self.marks);
@@ -77,11 +77,11 @@ impl Touched {
 
     /// Notes an event on a link.
     fn note_link(&mut self, before: &Net, event: &Event, id: u16)
-        requires index { IsIndex before.now (reads_of self.old.index) }
+        requires index { IsTouchIndex before.now (reads_of self.old.index) }
         requires accepted { refusal_of before.now event.now ≡ None }
         requires on_set { is_on_set id event.now ≡ true }
         requires kept { keeps_reads event.now ≡ true }
-        ensures { IsNoted before.now event.now (marked_of self.old) (marked_of self.new) }
+        ensures { IsNoted before.now event.now (marks_of self.old) (marks_of self.new) }
     {
         before.validity();
         self.index.keep(before, event);
@@ -90,21 +90,21 @@ impl Touched {
 
     /// Notes an event on points.
     fn note_point(&self, before: &Net, event: &Event)
-        requires index { IsIndex before.now (reads_of self.now.index) }
+        requires index { IsTouchIndex before.now (reads_of self.now.index) }
         requires accepted { refusal_of before.now event.now ≡ None }
         requires kept { keeps_reads event.now ≡ true }
         requires none { touches_none event.now ≡ true }
-        ensures { IsNoted before.now event.now (marked_of self.now) (marked_of self.now) }
+        ensures { IsNoted before.now event.now (marks_of self.now) (marks_of self.now) }
     {
         self.index.keep(before, event);
     }
 
     /// Notes any event.
     fn note_change(&mut self, before: &Net, event: &Event)
-        requires index { IsIndex before.now (reads_of self.old.index) }
+        requires index { IsTouchIndex before.now (reads_of self.old.index) }
         requires accepted { refusal_of before.now event.now ≡ None }
         requires room { sets_plan event.now ≡ true → 0 < self.old.index.room }
-        ensures { IsNoted before.now event.now (marked_of self.old) (marked_of self.new) }
+        ensures { IsNoted before.now event.now (marks_of self.old) (marks_of self.new) }
     {
         self.flush();
         self.index.mark(before, event, &mut self.marks);
@@ -113,10 +113,10 @@ impl Touched {
 
     /// Notes what an accepted event touches, and follows it. It takes no memory.
     pub fn note(&mut self, before: &Net, event: &Event)
-        requires index { IsIndex before.now (marked_of self.old).index }
+        requires index { IsTouchIndex before.now (marks_of self.old).index }
         requires accepted { refusal_of before.now event.now ≡ None }
-        requires room { sets_plan event.now ≡ true → 0 < (marked_of self.old).index.room }
-        ensures { IsNoted before.now event.now (marked_of self.old) (marked_of self.new) }
+        requires room { sets_plan event.now ≡ true → 0 < (marks_of self.old).index.room }
+        ensures { IsNoted before.now event.now (marks_of self.old) (marks_of self.new) }
     {
         match event {
             Event::Link(id, _, _) => self.note_link(before, event, *id),
@@ -136,8 +136,8 @@ impl Touched {
 
     /// Nothing is touched from now on. The index stays.
     pub fn clear(&mut self)
-        ensures index { (marked_of self.new).index ≡ (marked_of self.old).index }
-        ensures clear { IsClear (marked_of self.new) }
+        ensures index { (marks_of self.new).index ≡ (marks_of self.old).index }
+        ensures clear { IsClear (marks_of self.new) }
     {
         self.ids = SetIds::new();
         self.marks = Codes::new();

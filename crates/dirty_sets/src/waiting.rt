@@ -3,7 +3,7 @@
 ghost use Rattle.std.specs.Prelude.{◌≡◌, ◌<◌, None, Some, IfOk, MatchOption, if◌then◌else◌, length, slice_get, true, false};
 ghost use Rattle.net_items.specs.Keyed.{IsRising};
 ghost use Rattle.indexmap.specs.IndexMap.{move_index as with_moved};
-ghost use Rattle.dirty_sets.specs.Entries.{task_of, marked, IsAt, IsFirst};
+ghost use Rattle.dirty_sets.specs.Entries.{task_of, marked, IsAt, IsFirstWaiting};
 ghost use Rattle.dirty_sets.specs.Waiting.{all_waiting, first_waiting, is_out as is_task_out, least, lesser, out, put_last as with_last, taken, waiting, without_task};
 
 use indexmap::IndexMap;
@@ -154,7 +154,7 @@ impl Waiting {
 
     /// The place of the first that waits, and its destination.
     fn first_position(&self) -> Option<(usize, PointCode)>
-        ensures { MatchOption result ((first_waiting self.now ≡ None) × (taken self.now ≡ self.now)) (λ f. IsFirst self.now f.0 f.1) }
+        ensures { MatchOption result ((first_waiting self.now ≡ None) × (taken self.now ≡ self.now)) (λ f. IsFirstWaiting self.now f.0 f.1) }
     {
         for position in 0..self.left() {
             let (dest, is_out) = self.at(position);

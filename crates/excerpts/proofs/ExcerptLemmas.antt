@@ -13,13 +13,13 @@ use Rattle.net_items.specs.Lookups.{point_at, is_stp, kind_is_stp, mate_of, row_
 use Rattle.net_data.specs.Network.{Network}
 use Rattle.net_data.specs.Valid.{IsValid as IsValidNet}
 use Rattle.profile.specs.Status.{Source}
-use Rattle.profile.specs.Reads.{is_planned_transfer, is_flagged, reads}
+use Rattle.profile.specs.Reads.{is_planned_transfer, is_flagged_at, reads}
 use Rattle.profile.specs.Reads.{excerpt_of as source_excerpt}
 use Rattle.profile.specs.Valid.{HasFewLinks, HasLinksInOrder}
 use Rattle.profile.specs.Whole.{scratch}
 use Rattle.profile.proofs.CertificateLemmas.{find-map}
 use Rattle.profile.proofs.ExcerptLemmas.{excerpt_scratch}
-use Rattle.excerpts.specs.Excerpts.{kind_of, row_point, network_source, source_of, ExcerptValue, content_in, content_of, content_source, IsRight}
+use Rattle.excerpts.specs.Excerpt.{point_kind, row_point, network_source, source_of, ExcerptValue, content_in, content_of, content_source, IsRight}
 use Rattle.excerpts.proofs.SourceLemmas.{source_valid, sets_few, sets_ordered, row_point_is, plan_right}
 
 -- the destination of the plan that is found
@@ -55,7 +55,7 @@ module _ (net : Network) (plan : Plan) where
   stp_at : (y : ℕ) (o : Option Row) → row_at plan.rows y ≡ o → option_map_or (λ (p : Point). kind_is_stp p.kind) (option_map (row_point net.points) o) false ≡ (is_stp net.points y && is_some o)
   stp_at y None at = and_false (is_stp net.points y)
   stp_at y (Some r) at =
-      subst (λ n. kind_is_stp (kind_of net.points r.point) ≡ is_stp net.points n) (row_point_is plan.rows y r at) (kind_stp (point_at net.points r.point)) ∙ and_true (is_stp net.points y)
+      subst (λ n. kind_is_stp (point_kind net.points r.point) ≡ is_stp net.points n) (row_point_is plan.rows y r at) (kind_stp (point_at net.points r.point)) ∙ and_true (is_stp net.points y)
 
   stp_is : (y : ℕ) → is_stp (map (row_point net.points) plan.rows) y ≡ is_planned_transfer src y
   stp_is y = ap (λ (o : Option Point). option_map_or (λ (p : Point). kind_is_stp p.kind) o false) (point_is y) ∙ stp_at y (row_at plan.rows y) refl
@@ -65,14 +65,14 @@ module _ (net : Network) (plan : Plan) where
   mate_at y None at = refl
   mate_at y (Some r) at = subst (λ n. cond r.mate (mate_of net.points r.point) None ≡ cond r.mate (mate_of net.points n) None) (row_point_is plan.rows y r at) refl
 
-  mate_is : (y : ℕ) → mate_of (map (row_point net.points) plan.rows) y ≡ cond (is_flagged src y) (src.mate_of y) None
+  mate_is : (y : ℕ) → mate_of (map (row_point net.points) plan.rows) y ≡ cond (is_flagged_at src y) (src.mate_of y) None
   mate_is y = ap (λ (o : Option Point). option_and_then (λ (p : Point). p.mate) o) (point_is y) ∙ mate_at y (row_at plan.rows y) refl
 
   -- what is read, as a source, is the excerpt of the source
   pub source_is : content_source (content_in net plan) ≡ source_excerpt src
   source_is =
       let stps : is_stp (map (row_point net.points) plan.rows) ≡ is_planned_transfer src = fun_ext stp_is in
-      let mates : mate_of (map (row_point net.points) plan.rows) ≡ (λ y. cond (is_flagged src y) (src.mate_of y) None) = fun_ext mate_is in
+      let mates : mate_of (map (row_point net.points) plan.rows) ≡ (λ y. cond (is_flagged_at src y) (src.mate_of y) None) = fun_ext mate_is in
       let build : (ℕ → Bool) → (ℕ → Option ℕ) → Source = λ stp mate. record { dest = plan.dest; rows = plan.rows; sets = filter (reads src) net.sets; is_stp = stp; mate_of = mate; tfr = net.tfr } in
       ap (λ stp. build stp (mate_of (map (row_point net.points) plan.rows))) stps ∙ ap (build (is_planned_transfer src)) mates
 

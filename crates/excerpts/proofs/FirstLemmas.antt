@@ -6,7 +6,7 @@ use Rattle.std.proofs.lemmas.List.{get_or-drop, get_or_default, get_or_read}
 use Rattle.net_items.specs.Keyed.{IsRising, at_key}
 use Rattle.net_sets.specs.Joints.{joint_of}
 use Rattle.excerpts.specs.declared.index.Joint.{Joint}
-use Rattle.excerpts.specs.Index.{IsFirst, AreFirsts}
+use Rattle.excerpts.specs.Index.{IsFirstJoint, AreFirsts}
 use Rattle.excerpts.proofs.NextLemmas.{IsRising-drop, never_fall, found_after}
 
 -- what a read past the end would give
@@ -41,7 +41,7 @@ found_before (suc n) [] q more = refl
 found_before (suc n) (j ∷ js) q more = ap (λ (o : Option Joint). cond (eqb j.pair q) (Some j) o) (found_before n js q (λ k d low lt. more (suc k) d (omega arith) (omega arith)))
 
 -- the joints from a pair on begin before those from a greater pair on
-in_order : (js : List Joint) (m n a b : ℕ) → m ≤ n → IsFirst m js a → IsFirst n js b → a ≤ b
+in_order : (js : List Joint) (m n a b : ℕ) → m ≤ n → IsFirstJoint m js a → IsFirstJoint n js b → a ≤ b
 in_order js m n a b low one other = go (ltb b a) refl
   where
     go : (t : Bool) → ltb b a ≡ t → a ≤ b
@@ -53,7 +53,7 @@ in_order js m n a b low one other = go (ltb b a) refl
     go false e = ltb-false b a e
 
 -- a pair between two is found among the joints between
-found_in_range : (js : List Joint) (m n a b q : ℕ) → a ≤ b → IsFirst m js a → IsFirst n js b → m ≤ q → q < n
+found_in_range : (js : List Joint) (m n a b q : ℕ) → a ≤ b → IsFirstJoint m js a → IsFirstJoint n js b → m ≤ q → q < n
     → at_key (λ (j : Joint). j.pair) q (take (b - a) (drop a js)) ≡ at_key (λ (j : Joint). j.pair) q js
 found_in_range js m n a b q order one other low high =
     found_before (b - a) (drop a js) q
@@ -65,7 +65,7 @@ found_in_range js m n a b q order one other low high =
 
 -- where the next joint is no smaller, the others aren't either
 pub first_here : (js : List Joint) (pair at : ℕ) → IsRising (λ (j : Joint). j.pair) js → at ≤ length js → AllWithin (λ (j : Joint). j.pair < pair) js 0 at
-    → (at < length js → pair ≤ (get_or js at unread).pair) → IsFirst pair js at
+    → (at < length js → pair ≤ (get_or js at unread).pair) → IsFirstJoint pair js at
 first_here js pair at up within less here = record {
   within = within;
   parts = (
@@ -80,16 +80,16 @@ first_here js pair at up within less here = record {
 
 -- the joints of a point stand from the one place to the other
 pub record IsAround (js : List Joint) (y from to : ℕ) : Type 0 where
-  pub begin : IsFirst (joint_of y 0) js from
-  pub end : IsFirst (joint_of (y + 1) 0) js to
+  pub begin : IsFirstJoint (joint_of y 0) js from
+  pub end : IsFirstJoint (joint_of (y + 1) 0) js to
   pub ordered : from ≤ to
 
 pub around : (js : List Joint) (firsts : List ℕ) (y position from to : ℕ) → y < 16384 → AreFirsts firsts js → position ≡ y → from ≡ get_or firsts position from → to ≡ get_or firsts (position + 1) to → IsAround js y from to
 around js firsts y position from to small are here is_from is_to =
     let read_from : from ≡ slice_index firsts y = get_or_read firsts position from (omega (arith, are.long)) is_from 0 ∙ ap (slice_index firsts) here in
     let read_to : to ≡ slice_index firsts (y + 1) = get_or_read firsts (position + 1) to (omega (arith, are.long)) is_to 0 ∙ ap (λ n. slice_index firsts (n + 1)) here in
-    let begin : IsFirst (joint_of y 0) js from = subst (λ n. IsFirst (joint_of y 0) js n) (sym read_from) (are.right y (omega arith)) in
-    let end : IsFirst (joint_of (y + 1) 0) js to = subst (λ n. IsFirst (joint_of (y + 1) 0) js n) (sym read_to) (are.right (y + 1) (omega arith)) in
+    let begin : IsFirstJoint (joint_of y 0) js from = subst (λ n. IsFirstJoint (joint_of y 0) js n) (sym read_from) (are.right y (omega arith)) in
+    let end : IsFirstJoint (joint_of (y + 1) 0) js to = subst (λ n. IsFirstJoint (joint_of (y + 1) 0) js n) (sym read_to) (are.right (y + 1) (omega arith)) in
     record { begin = begin; end = end; ordered = in_order js (joint_of y 0) (joint_of (y + 1) 0) from to (omega arith) begin end }
 
 pub found_around : (js : List Joint) (y z from to : ℕ) → z < 16384 → IsAround js y from to

@@ -16,7 +16,7 @@ use Rattle.link_sets.specs.Availability.{set_available, connected}
 use Rattle.link_sets.specs.Neighbours.{next_from, code_count}
 use Rattle.link_sets.proofs.NeighbourLemmas.{count_is}
 use Rattle.excerpts.specs.declared.index.Joint.{Joint}
-use Rattle.excerpts.specs.Index.{IsJointOf, IsHeld, IsIndexFrom, IsIndex, is_up, joint_from}
+use Rattle.excerpts.specs.Index.{IsJointOf, IsHeld, IsIndexFrom, IsJointIndex, is_up, joint_from}
 
 -- what is held of a pair, where a set stands before the others
 held_put : (joints : List Joint) (sets : List LinkSet) (position : ℕ) (s : LinkSet) (ss : List LinkSet) (y z : ℕ) → s.a < 16384 → s.b < 16384 → z < 16384
@@ -52,7 +52,7 @@ held_up sets (Some s) None is = absurd is
 held_up sets (Some s) (Some j) is = is.tells
 
 -- whether a pair is up is whether its points are joined
-up_joined : (joints : List Joint) (sets : List LinkSet) (y z : ℕ) → y < 16384 → z < 16384 → IsIndex joints sets → is_up joints y z ≡ connected sets y z
+up_joined : (joints : List Joint) (sets : List LinkSet) (y z : ℕ) → y < 16384 → z < 16384 → IsJointIndex joints sets → is_up joints y z ≡ connected sets y z
 up_joined joints sets y z y_small z_small are = held_up sets (set_between sets y z) (at_key (λ (j : Joint). j.pair) (joint_of y z) joints) (are.tells y z y_small z_small)
 
 -- tests that agree in a range find the same there
@@ -64,7 +64,7 @@ find_agreed p q a (suc n) same =
     rw (here, rest) refl
 
 -- the next point over joints of y that tell what the index does
-pub next_agreed : (around joints : List Joint) (sets : List LinkSet) (y from : ℕ) → y < 16384 → IsIndex joints sets
+pub next_agreed : (around joints : List Joint) (sets : List LinkSet) (y from : ℕ) → y < 16384 → IsJointIndex joints sets
     → ((z : ℕ) → z < 16384 → at_key (λ (j : Joint). j.pair) (joint_of y z) around ≡ at_key (λ (j : Joint). j.pair) (joint_of y z) joints)
     → next_from (is_up around y) from ≡ next_from (connected sets y) from
 next_agreed around joints sets y from y_small are same =

@@ -10,9 +10,8 @@ use Rattle.std.proofs.lemmas.List.Elements.{filter-append}
 use Rattle.net_items.specs.declared.items.LinkSet.{LinkSet}
 use Rattle.net_items.specs.declared.lists.Row.{Row}
 use Rattle.net_items.specs.Keyed.{IsRising}
-use Rattle.net_items.specs.Lookups.{joins, row_at}
-use Rattle.profile.specs.Walk.{is_via}
-use Rattle.excerpts.specs.Excerpts.{leads}
+use Rattle.net_items.specs.Lookups.{joins, row_at, is_via}
+use Rattle.excerpts.specs.Excerpt.{leads}
 
 -- a set between a point and a via of a class
 in_class : (set : LinkSet) (y : ℕ) (vias : List ℕ) → list_any (λ via. joins y via set) vias

@@ -19,8 +19,8 @@ use Rattle.plan_rows.specs.Rows.{is_lower, is_free, is_mate, is_small_class, has
 use Rattle.net_data.specs.Valid.{IsRightRow, IsRightPlan, IsRightSet}
 use Rattle.net_data.specs.Valid.{IsValid as IsValidNet}
 use Rattle.profile.specs.Status.{Source}
-use Rattle.profile.specs.Valid.{IsLower, HasMate, IsVia, IsValidRow, IsValid, HasFewLinks, HasLinksInOrder}
-use Rattle.excerpts.specs.Excerpts.{network_source}
+use Rattle.profile.specs.Valid.{IsLower, HasMate, IsVia, IsValidRow, IsValidSource, HasFewLinks, HasLinksInOrder}
+use Rattle.excerpts.specs.Excerpt.{network_source}
 use Rattle.excerpts.proofs.ReadLemmas.{at_once}
 
 -- keys that rise, place by place
@@ -164,7 +164,7 @@ module _ (net : Network) (v : IsValidNet net) (plan : Plan) (right : IsRightPlan
   rows_are [] all = tt
   rows_are (r ∷ rs) all = (row_is r all.0, rows_are rs all.1)
 
-  pub source_valid : IsValid (network_source net plan)
+  pub source_valid : IsValidSource (network_source net plan)
   source_valid = record {
     rows = All-from_recursion (IsValidRow src) plan.rows (rows_are plan.rows right.rows_right);
     once = pairs_rise plan.rows right.rows_rise;

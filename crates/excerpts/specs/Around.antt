@@ -6,5 +6,5 @@ use Rattle.link_sets.specs.Neighbours.{code_count}
 use Rattle.excerpts.specs.declared.neighbours.Neighbours.{Neighbours}
 
 -- the neighbours that are left
-abbrev pub left_of : Neighbours → List ℕ
-left_of s = filter (connected s.net.now.sets s.point) (range_with_len s.from (code_count - s.from))
+abbrev pub neighbours_left : Neighbours → List ℕ
+neighbours_left s = filter (connected s.net.now.sets s.point) (range_with_len s.from (code_count - s.from))

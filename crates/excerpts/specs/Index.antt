@@ -34,19 +34,19 @@ pub record IsIndexFrom (position : ℕ) (joints : List Joint) (sets : List LinkS
   pub tells : (y z : ℕ) → y < 16384 → z < 16384 → IsHeld sets (set_between (drop position sets) y z) (at_key (λ (j : Joint). j.pair) (joint_of y z) joints)
 
 -- the index of all sets
-abbrev pub IsIndex : List Joint → List LinkSet → Type 0
-IsIndex joints sets = IsIndexFrom 0 joints sets
+abbrev pub IsJointIndex : List Joint → List LinkSet → Type 0
+IsJointIndex joints sets = IsIndexFrom 0 joints sets
 
 -- the index has the pair, with a set that is available
 abbrev pub is_up : List Joint → ℕ → ℕ → Bool
 is_up joints y z = option_map_or (λ (j : Joint). j.up) (at_key (λ (j : Joint). j.pair) (joint_of y z) joints) false
 
 -- the joints of smaller pairs stand before that place, and all others from there on
-pub record IsFirst (pair : ℕ) (joints : List Joint) (position : ℕ) : Type 0 where
+pub record IsFirstJoint (pair : ℕ) (joints : List Joint) (position : ℕ) : Type 0 where
   pub within : position ≤ length joints
   pub parts : IsPartitionPoint (λ (j : Joint). j.pair < pair) (λ (j : Joint). pair ≤ j.pair) joints position
 
 -- where the joints of each point begin, and after the last point if they end
 pub record AreFirsts (firsts : List ℕ) (joints : List Joint) : Type 0 where
   pub long : length firsts ≡ 16385
-  pub right : (y : ℕ) → y < 16385 → IsFirst (joint_of y 0) joints (slice_index firsts y)
+  pub right : (y : ℕ) → y < 16385 → IsFirstJoint (joint_of y 0) joints (slice_index firsts y)

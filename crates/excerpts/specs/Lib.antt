@@ -1,3 +1,3 @@
-pub mod Excerpts
+pub mod Excerpt
 pub mod Index
 pub mod Around

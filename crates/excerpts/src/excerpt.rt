@@ -6,8 +6,8 @@ ghost use Rattle.net_items.specs.Keyed.{IsRising};
 ghost use Rattle.net_items.specs.Lookups.{point_at, mate_of as the_mate, is_stp as stp_is, row_at, set_between as between};
 ghost use Rattle.link_sets.specs.Availability.{connected};
 ghost use Rattle.link_sets.specs.Neighbours.{neighbours as neighbours_of};
-ghost use Rattle.excerpts.specs.Around.{left_of};
-ghost use Rattle.excerpts.specs.Excerpts.{ExcerptValue, content_at, content_in, content_of, excerpt_at, is_read_by, IsAnswer, IsRight};
+ghost use Rattle.excerpts.specs.Around.{neighbours_left};
+ghost use Rattle.excerpts.specs.Excerpt.{ExcerptValue, content_at, content_in, content_of, excerpt_at, is_read_by, IsExcerptAnswer, IsRight};
 
 use crate::faults::ExcerptFault;
 use crate::reading::{are_same_reads, are_same_row_points, is_read, row_in};
@@ -30,7 +30,7 @@ pub struct Excerpt {
 
 impl Model for Excerpt {
     ghost use Rattle.std.specs.Arc.{arc_value};
-    ghost use Rattle.excerpts.specs.Excerpts.{ExcerptValue, IsRight};
+    ghost use Rattle.excerpts.specs.Excerpt.{ExcerptValue, IsRight};
 
     ghost Value = { ExcerptValue };
 
@@ -79,7 +79,7 @@ impl Excerpt {
     /// The excerpt of a destination. It shares the network and the plan. It is refused if the network has no plan for
     /// the destination, and, last, if memory is refused.
     pub fn of(net: &Frozen, dest: PointCode) -> Result<Excerpt, ExcerptFault>
-        ensures { IsAnswer (excerpt_at net.now dest) result }
+        ensures { IsExcerptAnswer (excerpt_at net.now dest) result }
     {
         let network = net.net();
         network.validity();
@@ -164,22 +164,22 @@ impl Excerpt {
     }
 
     /// Whether an available set joins two points.
-    pub fn is_connected(&self, y: PointCode, z: PointCode) -> bool
-        ensures { result ≡ connected self.now.network.sets y z }
+    pub fn is_connected(&self, point: PointCode, other: PointCode) -> bool
+        ensures { result ≡ connected self.now.network.sets point other }
     {
-        self.net.is_connected(y, z)
+        self.net.is_connected(point, other)
     }
 
     /// The set that joins two points, in either order.
-    pub fn set_between(&self, y: PointCode, z: PointCode) -> Option<&LinkSet>
-        ensures { option_copied result ≡ between self.now.network.sets y z }
+    pub fn set_between(&self, point: PointCode, other: PointCode) -> Option<&LinkSet>
+        ensures { option_copied result ≡ between self.now.network.sets point other }
     {
-        self.net.set_between(y, z)
+        self.net.set_between(point, other)
     }
 
     /// The points that available sets join to a point, in rising code.
     pub fn neighbours(&self, point: PointCode) -> Neighbours<'_>
-        ensures { left_of result ≡ neighbours_of self.entry.now.network.sets point }
+        ensures { neighbours_left result ≡ neighbours_of self.entry.now.network.sets point }
     {
         self.net.neighbours(point)
     }

@@ -6,7 +6,7 @@ ghost use Rattle.net_items.specs.Lookups.{set_between as between};
 ghost use Rattle.net_data.specs.Valid.{IsValid};
 ghost use Rattle.link_sets.specs.Availability.{connected};
 ghost use Rattle.link_sets.specs.Neighbours.{neighbours as neighbours_of, next_from, IsCodeFrom};
-ghost use Rattle.excerpts.specs.Around.{left_of};
+ghost use Rattle.excerpts.specs.Around.{neighbours_left};
 
 use crate::indexed::Indexed;
 use crate::neighbours::Neighbours;
@@ -67,30 +67,30 @@ impl Frozen {
     }
 
     /// Whether an available set joins two points (own, after Q.704 clause 3.2).
-    pub fn is_connected(&self, y: PointCode, z: PointCode) -> bool
-        ensures { result ≡ connected self.now.sets y z }
+    pub fn is_connected(&self, point: PointCode, other: PointCode) -> bool
+        ensures { result ≡ connected self.now.sets point other }
     {
-        self.indexed.is_connected(y, z)
+        self.indexed.is_connected(point, other)
     }
 
     /// The set that joins two points, in either order.
-    pub fn set_between(&self, y: PointCode, z: PointCode) -> Option<&LinkSet>
-        ensures { option_copied result ≡ between self.now.sets y z }
+    pub fn set_between(&self, point: PointCode, other: PointCode) -> Option<&LinkSet>
+        ensures { option_copied result ≡ between self.now.sets point other }
     {
-        self.indexed.set_between(y, z)
+        self.indexed.set_between(point, other)
     }
 
-    /// The first point of code `from` or above that an available set joins to `y`.
-    pub fn next_neighbour(&self, y: PointCode, from: u16) -> Option<PointCode>
-        ensures value { result ≡ next_from (connected self.now.sets y) from }
+    /// The first point of code `from` or above that an available set joins to the point.
+    pub fn next_neighbour(&self, point: PointCode, from: u16) -> Option<PointCode>
+        ensures value { result ≡ next_from (connected self.now.sets point) from }
         ensures within { IfSome result (IsCodeFrom from) }
     {
-        self.indexed.next_neighbour(y, from)
+        self.indexed.next_neighbour(point, from)
     }
 
     /// The points that available sets join to a point, in rising code.
     pub fn neighbours(&self, point: PointCode) -> Neighbours<'_>
-        ensures { left_of result ≡ neighbours_of self.entry.now.sets point }
+        ensures { neighbours_left result ≡ neighbours_of self.entry.now.sets point }
     {
         Neighbours::new(&self.indexed, point)
     }

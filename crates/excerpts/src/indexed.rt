@@ -24,13 +24,13 @@ pub struct Indexed {
 
 impl Model for Indexed {
     ghost use Rattle.net_data.specs.Network.{Network};
-    ghost use Rattle.excerpts.specs.Index.{IsIndex};
+    ghost use Rattle.excerpts.specs.Index.{IsJointIndex};
 
     ghost Value = { Network };
 
     ghost view = { λ f. f.net };
 
-    ghost invariant = { λ f. IsIndex f.joints f.net.sets };
+    ghost invariant = { λ f. IsJointIndex f.joints f.net.sets };
 }
 
 impl Indexed {
@@ -58,28 +58,28 @@ impl Indexed {
     }
 
     /// Whether an available set joins two points (own, after Q.704 clause 3.2).
-    pub fn is_connected(&self, y: PointCode, z: PointCode) -> bool
-        ensures { result ≡ connected self.now.sets y z }
+    pub fn is_connected(&self, point: PointCode, other: PointCode) -> bool
+        ensures { result ≡ connected self.now.sets point other }
     {
-        match find_joint(self.joints.of_point(y), y, z) {
+        match find_joint(self.joints.of_point(point), point, other) {
             Some(joint) => joint.up,
             None => false,
         }
     }
 
     /// The set that joins two points, in either order.
-    pub fn set_between(&self, y: PointCode, z: PointCode) -> Option<&LinkSet>
-        ensures { option_copied result ≡ between self.now.sets y z }
+    pub fn set_between(&self, point: PointCode, other: PointCode) -> Option<&LinkSet>
+        ensures { option_copied result ≡ between self.now.sets point other }
     {
-        let joint = find_joint(self.joints.of_point(y), y, z)?;
+        let joint = find_joint(self.joints.of_point(point), point, other)?;
         Some(&self.net.sets()[joint.position])
     }
 
-    /// The first point of code `from` or above that an available set joins to `y`.
-    pub fn next_neighbour(&self, y: PointCode, from: u16) -> Option<PointCode>
-        ensures value { result ≡ next_from (connected self.now.sets y) from }
+    /// The first point of code `from` or above that an available set joins to the point.
+    pub fn next_neighbour(&self, point: PointCode, from: u16) -> Option<PointCode>
+        ensures value { result ≡ next_from (connected self.now.sets point) from }
         ensures within { IfSome result (IsCodeFrom from) }
     {
-        next_up(self.joints.of_point(y), y, from)
+        next_up(self.joints.of_point(point), point, from)
     }
 }

@@ -4,7 +4,7 @@ ghost use Rattle.std.specs.Prelude.{◌≡◌, ◌<◌, ◌≤◌, ℕ, IfOk, le
 ghost use Rattle.std.specs.List.{AllWithin};
 ghost use Rattle.net_items.specs.Keyed.{IsRising, at_key};
 ghost use Rattle.net_sets.specs.Joints.{joint_of};
-ghost use Rattle.excerpts.specs.Index.{IsFirst, AreFirsts};
+ghost use Rattle.excerpts.specs.Index.{IsFirstJoint, AreFirsts};
 
 use crate::index::Joint;
 use point_codes::PointCode;
@@ -37,7 +37,7 @@ fn first_from(joints: &[Joint], before: usize, pair: u32) -> usize
     requires within { before ≤ length joints.now }
     requires less { AllWithin (λ j. j.pair < pair) joints.now 0 before }
     requires rise { IsRising (λ j. j.pair) joints.now }
-    ensures { IsFirst pair joints.now result }
+    ensures { IsFirstJoint pair joints.now result }
 {
     let mut at = before;
     while at < joints.len() && joints[at].pair < pair {
@@ -70,14 +70,14 @@ impl Joints {
         Ok(Joints { list, firsts })
     }
 
-    /// The joints of the pairs whose first point is `y`.
-    pub fn of_point(&self, y: PointCode) -> &[Joint]
+    /// The joints of the pairs whose first point is this one.
+    pub fn of_point(&self, point: PointCode) -> &[Joint]
         ensures rise { IsRising (λ j. j.pair) result.now }
-        ensures tells { (z : ℕ) → z < 16384 → at_key (λ j. j.pair) (joint_of y z) result.now ≡ at_key (λ j. j.pair) (joint_of y z) self.now }
+        ensures tells { (z : ℕ) → z < 16384 → at_key (λ j. j.pair) (joint_of point z) result.now ≡ at_key (λ j. j.pair) (joint_of point z) self.now }
     {
-        let point = usize::from(y.number());
-        let from = self.firsts[point];
-        let to = self.firsts[point + 1];
+        let at = usize::from(point.number());
+        let from = self.firsts[at];
+        let to = self.firsts[at + 1];
         &self.list[from..to]
     }
 }

@@ -2,7 +2,7 @@
 
 ghost use Rattle.std.specs.Prelude.{◌≡◌};
 ghost use Rattle.profile.specs.Whole.{scratch};
-ghost use Rattle.excerpts.specs.Excerpts.{ExcerptValue, content_of, content_source, source_of, IsRight};
+ghost use Rattle.excerpts.specs.Excerpt.{ExcerptValue, content_of, content_source, source_of, IsRight};
 
 /// The law: the table of an excerpt is the one of what it reads alone. So excerpts that are equal have equal tables.
 pub fn same_table_law()

@@ -10,7 +10,7 @@
 //! 4. An excerpt shares the network and the plan. Two excerpts are equal if their tables read the same.
 //! 5. Two networks that agree on what a table reads give the same table.
 //!
-//! Stands on `net_data`, `profile`. A change here also changes specs/ (Around, Excerpts, Index), proofs/ and must-
+//! Stands on `net_data`, `profile`. A change here also changes specs/ (Around, Excerpt, Index), proofs/ and must-
 //! fail/.
 #![tactic(auto)]
 

@@ -3,7 +3,7 @@
 ghost use Rattle.std.specs.Prelude.{◌≡◌};
 ghost use Rattle.std.specs.Iterator.{YieldsFirst, item_count};
 ghost use Rattle.link_sets.specs.Neighbours.{neighbours as neighbours_of};
-ghost use Rattle.excerpts.specs.Around.{left_of};
+ghost use Rattle.excerpts.specs.Around.{neighbours_left};
 
 use crate::indexed::Indexed;
 use point_codes::PointCode;
@@ -21,7 +21,7 @@ pub struct Neighbours<'a> {
 impl<'a> Neighbours<'a> {
     /// All neighbours of a point.
     pub fn new(net: &'a Indexed, point: PointCode) -> Neighbours<'a>
-        ensures { left_of result ≡ neighbours_of net.entry.now.sets point }
+        ensures { neighbours_left result ≡ neighbours_of net.entry.now.sets point }
     {
         Neighbours {
             net,
@@ -34,9 +34,9 @@ impl<'a> Neighbours<'a> {
 impl<'a> Iterator for Neighbours<'a> {
     type Item = PointCode;
 
-    ghost next_gives = { YieldsFirst left_of };
+    ghost next_gives = { YieldsFirst neighbours_left };
 
-    ghost remaining = { item_count left_of };
+    ghost remaining = { item_count neighbours_left };
 
     fn next(&mut self) -> Option<PointCode> {
         let z = self.net.next_neighbour(self.point, self.from)?;

@@ -5,7 +5,7 @@ ghost use Rattle.std.specs.List.{list_any};
 ghost use Rattle.std.specs.Option.{option_copied, MatchOption};
 ghost use Rattle.net_items.specs.Keyed.{IsRising};
 ghost use Rattle.net_items.specs.Lookups.{joins, row_at, is_stp as stp_is};
-ghost use Rattle.excerpts.specs.Excerpts.{kind_of as the_kind, row_point as the_row_point, leads as row_leads, is_read_by};
+ghost use Rattle.excerpts.specs.Excerpt.{point_kind as the_kind, row_point as the_row_point, leads as row_leads, is_read_by};
 
 use net_items::copies::position_of_row;
 use net_items::equals::{is_same_point, is_same_set};
@@ -15,34 +15,34 @@ use plan_rows::uses::is_via;
 use point_codes::PointCode;
 
 /// The row of a point, among rows in rising code.
-pub fn row_in(rows: &[Row], y: PointCode) -> Option<&Row>
+pub fn row_in(rows: &[Row], point: PointCode) -> Option<&Row>
     requires { IsRising (λ r. r.point) rows.now }
-    ensures { option_copied result ≡ row_at rows.now y }
+    ensures { option_copied result ≡ row_at rows.now point }
 {
-    match position_of_row(rows, y) {
+    match position_of_row(rows, point) {
         Ok(at) => Some(&rows[at]),
         Err(_) => None,
     }
 }
 
 /// Whether a point has a row that leads to another.
-fn leads(rows: &[Row], y: PointCode, z: PointCode) -> bool
+fn leads(rows: &[Row], point: PointCode, via: PointCode) -> bool
     requires { IsRising (λ r. r.point) rows.now }
-    ensures { result ≡ row_leads rows.now y z }
+    ensures { result ≡ row_leads rows.now point via }
 {
-    match row_in(rows, y) {
-        Some(row) => is_via(z, row),
+    match row_in(rows, point) {
+        Some(row) => is_via(row, via),
         None => false,
     }
 }
 
 /// Whether a point is a transfer point with a row.
-fn is_planned_transfer(points: &[Point], rows: &[Row], y: PointCode) -> bool
+fn is_planned_transfer(points: &[Point], rows: &[Row], point: PointCode) -> bool
     requires points_rise { IsRising (λ p. p.code) points.now }
     requires rows_rise { IsRising (λ r. r.point) rows.now }
-    ensures { result ≡ (stp_is points.now y && is_some (row_at rows.now y)) }
+    ensures { result ≡ (stp_is points.now point && is_some (row_at rows.now point)) }
 {
-    is_stp(points, y) && row_in(rows, y).is_some()
+    is_stp(points, point) && row_in(rows, point).is_some()
 }
 
 /// Whether an end of a set is a transfer point with a row.

@@ -1,11 +1,10 @@
 //! Which sets are available, and the set between two points.
 
 ghost use Rattle.std.specs.Prelude.{◌≡◌, ◌≤◌, length};
-ghost use Rattle.std.specs.Option.{option_copied};
-ghost use Rattle.net_items.specs.Lookups.{set_between as between};
 ghost use Rattle.link_sets.specs.Availability.{set_available as has_available, connected, IsMask};
 
 use net_items::LinkSet;
+use net_items::lookups::set_between;
 use point_codes::PointCode;
 
 /// Whether at least one link of the set is available (own, after Q.704 clause 3.2).
@@ -18,18 +17,11 @@ pub fn set_available(set: &LinkSet) -> bool
         .any(|link| link.marks.available())
 }
 
-/// The set that joins two points, in either order; the first if there are more.
-pub fn set_between(sets: &[LinkSet], y: PointCode, z: PointCode) -> Option<&LinkSet>
-    ensures { option_copied result ≡ between sets.now y z }
-{
-    net_items::lookups::find_set_between(sets, y, z)
-}
-
 /// Whether an available set joins two points.
-pub fn is_connected(sets: &[LinkSet], y: PointCode, z: PointCode) -> bool
-    ensures { result ≡ connected sets.now y z }
+pub fn is_connected(sets: &[LinkSet], point: PointCode, other: PointCode) -> bool
+    ensures { result ≡ connected sets.now point other }
 {
-    match set_between(sets, y, z) {
+    match set_between(sets, point, other) {
         Some(set) => set_available(set),
         None => false,
     }

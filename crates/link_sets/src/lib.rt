@@ -12,5 +12,6 @@
 pub mod availability;
 pub mod neighbours;
 
-pub use availability::{is_connected, mask, set_available, set_between};
+pub use availability::{is_connected, mask, set_available};
 pub use neighbours::{Neighbours, next_neighbour};
+pub use net_items::lookups::set_between;

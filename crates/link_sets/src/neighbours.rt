@@ -11,12 +11,12 @@ use net_items::LinkSet;
 use point_codes::PointCode;
 
 /// The point that a set joins to another.
-fn other_end(set: &LinkSet, y: PointCode) -> Option<PointCode>
-    ensures { result ≡ other_end_of y set.now }
+fn other_end(set: &LinkSet, point: PointCode) -> Option<PointCode>
+    ensures { result ≡ other_end_of point set.now }
 {
-    if set.a == y {
+    if set.a == point {
         Some(set.b)
-    } else if set.b == y {
+    } else if set.b == point {
         Some(set.a)
     } else {
         None
@@ -26,15 +26,15 @@ fn other_end(set: &LinkSet, y: PointCode) -> Option<PointCode>
 /// The lesser of a neighbour and the one over this set.
 fn earlier(
     sets: &[LinkSet],
-    y: PointCode,
+    point: PointCode,
     from: u16,
     set: &LinkSet,
     least: Option<PointCode>,
 ) -> Option<PointCode>
-    requires { IfSome least (IsNeighbour sets.now y from) }
-    ensures { IsEarlier sets.now y from set.now least result }
+    requires { IfSome least (IsNeighbour sets.now point from) }
+    ensures { IsEarlier sets.now point from set.now least result }
 {
-    let Some(z) = other_end(set, y) else {
+    let Some(z) = other_end(set, point) else {
         return least;
     };
     if z.number() < from {
@@ -45,21 +45,21 @@ fn earlier(
     {
         return least;
     }
-    if is_connected(sets, y, z) {
+    if is_connected(sets, point, z) {
         Some(z)
     } else {
         least
     }
 }
 
-/// The first point of code `from` or above that an available set joins to `y`.
-pub fn next_neighbour(sets: &[LinkSet], y: PointCode, from: u16) -> Option<PointCode>
-    ensures value { result ≡ next_from (connected sets.now y) from }
+/// The first point of code `from` or above that an available set joins to the point.
+pub fn next_neighbour(sets: &[LinkSet], point: PointCode, from: u16) -> Option<PointCode>
+    ensures value { result ≡ next_from (connected sets.now point) from }
     ensures within { IfSome result (IsCodeFrom from) }
 {
     let mut least = None;
     for i in 0..sets.len() {
-        least = earlier(sets, y, from, &sets[i], least);
+        least = earlier(sets, point, from, &sets[i], least);
     }
     least
 }

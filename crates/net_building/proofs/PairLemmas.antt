@@ -9,10 +9,10 @@ use Rattle.net_items.specs.Lookups.{point_at, has_point, is_stp, mate_of}
 use Rattle.net_data.specs.declared.events.Event.{Event}
 use Rattle.net_data.specs.declared.events.Event.TheVariants as on
 use Rattle.net_data.specs.declared.events.Refusal.TheVariants.{PairUsed}
-use Rattle.net_data.specs.Edits.{refusal_of}
+use Rattle.net_data.specs.Edits.{refusal_of, apply_all}
 use Rattle.net_data.specs.Valid.{AreMates}
 use Rattle.net_data.proofs.PairLemmas.{mate_there}
-use Rattle.net_building.specs.Building.{apply_all, pair_events}
+use Rattle.net_building.specs.Building.{pair_events}
 use Rattle.net_building.proofs.EndLemmas.{found_all}
 use Rattle.net_building.proofs.StepLemmas.{step, passed, made}
 use Rattle.net_building.proofs.MateLemmas.{told_mate-none, paired, also, has_point-paired, is_stp-paired, mate_of-paired}

@@ -13,10 +13,10 @@ use Rattle.net_sets.specs.Sets.{is_distinct, is_nil}
 use Rattle.plan_rows.specs.Rows.{all_vias, is_lower, is_free, has_mate_row, is_small_row}
 use Rattle.plan_rows.specs.Causes.{cause_of, wrong_row}
 use Rattle.net_data.specs.declared.events.Event.{Event}
-use Rattle.net_data.specs.Edits.{refusal_of}
+use Rattle.net_data.specs.Edits.{refusal_of, apply_all}
 use Rattle.net_data.specs.Valid.{IsRightRow, IsRightPlan}
 use Rattle.net_data.proofs.OrderLemmas.{in_order_rising}
-use Rattle.net_building.specs.Building.{apply_all, plan_event}
+use Rattle.net_building.specs.Building.{plan_event}
 use Rattle.net_building.proofs.EndLemmas.{below_next, put_end}
 use Rattle.net_building.proofs.StepLemmas.{step, passed, skipped, made}
 

@@ -6,8 +6,8 @@ use Rattle.net_items.specs.declared.items.Point.{Point}
 use Rattle.net_items.specs.Keyed.{IsRising}
 use Rattle.net_items.specs.Lookups.{has_point}
 use Rattle.net_data.specs.declared.events.Event.{Event}
-use Rattle.net_data.specs.Edits.{refusal_of, with_mate}
-use Rattle.net_building.specs.Building.{apply_all, point_event}
+use Rattle.net_data.specs.Edits.{refusal_of, with_mate, apply_all}
+use Rattle.net_building.specs.Building.{point_event}
 use Rattle.net_building.proofs.EndLemmas.{below_next, put_end, none_below}
 use Rattle.net_building.proofs.StepLemmas.{step, passed, made}
 

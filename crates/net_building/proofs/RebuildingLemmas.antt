@@ -6,7 +6,8 @@ use Rattle.net_items.specs.declared.items.Point.{Point}
 use Rattle.net_data.specs.declared.events.Event.{Event}
 use Rattle.net_data.specs.Network.{Network}
 use Rattle.net_data.specs.Valid.{IsValid}
-use Rattle.net_building.specs.Building.{apply_all, empty_of, events_of, pair_events, set_events, plan_event}
+use Rattle.net_data.specs.Edits.{apply_all}
+use Rattle.net_building.specs.Building.{empty_of, events_of, pair_events, set_events, plan_event}
 use Rattle.net_building.proofs.EndLemmas.{IsRising-mapped}
 use Rattle.net_building.proofs.StepLemmas.{made}
 use Rattle.net_building.proofs.PointLemmas.{bare, points_made}

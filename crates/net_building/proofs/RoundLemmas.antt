@@ -12,8 +12,8 @@ use Rattle.net_sets.specs.Sets.{has_link, set_passes, with_change}
 use Rattle.net_data.specs.Network.{Network}
 use Rattle.net_data.specs.declared.events.Event.{Event}
 use Rattle.net_data.specs.declared.events.Event.TheVariants as on
-use Rattle.net_data.specs.Edits.{refusal_of}
-use Rattle.net_building.specs.Building.{apply_all, is_needed, changes_of}
+use Rattle.net_data.specs.Edits.{refusal_of, apply_all}
+use Rattle.net_building.specs.Building.{is_needed, changes_of}
 use Rattle.net_building.proofs.EndLemmas.{below_next, found_after, edit_after, IsRising-swap, IsRising-mapped}
 use Rattle.net_building.proofs.StepLemmas.{step, passed, made}
 use Rattle.net_building.proofs.LinkLemmas.{change_if, stepped, stepped-keeps}

@@ -14,10 +14,10 @@ use Rattle.net_items.specs.Lookups.{has_point, joins, set_at, set_between, adjac
 use Rattle.net_sets.specs.Sets.{is_distinct, is_nil, IsOnePerPair}
 use Rattle.net_data.specs.declared.events.Event.{Event}
 use Rattle.net_data.specs.declared.events.Event.TheVariants as on
-use Rattle.net_data.specs.Edits.{refusal_of}
+use Rattle.net_data.specs.Edits.{refusal_of, apply_all}
 use Rattle.net_data.specs.Valid.{IsRightSet}
 use Rattle.net_data.proofs.PreservationLemmas.{joins_back}
-use Rattle.net_building.specs.Building.{apply_all, changes_of, set_events}
+use Rattle.net_building.specs.Building.{changes_of, set_events}
 use Rattle.net_building.proofs.EndLemmas.{below_next, put_end, none_below}
 use Rattle.net_building.proofs.StepLemmas.{step, passed, skipped, made}
 use Rattle.net_building.proofs.LinkLemmas.{fresh, all_marked, new_links-fresh, is_distinct-rising, codes_small, codes_some}

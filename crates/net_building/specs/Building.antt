@@ -1,5 +1,5 @@
 -- The events of a network, and what events make of one.
-use Rattle.std.specs.Prelude.{ℕ, nat_lt, Bool, true, false, not, List, [], ◌∷◌, ◌++◌, Option, Some, None, Result, Ok, Err, map, filter, if◌then◌else◌}
+use Rattle.std.specs.Prelude.{ℕ, nat_lt, Bool, true, false, not, List, [], ◌∷◌, ◌++◌, Option, map, filter, if◌then◌else◌}
 use Rattle.std.specs.List.{flat_map}
 use Rattle.std.specs.Option.{option_map_or}
 use Rattle.link_state.specs.declared.marks.End.TheVariants.{First, Second}
@@ -12,19 +12,7 @@ use Rattle.net_items.specs.declared.items.LinkSet.{LinkSet}
 use Rattle.net_items.specs.declared.items.Plan.{Plan}
 use Rattle.net_data.specs.declared.events.Event.{Event}
 use Rattle.net_data.specs.declared.events.Event.TheVariants as on
-use Rattle.net_data.specs.declared.events.Refusal.{Refusal}
 use Rattle.net_data.specs.Network.{Network}
-use Rattle.net_data.specs.Edits.{refusal_of, changed}
-
--- the refusal, else what comes after
-abbrev pub after : Option Refusal → Result Network Refusal → Result Network Refusal
-after (Some refusal) rest = Err refusal
-after None rest = rest
-
--- each event in turn, or the first refusal
-abbrev pub apply_all : Network → List Event → Result Network Refusal
-apply_all net [] = Ok net
-apply_all net (e ∷ es) = after (refusal_of net e) (apply_all (changed net e) es)
 
 -- the empty network of the same network indicator, with the option of transfer-restricted messages
 abbrev pub empty_of : Network → Network

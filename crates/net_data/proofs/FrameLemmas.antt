@@ -7,8 +7,8 @@ use Rattle.net_items.specs.declared.items.Point.{Point}
 use Rattle.net_items.specs.declared.items.LinkSet.{LinkSet}
 use Rattle.net_items.specs.declared.items.Plan.{Plan}
 use Rattle.net_items.specs.declared.lists.Row.{Row}
-use Rattle.net_items.specs.Lookups.{has_point, is_stp, mate_of, adjacent}
-use Rattle.plan_rows.specs.Rows.{all_vias, is_via, is_lower, is_free, has_equal_row, has_mate_row}
+use Rattle.net_items.specs.Lookups.{has_point, is_stp, mate_of, adjacent, is_via}
+use Rattle.plan_rows.specs.Rows.{all_vias, is_lower, is_free, has_equal_row, has_mate_row}
 use Rattle.net_data.specs.Valid.{IsRightRow, IsRightPlan, IsRightSet}
 use Rattle.net_items.proofs.KeyedLemmas.{All-then}
 
@@ -107,7 +107,7 @@ all_classes-in p q (vias ∷ classes) f h =
     let both = and_parts (list_all p vias) _ h in
     and_from (list_all q vias) _ (all_in p q vias (λ z m t. f z (or_left (list_any (λ via. eqb via z) vias) _ m) t) both.0) (all_classes-in p q classes (λ z m t. f z (or_right (list_any (λ via. eqb via z) vias) _ m) t) both.1)
 
-pub all_vias-in : (p q : ℕ → Bool) (r : Row) → ((z : ℕ) → is_via z r ≡ true → p z ≡ true → q z ≡ true) → all_vias p r ≡ true → all_vias q r ≡ true
+pub all_vias-in : (p q : ℕ → Bool) (r : Row) → ((z : ℕ) → is_via r z ≡ true → p z ≡ true → q z ≡ true) → all_vias p r ≡ true → all_vias q r ≡ true
 all_vias-in p q r f h = all_classes-in p q r.classes f h
 
 -- a via of the row passes what all do
@@ -123,7 +123,7 @@ passes_class p z (vias ∷ classes) m h =
     let both = and_parts (list_all p vias) _ h in
     ⊎_elim (λ e. passes p z vias e both.0) (λ e. passes_class p z classes e both.1) (or_cases (list_any (λ via. eqb via z) vias) _ m)
 
-pub via_passes : (p : ℕ → Bool) (z : ℕ) (r : Row) → is_via z r ≡ true → all_vias p r ≡ true → p z ≡ true
+pub via_passes : (p : ℕ → Bool) (z : ℕ) (r : Row) → is_via r z ≡ true → all_vias p r ≡ true → p z ≡ true
 via_passes p z r m h = passes_class p z r.classes m h
 
 -- what holds of all, and follows for another fact where a test fails
@@ -142,8 +142,8 @@ neither t u (x ∷ xs) h k =
 -- a row of the same plan stays right where what it uses stays
 module _ (points points' : List Point) (sets sets' : List LinkSet) (dest : ℕ) (rows : List Row) (r : Row)
     (stps : (z : ℕ) → adjacent sets r.point z ≡ true → is_stp points z ≡ true → is_stp points' z ≡ true)
-    (joins_stay : (z : ℕ) → is_via z r ≡ true → adjacent sets r.point z ≡ true → adjacent sets' r.point z ≡ true)
-    (free_stays : (z : ℕ) → is_via z r ≡ true → is_free points dest r.point z ≡ true → is_free points' dest r.point z ≡ true)
+    (joins_stay : (z : ℕ) → is_via r z ≡ true → adjacent sets r.point z ≡ true → adjacent sets' r.point z ≡ true)
+    (free_stays : (z : ℕ) → is_via r z ≡ true → is_free points dest r.point z ≡ true → is_free points' dest r.point z ≡ true)
     (flag_stays : (r.mate && not (has_mate_row points sets dest rows r)) ≡ false → (r.mate && not (has_mate_row points' sets' dest rows r)) ≡ false) where
   is_lower-kept : (z : ℕ) → adjacent sets r.point z ≡ true → is_lower points dest rows r z ≡ true → is_lower points' dest rows r z ≡ true
   is_lower-kept z j h = grind (arith, stps z j)

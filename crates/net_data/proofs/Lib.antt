@@ -3,3 +3,4 @@ pub mod FrameLemmas
 pub mod PreservationLemmas
 pub mod PairLemmas
 pub mod RemovalLemmas
+pub mod SharedLemmas

@@ -11,8 +11,8 @@ use Rattle.net_items.specs.declared.lists.Row.{Row}
 use Rattle.net_data.specs.declared.events.Event.TheVariants as on
 use Rattle.net_items.specs.Keyed.{IsRising}
 use Rattle.net_data.specs.Network.{Network}
-use Rattle.net_items.specs.Lookups.{point_at, has_point, is_stp, kind_is_stp, mate_of}
-use Rattle.plan_rows.specs.Rows.{is_via, is_mate, has_mate_row}
+use Rattle.net_items.specs.Lookups.{point_at, has_point, is_stp, kind_is_stp, mate_of, is_via}
+use Rattle.plan_rows.specs.Rows.{is_mate, has_mate_row}
 use Rattle.net_data.specs.Valid.{IsRightRow, IsRightPlan, IsRightSet, AreMates, IsValid}
 use Rattle.plan_rows.specs.Uses.{either_uses, uses_pair, is_flagged, has_flag}
 use Rattle.net_data.specs.Edits.{refusal_of, changed, with_mate, set_mate}
@@ -165,7 +165,7 @@ module _ (net : Network) (v : IsValid net) where
       IsRightRow-kept net.points points' net.sets net.sets dest rows r
       (λ z j h. stps z ∙ h)
       (λ z m j. j)
-      (λ z m h. rw (mates r.point) (free_pair p q r.point z dest (λ y. is_via y r) (mate_of net.points r.point) unused m h))
+      (λ z m h. rw (mates r.point) (free_pair p q r.point z dest (λ y. is_via r y) (mate_of net.points r.point) unused m h))
       (λ flag. cond_both (eqb p r.point) (Some q) (cond (eqb q r.point) (Some p) (mate_of net.points r.point)) (λ o. mate_of points' r.point ≡ o → (r.mate && not (has_mate_row points' net.sets dest rows r)) ≡ false)
       (λ is_p k. flag-off r.mate (has_mate_row net.points net.sets dest rows r) (has_mate_row points' net.sets dest rows r) (no_mate-no_flag net.points net.sets dest rows r (subst (λ n. mate_of net.points n ≡ None) (eqb-true p r.point is_p) p_free) flag) flag)
       (λ not_p. cond_both (eqb q r.point) (Some p) (mate_of net.points r.point) (λ o. mate_of points' r.point ≡ o → (r.mate && not (has_mate_row points' net.sets dest rows r)) ≡ false)

@@ -11,8 +11,8 @@ use Rattle.net_items.specs.declared.links.Link.{Link}
 use Rattle.net_data.specs.declared.events.Event.TheVariants as on
 use Rattle.net_items.specs.Keyed.{put, without}
 use Rattle.net_data.specs.Network.{Network}
-use Rattle.net_items.specs.Lookups.{point_at, has_point, is_stp, kind_is_stp, mate_of, joins, set_at, adjacent}
-use Rattle.plan_rows.specs.Rows.{is_via, is_mate}
+use Rattle.net_items.specs.Lookups.{point_at, has_point, is_stp, kind_is_stp, mate_of, joins, set_at, adjacent, is_via}
+use Rattle.plan_rows.specs.Rows.{is_mate}
 use Rattle.net_data.specs.Valid.{IsRightRow, IsRightPlan, IsRightSet, AreMates, IsValid}
 use Rattle.net_sets.specs.Sets.{is_end, has_link, has_last_link, set_passes, new_link, with_link, without_link, edit_set, IsOnePerPair}
 use Rattle.plan_rows.specs.Uses.{is_row_of, uses_point, either_leads, uses_set}
@@ -216,10 +216,10 @@ module _ (net : Network) (v : IsValid net) where
       let row : (dest : ℕ) (rows : List Row) (r : Row) → either_leads net.points s r ≡ false → IsRightRow net.points net.sets dest rows r → IsRightRow net.points sets' dest rows r = λ dest rows r u right.
       IsRightRow-kept net.points net.points net.sets sets' dest rows r
       (λ z j h. h)
-      (λ z m j. stays r.point z (leads_not s.a s.b r.point z (λ y. is_via y r) (λ y w. r.mate && is_mate net.points y w) u (or_left (is_via z r) _ m)) j)
+      (λ z m j. stays r.point z (leads_not s.a s.b r.point z (λ y. is_via r y) (λ y w. r.mate && is_mate net.points y w) u (or_left (is_via r z) _ m)) j)
       (λ z m h. h)
       (flag-kept net.points net.points net.sets sets' dest rows r (λ h. h) refl
-      (λ m on e j. stays r.point m (leads_not s.a s.b r.point m (λ y. is_via y r) (λ y w. r.mate && is_mate net.points y w) u (or_right (is_via m r) _ (rw (on, e) (eq-eqb m m refl)))) j))
+      (λ m on e j. stays r.point m (leads_not s.a s.b r.point m (λ y. is_via r y) (λ y w. r.mate && is_mate net.points y w) u (or_right (is_via r m) _ (rw (on, e) (eq-eqb m m refl)))) j))
       right.is_there right in
       record {
         ni_small = v.ni_small;

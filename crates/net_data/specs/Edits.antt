@@ -1,5 +1,5 @@
 -- What an edit refuses, and what it changes.
-use Rattle.std.specs.Prelude.{◌≡◌, ℕ, Bool, true, false, not, ◌&&◌, ◌||◌, ◌==◌, nat_lt, nat_le, Option, Some, None, is_some, Result, Err, MatchResult, List, [], ◌∷◌, length}
+use Rattle.std.specs.Prelude.{◌≡◌, ℕ, Bool, true, false, not, ◌&&◌, ◌||◌, ◌==◌, nat_lt, nat_le, Option, Some, None, is_some, Result, Ok, Err, MatchResult, List, [], ◌∷◌, length}
 use Rattle.std.specs.List.{list_all, list_any}
 use Rattle.std.specs.Option.{option_map, option_map_or}
 use Rattle.net_items.specs.declared.items.Point.{Point}
@@ -123,14 +123,26 @@ Answers old event result new = IsAnswer (refusal_of old event) (changed old even
 -- whether an edit never takes memory
 abbrev pub takes_none : Event → Bool
 takes_none (on.Link id slc change) = true
-takes_none (on.AddPoint c kind) = false
 takes_none (on.RemovePoint c) = true
 takes_none (on.Pair p q) = true
 takes_none (on.Unpair p) = true
-takes_none (on.AddSet id a b slcs) = false
 takes_none (on.RemoveSet id) = true
-takes_none (on.AddLink id slc) = false
 takes_none (on.RemoveLink id slc) = true
-takes_none (on.SetPlan p) = false
 takes_none (on.DropPlan dest) = true
 takes_none (on.SetTfr b) = true
+takes_none _ = false
+
+-- a network after events, one after the other
+abbrev pub replay : Network → List Event → Network
+replay net [] = net
+replay net (e ∷ es) = replay (changed net e) es
+
+-- the refusal, else what comes after
+abbrev pub unless_refused : Option Refusal → Result Network Refusal → Result Network Refusal
+unless_refused (Some refusal) rest = Err refusal
+unless_refused None rest = rest
+
+-- a network after events, one after the other, or the refusal of the first that is refused
+abbrev pub apply_all : Network → List Event → Result Network Refusal
+apply_all net [] = Ok net
+apply_all net (e ∷ es) = unless_refused (refusal_of net e) (apply_all (changed net e) es)

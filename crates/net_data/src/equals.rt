@@ -11,19 +11,5 @@ use std::sync::Arc;
 pub fn are_same_plans(a: &[Arc<Plan>], b: &[Arc<Plan>]) -> bool
     ensures { IsTrue result ↔ (map arc_value a.now ≡ map arc_value b.now) }
 {
-    let mut xs = a;
-    let mut ys = b;
-    while let Some((x, more)) = xs.split_first() {
-        match ys.split_first() {
-            None => return false,
-            Some((y, others)) => {
-                if !is_same_plan(x, y) {
-                    return false;
-                }
-                xs = more;
-                ys = others;
-            }
-        }
-    }
-    ys.is_empty()
+    a.len() == b.len() && a.iter().zip(b).all(|(x, y)| is_same_plan(x, y))
 }

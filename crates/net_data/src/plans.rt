@@ -40,59 +40,6 @@ fn position_of_plan(list: &[Arc<Plan>], dest: PointCode) -> Result<usize, usize>
     list.binary_search_by_key(&dest, |p| p.dest)
 }
 
-fn any_uses_pair(plans: &[Arc<Plan>], y: PointCode, z: PointCode) -> bool
-    ensures { result ≡ list_any (pair_used y z) (map arc_value plans.now) }
-{
-    let mut rest = plans;
-    while let Some((first, others)) = rest.split_first() {
-        if uses_pair(y, z, first) {
-            return true;
-        }
-        rest = others;
-    }
-    false
-}
-
-fn any_uses_point(plans: &[Arc<Plan>], code: PointCode) -> bool
-    ensures { result ≡ list_any (point_used code) (map arc_value plans.now) }
-{
-    let mut rest = plans;
-    while let Some((first, others)) = rest.split_first() {
-        if uses_point(code, first) {
-            return true;
-        }
-        rest = others;
-    }
-    false
-}
-
-fn any_has_flag(plans: &[Arc<Plan>], y: PointCode) -> bool
-    ensures { result ≡ list_any (flagged y) (map arc_value plans.now) }
-{
-    let mut rest = plans;
-    while let Some((first, others)) = rest.split_first() {
-        if has_flag(y, first) {
-            return true;
-        }
-        rest = others;
-    }
-    false
-}
-
-fn any_uses_set(plans: &[Arc<Plan>], points: &[Point], set: &LinkSet) -> bool
-    requires { IsRising (λ p. p.code) points.now }
-    ensures { result ≡ list_any (set_used points.now set.now) (map arc_value plans.now) }
-{
-    let mut rest = plans;
-    while let Some((first, others)) = rest.split_first() {
-        if uses_set(points, set, first) {
-            return true;
-        }
-        rest = others;
-    }
-    false
-}
-
 fn copy_list(alloc: Global, plans: &[Arc<Plan>]) -> Result<Vec<Arc<Plan>>, AllocError>
     ensures { IfOk result (λ v. map arc_value v.items ≡ map arc_value plans.now) }
 {
@@ -211,24 +158,24 @@ impl Plans {
     }
 
     /// Whether a plan has a row of one point that leads to the other, which isn't its destination.
-    pub fn any_uses_pair(&self, y: PointCode, z: PointCode) -> bool
-        ensures { result ≡ list_any (pair_used y z) self.now }
+    pub fn any_uses_pair(&self, one: PointCode, other: PointCode) -> bool
+        ensures { result ≡ list_any (pair_used one other) self.now }
     {
-        any_uses_pair(self.list.as_slice(), y, z)
+        self.list.iter().any(|plan| uses_pair(one, other, plan))
     }
 
     /// Whether a plan has the point as its destination or in a row.
     pub fn any_uses_point(&self, code: PointCode) -> bool
         ensures { result ≡ list_any (point_used code) self.now }
     {
-        any_uses_point(self.list.as_slice(), code)
+        self.list.iter().any(|plan| uses_point(code, plan))
     }
 
     /// Whether a plan has a row of the point with the mate flag.
-    pub fn any_has_flag(&self, y: PointCode) -> bool
-        ensures { result ≡ list_any (flagged y) self.now }
+    pub fn any_has_flag(&self, point: PointCode) -> bool
+        ensures { result ≡ list_any (flagged point) self.now }
     {
-        any_has_flag(self.list.as_slice(), y)
+        self.list.iter().any(|plan| has_flag(point, plan))
     }
 
     /// Whether a plan has a row of one end of the set that leads to the other.
@@ -236,6 +183,6 @@ impl Plans {
         requires { IsRising (λ p. p.code) points.now }
         ensures { result ≡ list_any (set_used points.now set.now) self.now }
     {
-        any_uses_set(self.list.as_slice(), points, set)
+        self.list.iter().any(|plan| uses_set(points, set, plan))
     }
 }

@@ -1,5 +1,6 @@
 -- What stands in the lists of a network, found by its code, its id or its ends.
 use Rattle.std.specs.Prelude.{ℕ, Bool, true, false, ◌&&◌, ◌||◌, ◌==◌, Option, is_some, List, [], ◌∷◌, ◌++◌, find}
+use Rattle.std.specs.List.{list_any}
 use Rattle.std.specs.Option.{option_map_or, option_and_then}
 use Rattle.net_items.specs.declared.items.Kind.{Kind}
 use Rattle.net_items.specs.declared.items.Kind.TheVariants.{Sep, Stp}
@@ -46,6 +47,10 @@ plan_at plans x = at_key (λ (p : Plan). p.dest) x plans
 
 abbrev pub row_at : List Row → ℕ → Option Row
 row_at rows y = at_key (λ (r : Row). r.point) y rows
+
+-- the point is a via of the row
+abbrev pub is_via : Row → ℕ → Bool
+is_via row z = list_any (λ vias. list_any (λ via. via == z) vias) row.classes
 
 -- all vias of a row, class by class
 abbrev pub concat_vias : List (List ℕ) → List ℕ

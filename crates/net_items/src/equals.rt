@@ -5,27 +5,13 @@ ghost use Rattle.std.specs.Prelude.{◌≡◌, ◌↔◌, IsTrue};
 use crate::items::{LinkSet, Plan, Point};
 use crate::links::Link;
 use crate::lists::{Row, Vias};
-use link_state::{LinkChange, Marks};
+use link_state::LinkChange;
 use point_codes::PointCode;
 
 fn are_same_codes(a: &[PointCode], b: &[PointCode]) -> bool
     ensures { IsTrue result ↔ (a.now ≡ b.now) }
 {
-    let mut xs = a;
-    let mut ys = b;
-    while let Some((x, more)) = xs.split_first() {
-        match ys.split_first() {
-            None => return false,
-            Some((y, others)) => {
-                if x != y {
-                    return false;
-                }
-                xs = more;
-                ys = others;
-            }
-        }
-    }
-    ys.is_empty()
+    a == b
 }
 
 /// Whether the link codes are the same, in the same order.
@@ -38,21 +24,10 @@ pub fn are_same_slcs(a: &[u8], b: &[u8]) -> bool
 fn are_same_classes(a: &[Vias], b: &[Vias]) -> bool
     ensures { IsTrue result ↔ (a.now ≡ b.now) }
 {
-    let mut xs = a;
-    let mut ys = b;
-    while let Some((x, more)) = xs.split_first() {
-        match ys.split_first() {
-            None => return false,
-            Some((y, others)) => {
-                if !are_same_codes(x.as_slice(), y.as_slice()) {
-                    return false;
-                }
-                xs = more;
-                ys = others;
-            }
-        }
-    }
-    ys.is_empty()
+    a.len() == b.len()
+        && a.iter()
+            .zip(b)
+            .all(|(x, y)| are_same_codes(x.as_slice(), y.as_slice()))
 }
 
 fn is_same_row(a: &Row, b: &Row) -> bool
@@ -67,21 +42,7 @@ fn is_same_row(a: &Row, b: &Row) -> bool
 fn are_same_rows(a: &[Row], b: &[Row]) -> bool
     ensures { IsTrue result ↔ (a.now ≡ b.now) }
 {
-    let mut xs = a;
-    let mut ys = b;
-    while let Some((x, more)) = xs.split_first() {
-        match ys.split_first() {
-            None => return false,
-            Some((y, others)) => {
-                if !is_same_row(x, y) {
-                    return false;
-                }
-                xs = more;
-                ys = others;
-            }
-        }
-    }
-    ys.is_empty()
+    a.len() == b.len() && a.iter().zip(b).all(|(x, y)| is_same_row(x, y))
 }
 
 /// Whether two plans are equal.
@@ -91,40 +52,10 @@ pub fn is_same_plan(a: &Plan, b: &Plan) -> bool
     a.dest == b.dest && are_same_rows(a.rows.as_slice(), b.rows.as_slice())
 }
 
-fn is_same_marks(a: &Marks, b: &Marks) -> bool
-    ensures { IsTrue result ↔ (a.now ≡ b.now) }
-{
-    a.failed == b.failed
-        && a.blocked_a == b.blocked_a
-        && a.blocked_b == b.blocked_b
-        && a.inhibited_a == b.inhibited_a
-        && a.inhibited_b == b.inhibited_b
-}
-
-fn is_same_link(a: &Link, b: &Link) -> bool
-    ensures { IsTrue result ↔ (a.now ≡ b.now) }
-{
-    a.slc == b.slc && is_same_marks(&a.marks, &b.marks)
-}
-
 fn are_same_links(a: &[Link], b: &[Link]) -> bool
     ensures { IsTrue result ↔ (a.now ≡ b.now) }
 {
-    let mut xs = a;
-    let mut ys = b;
-    while let Some((x, more)) = xs.split_first() {
-        match ys.split_first() {
-            None => return false,
-            Some((y, others)) => {
-                if !is_same_link(x, y) {
-                    return false;
-                }
-                xs = more;
-                ys = others;
-            }
-        }
-    }
-    ys.is_empty()
+    a == b
 }
 
 /// Whether two sets are equal.
@@ -141,49 +72,21 @@ pub fn is_same_set(a: &LinkSet, b: &LinkSet) -> bool
 pub fn are_same_sets(a: &[LinkSet], b: &[LinkSet]) -> bool
     ensures { IsTrue result ↔ (a.now ≡ b.now) }
 {
-    let mut xs = a;
-    let mut ys = b;
-    while let Some((x, more)) = xs.split_first() {
-        match ys.split_first() {
-            None => return false,
-            Some((y, others)) => {
-                if !is_same_set(x, y) {
-                    return false;
-                }
-                xs = more;
-                ys = others;
-            }
-        }
-    }
-    ys.is_empty()
+    a.len() == b.len() && a.iter().zip(b).all(|(x, y)| is_same_set(x, y))
 }
 
 /// Whether two points are equal.
 pub fn is_same_point(a: &Point, b: &Point) -> bool
     ensures { IsTrue result ↔ (a.now ≡ b.now) }
 {
-    a.code == b.code && a.kind == b.kind && a.mate == b.mate
+    a == b
 }
 
 /// Whether the points are equal.
 pub fn are_same_points(a: &[Point], b: &[Point]) -> bool
     ensures { IsTrue result ↔ (a.now ≡ b.now) }
 {
-    let mut xs = a;
-    let mut ys = b;
-    while let Some((x, more)) = xs.split_first() {
-        match ys.split_first() {
-            None => return false,
-            Some((y, others)) => {
-                if !is_same_point(x, y) {
-                    return false;
-                }
-                xs = more;
-                ys = others;
-            }
-        }
-    }
-    ys.is_empty()
+    a == b
 }
 
 /// Whether the changes are equal.

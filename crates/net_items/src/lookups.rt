@@ -3,7 +3,7 @@
 ghost use Rattle.std.specs.Prelude.{◌≡◌, IfOk, IfErr};
 ghost use Rattle.std.specs.Option.{option_copied};
 ghost use Rattle.net_items.specs.Keyed.{IsRising, IsFoundAt, IsGapAt};
-ghost use Rattle.net_items.specs.Lookups.{point_at, has_point, is_stp as stp, mate_of as mate, set_between, adjacent, row_at};
+ghost use Rattle.net_items.specs.Lookups.{point_at, has_point, is_stp as stp, mate_of as mate, set_between as between, adjacent, row_at};
 
 use crate::items::{Kind, LinkSet, Point};
 use crate::lists::Row;
@@ -84,23 +84,22 @@ pub fn mate_of(points: &[Point], code: PointCode) -> Option<PointCode>
 }
 
 /// The set between two points.
-pub fn find_set_between(sets: &[LinkSet], y: PointCode, z: PointCode) -> Option<&LinkSet>
-    ensures { option_copied result ≡ set_between sets.now y z }
+pub fn set_between(sets: &[LinkSet], point: PointCode, other: PointCode) -> Option<&LinkSet>
+    ensures { option_copied result ≡ between sets.now point other }
 {
-    sets.iter()
-        .find(|s| (s.a == y && s.b == z) || (s.a == z && s.b == y))
+    sets.iter().find(|s| (s.a == point && s.b == other) || (s.a == other && s.b == point))
 }
 
 /// Whether a set joins two points.
-pub fn is_adjacent(sets: &[LinkSet], y: PointCode, z: PointCode) -> bool
-    ensures { result ≡ adjacent sets.now y z }
+pub fn is_adjacent(sets: &[LinkSet], point: PointCode, other: PointCode) -> bool
+    ensures { result ≡ adjacent sets.now point other }
 {
-    find_set_between(sets, y, z).is_some()
+    set_between(sets, point, other).is_some()
 }
 
 /// The row of a point.
-pub fn find_row(rows: &[Row], y: PointCode) -> Option<&Row>
-    ensures { option_copied result ≡ row_at rows.now y }
+pub fn find_row(rows: &[Row], point: PointCode) -> Option<&Row>
+    ensures { option_copied result ≡ row_at rows.now point }
 {
-    rows.iter().find(|r| r.point == y)
+    rows.iter().find(|r| r.point == point)
 }

@@ -1,5 +1,5 @@
 -- Entries that are written are read again.
-use Rattle.std.proofs.Common.{◌≡◌, ℕ, ◌<◌, ◌≤◌, lit<, ◌==◌, Bool, true, false, List, [], ◌∷◌, ◌++◌, map, length, Option, Some, option_map, codes, ap, refl, ◌∙◌, arith, length-append}
+use Rattle.std.proofs.Common.{◌≡◌, ℕ, ◌<◌, ◌≤◌, lit<, ◌==◌, Bool, true, false, List, [], ◌∷◌, ◌++◌, map, length, Some, option_map, codes, ap, refl, ◌∙◌, arith, length-append}
 use Rattle.std.proofs.lemmas.Bool.Decides.{nat_tests}
 use Rattle.std.proofs.lemmas.Fmt.{decimal_nonempty}
 use Rattle.std.specs.List.{AllByRecursion}
@@ -14,18 +14,21 @@ use Rattle.net_items.specs.declared.lists.Row.{Row}
 use Rattle.net_data.specs.declared.events.Event.TheVariants as on
 use Rattle.point_codes.specs.Codes.{code_of, code_text, IsCode}
 use Rattle.tokens.specs.Numbers.{id_of}
-use Rattle.tokens.specs.Kinds.{kind_of, kind_text}
+use Rattle.tokens.specs.Kinds.{kind_text}
 use Rattle.tokens.specs.Marked.{marks_text, marked_of, marked_text, IsMarked}
+use Rattle.tokens.specs.declared.marked.Format.TheVariants.{Two}
 use Rattle.tokens.specs.Pieces.{all_of}
-use Rattle.tokens.specs.Rows.{row_of, row_text, vias_text, classes_text, IsClass, IsRow}
+use Rattle.tokens.specs.Rows.{row_text, vias_text, classes_text, IsClass, IsRow}
 use Rattle.tokens.specs.Words.{word_if, IsWord}
 use Rattle.point_codes.proofs.NumberLemmas.{number_written}
 use Rattle.point_codes.proofs.CodeLemmas.{lacks, code_written}
-use Rattle.tokens.proofs.PiecesLemmas.{lacks-append, join_lacks}
-use Rattle.tokens.proofs.RowLemmas.{decimal_free, code_free, code_some, vias_free, row_writes}
+use Rattle.tokens.proofs.PiecesLemmas.{all_written, lacks-append, join_lacks}
+use Rattle.tokens.proofs.RowLemmas.{decimal_free, code_free, code_some, vias_free}
 use Rattle.tokens.proofs.MarkedLemmas.{marked_writes}
 use Rattle.tokens.proofs.WordsLemmas.{words_back}
-use Rattle.net_text.specs.Entries.{point_of, pair_of, set_of, plan_of, entry_of, set_events, alone}
+use Rattle.script_words.specs.Events.{added_point_of, pair_of, plan_of}
+use Rattle.script_words.proofs.EventWordsLemmas.{event_writes}
+use Rattle.net_text.specs.Entries.{set_of, entry_of, set_events, alone}
 use Rattle.net_text.specs.declared.faults.Key.TheVariants.{Points, Pairs, Sets, Plans}
 use Rattle.net_building.specs.Building.{point_event, plan_event}
 use Rattle.net_saving.specs.Writing.{point_text, pair_text, set_text, plan_text}
@@ -33,7 +36,7 @@ use Rattle.net_saving.specs.Writing.{point_text, pair_text, set_text, plan_text}
 -- ---- what can be written: each number in the range of its token
 
 abbrev pub IsSetText : LinkSet → Type 0
-IsSetText s = (s.id ≤ 65535) × IsCode s.a × IsCode s.b × (0 < length s.links) × AllByRecursion (IsMarked false) s.links
+IsSetText s = (s.id ≤ 65535) × IsCode s.a × IsCode s.b × (0 < length s.links) × AllByRecursion (IsMarked Two) s.links
 
 abbrev pub IsPlanText : Plan → Type 0
 IsPlanText p = IsCode p.dest × AllByRecursion IsRow p.rows
@@ -57,7 +60,7 @@ word_free : (b : Bool) (word : List ℕ) → lacks 32 word ≡ true → lacks 32
 word_free false word h = refl
 word_free true word h = h
 
-marked_word : (l : Link) → IsMarked false l → IsWord (marked_text false l)
+marked_word : (l : Link) → IsMarked Two l → IsWord (marked_text Two l)
 marked_word l h =
     let m = l.marks in
     let small : l.slc ≤ 255 = h in
@@ -68,9 +71,9 @@ marked_word l h =
     let free_ia : lacks 32 ia ≡ true = lacks-append 32 (word_if m.inhibited_a (codes "ia")) ib (word_free m.inhibited_a (codes "ia") refl) (word_free m.inhibited_b (codes "ib") refl) in
     let free_bb : lacks 32 bb ≡ true = lacks-append 32 (word_if m.blocked_b (codes "bb")) ia (word_free m.blocked_b (codes "bb") refl) free_ia in
     let free_ba : lacks 32 ba ≡ true = lacks-append 32 (word_if m.blocked_a (codes "ba")) bb (word_free m.blocked_a (codes "ba") refl) free_bb in
-    let free : lacks 32 (marks_text false m) ≡ true = lacks-append 32 (word_if m.failed (codes "f")) ba (word_free m.failed (codes "f") refl) free_ba in (
-      longer (decimal l.slc) (marks_text false m) (decimal_nonempty l.slc (omega arith)),
-      lacks-append 32 (decimal l.slc) (marks_text false m) (decimal_free 32 l.slc refl (omega arith)) free,
+    let free : lacks 32 (marks_text Two m) ≡ true = lacks-append 32 (word_if m.failed (codes "f")) ba (word_free m.failed (codes "f") refl) free_ba in (
+      longer (decimal l.slc) (marks_text Two m) (decimal_nonempty l.slc (omega arith)),
+      lacks-append 32 (decimal l.slc) (marks_text Two m) (decimal_free 32 l.slc refl (omega arith)) free,
     )
 
 row_word : (r : Row) → IsRow r → IsWord (row_text r)
@@ -88,53 +91,35 @@ all_words : {A : Type 0} (Is : A → Type 0) (f : A → List ℕ) → ((x : A) �
 all_words Is f word [] h = tt
 all_words Is f word (x ∷ xs) h = (word x h.0, all_words Is f word xs h.1)
 
-all_back : {A B : Type 0} (Is : B → Type 0) (f : A → Option B) (write : B → A) → ((y : B) → Is y → f (write y) ≡ Some y) → (ys : List B) → AllByRecursion Is ys → all_of f (map write ys) ≡ Some ys
-all_back Is f write back [] h = refl
-all_back Is f write back (y ∷ ys) h = rw (back y h.0, all_back Is f write back ys h.1) refl
-
 -- ---- entries
 
-kind_back : (k : Kind) → kind_of (kind_text k) ≡ Some k
-kind_back Sep = refl
-kind_back Stp = refl
-
-point_at : (p : Point) (code kind : List ℕ) → code_of code ≡ Some p.code → kind_of kind ≡ Some p.kind → option_map alone (point_of (code ∷ kind ∷ [])) ≡ Some (alone (point_event p))
-point_at p code kind e1 e2 = rw (e1, e2) refl
-
-pub point_reads : (p : Point) → IsCode p.code → entry_of Points false (point_text p) ≡ Some (alone (point_event p))
+pub point_reads : (p : Point) → IsCode p.code → entry_of Points Two (point_text p) ≡ Some (alone (point_event p))
 point_reads p h =
-    ap (λ ws. option_map alone (point_of ws)) (words_back (code_text p.code ∷ kind_text p.kind ∷ []) (code_word p.code h, (kind_word p.kind, tt)))
-    ∙ point_at p (code_text p.code) (kind_text p.kind) (code_written p.code h) (kind_back p.kind)
+    ap (λ ws. option_map alone (added_point_of ws)) (words_back (code_text p.code ∷ kind_text p.kind ∷ []) (code_word p.code h, (kind_word p.kind, tt)))
+    ∙ ap (option_map alone) (event_writes (on.AddPoint p.code p.kind) h)
 
-pair_at : (p q : ℕ) (one other : List ℕ) → code_of one ≡ Some p → code_of other ≡ Some q → option_map alone (pair_of (one ∷ other ∷ [])) ≡ Some (alone (on.Pair p q))
-pair_at p q one other e1 e2 = rw (e1, e2) refl
-
-pub pair_reads : (p q : ℕ) → IsCode p → IsCode q → entry_of Pairs false (pair_text p q) ≡ Some (alone (on.Pair p q))
+pub pair_reads : (p q : ℕ) → IsCode p → IsCode q → entry_of Pairs Two (pair_text p q) ≡ Some (alone (on.Pair p q))
 pair_reads p q h k =
     ap (λ ws. option_map alone (pair_of ws)) (words_back (code_text p ∷ code_text q ∷ []) (code_word p h, (code_word q k, tt)))
-    ∙ pair_at p q (code_text p) (code_text q) (code_written p h) (code_written q k)
+    ∙ ap (option_map alone) (event_writes (on.Pair p q) (h, k))
 
-links_some : (ls : List Link) → 0 < length ls → (length (map (marked_text false) ls) == 0) ≡ false
+links_some : (ls : List Link) → 0 < length ls → (length (map (marked_text Two) ls) == 0) ≡ false
 links_some [] h = absurd (omega arith)
 links_some (l ∷ ls) h = grind (arith, nat_tests)
 
-set_at : (s : LinkSet) (id a b : List ℕ) (links : List (List ℕ)) → (length links == 0) ≡ false → id_of id ≡ Some s.id → code_of a ≡ Some s.a → code_of b ≡ Some s.b → all_of (marked_of false) links ≡ Some s.links
-    → option_map set_events (set_of false (id ∷ a ∷ b ∷ links)) ≡ Some (set_events s)
-set_at s id a b links some e1 e2 e3 e4 = let read : set_of false (id ∷ a ∷ b ∷ links) ≡ Some s = rw (some, e4, e1, e2, e3) refl in ap (option_map set_events) read
+set_at : (s : LinkSet) (id a b : List ℕ) (links : List (List ℕ)) → (length links == 0) ≡ false → id_of id ≡ Some s.id → code_of a ≡ Some s.a → code_of b ≡ Some s.b → all_of (marked_of Two) links ≡ Some s.links
+    → option_map set_events (set_of Two (id ∷ a ∷ b ∷ links)) ≡ Some (set_events s)
+set_at s id a b links some e1 e2 e3 e4 = let read : set_of Two (id ∷ a ∷ b ∷ links) ≡ Some s = rw (some, e4, e1, e2, e3) refl in ap (option_map set_events) read
 
-pub set_reads : (s : LinkSet) → IsSetText s → entry_of Sets false (set_text s) ≡ Some (set_events s)
+pub set_reads : (s : LinkSet) → IsSetText s → entry_of Sets Two (set_text s) ≡ Some (set_events s)
 set_reads s h =
-    let links = map (marked_text false) s.links in
-    ap (λ ws. option_map set_events (set_of false ws)) (words_back (decimal s.id ∷ code_text s.a ∷ code_text s.b ∷ links)
-    (number_word s.id h.0, (code_word s.a h.1, (code_word s.b h.2, all_words (IsMarked false) (marked_text false) marked_word s.links h.4))))
+    let links = map (marked_text Two) s.links in
+    ap (λ ws. option_map set_events (set_of Two ws)) (words_back (decimal s.id ∷ code_text s.a ∷ code_text s.b ∷ links)
+    (number_word s.id h.0, (code_word s.a h.1, (code_word s.b h.2, all_words (IsMarked Two) (marked_text Two) marked_word s.links h.4))))
     ∙ set_at s (decimal s.id) (code_text s.a) (code_text s.b) links (links_some s.links h.3) (number_written 65535 s.id (omega arith) h.0) (code_written s.a h.1) (code_written s.b h.2)
-    (all_back (IsMarked false) (marked_of false) (marked_text false) (marked_writes false) s.links h.4)
+    (all_written (marked_of Two) (marked_text Two) (IsMarked Two) (marked_writes Two) s.links h.4)
 
-plan_at : (p : Plan) (dest : List ℕ) (rows : List (List ℕ)) → code_of dest ≡ Some p.dest → all_of row_of rows ≡ Some p.rows → option_map alone (plan_of (dest ∷ rows)) ≡ Some (alone (plan_event p))
-plan_at p dest rows e1 e2 = rw (e1, e2) refl
-
-pub plan_reads : (p : Plan) → IsPlanText p → entry_of Plans false (plan_text p) ≡ Some (alone (plan_event p))
+pub plan_reads : (p : Plan) → IsPlanText p → entry_of Plans Two (plan_text p) ≡ Some (alone (plan_event p))
 plan_reads p h =
-    let rows = map row_text p.rows in
-    ap (λ ws. option_map alone (plan_of ws)) (words_back (code_text p.dest ∷ rows) (code_word p.dest h.0, all_words IsRow row_text row_word p.rows h.1))
-    ∙ plan_at p (code_text p.dest) rows (code_written p.dest h.0) (all_back IsRow row_of row_text row_writes p.rows h.1)
+    ap (λ ws. option_map alone (plan_of ws)) (words_back (code_text p.dest ∷ map row_text p.rows) (code_word p.dest h.0, all_words IsRow row_text row_word p.rows h.1))
+    ∙ ap (option_map alone) (event_writes (on.SetPlan p) h)

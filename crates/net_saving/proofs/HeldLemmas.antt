@@ -7,7 +7,8 @@ use Rattle.std.specs.Cmp.Lexicographic.{slice_cmp}
 use Rattle.toml.specs.Data.{Data, Members, get_member, string}
 use Rattle.toml.specs.View.{items_of}
 use Rattle.net_data.specs.Network.{Network}
-use Rattle.net_text.specs.Keys.{Held, at, unsigned_of, is_format_one, is_known, has_known_keys, format_from, ni_from, tfr_from, texts_from, list_of, is_text, text_of, held_by}
+use Rattle.tokens.specs.declared.marked.Format.TheVariants.{Two}
+use Rattle.net_text.specs.Keys.{Held, at, unsigned_of, keys_format, is_known, has_known_keys, format_from, ni_from, tfr_from, texts_from, list_of, is_text, text_of, held_by}
 use Rattle.net_text.specs.declared.faults.Key.{Key}
 use Rattle.net_text.specs.declared.faults.Key.TheVariants.{Points, Pairs, Sets, Plans}
 use Rattle.net_saving.specs.Writing.{with_entries, document_of, point_text, pair_texts, set_text, plan_text}
@@ -42,7 +43,7 @@ found : (key : Key) (k : List ℕ) (ts : List (List ℕ)) (ms : Members) → sli
 found key k [] ms same none = ap (texts_from key) none
 found key k (t ∷ ts) ms same none = rw (same, texts_are ts, texts_back ts) refl
 
-known : (k : List ℕ) (ts : List (List ℕ)) (ms : Members) → is_known false k ≡ true → has_known_keys false ms ≡ true → has_known_keys false (with_entries k ts ms) ≡ true
+known : (k : List ℕ) (ts : List (List ℕ)) (ms : Members) → is_known Two k ≡ true → has_known_keys Two ms ≡ true → has_known_keys Two (with_entries k ts ms) ≡ true
 known k [] ms h rest = rest
 known k (t ∷ ts) ms h rest = rw (h, rest) refl
 
@@ -50,7 +51,7 @@ known k (t ∷ ts) ms h rest = rw (h, rest) refl
 
 abbrev pub held_of : Network → Held
 held_of net = record {
-  one = false;
+  format = Two;
   ni = net.ni;
   tfr = net.tfr;
   points = map point_text net.points;
@@ -59,10 +60,10 @@ held_of net = record {
   plans = map plan_text net.plans;
 }
 
-held_with : (doc : Members) (h : Held) → is_format_one (unsigned_of (at (codes "format") doc)) ≡ false → has_known_keys false doc ≡ true → format_from (unsigned_of (at (codes "format") doc)) ≡ Ok h.one
+held_with : (doc : Members) (h : Held) → keys_format (unsigned_of (at (codes "format") doc)) ≡ Two → has_known_keys Two doc ≡ true → format_from (unsigned_of (at (codes "format") doc)) ≡ Ok h.format
     → ni_from (unsigned_of (at (codes "ni") doc)) ≡ Ok h.ni → tfr_from (at (codes "tfr") doc) ≡ Ok h.tfr → texts_from Points (at (codes "points") doc) ≡ Ok h.points → texts_from Pairs (at (codes "pairs") doc) ≡ Ok h.pairs
     → texts_from Sets (at (codes "sets") doc) ≡ Ok h.sets → texts_from Plans (at (codes "plans") doc) ≡ Ok h.plans → held_by doc ≡ Ok h
-held_with doc h two known one ni tfr points pairs sets plans = rw (two, known, one, ni, tfr, points, pairs, sets, plans) refl
+held_with doc h two known format ni tfr points pairs sets plans = rw (two, known, format, ni, tfr, points, pairs, sets, plans) refl
 
 low_ni : (n : ℕ) → n < 4 → leb n 3 ≡ true
 low_ni n h = grind (arith, nat_tests)

@@ -1,10 +1,11 @@
 -- Texts made of a first part and of others, each after a byte.
-use Rattle.std.proofs.Common.{take, drop, length, get_or, ◌-◌, arith, ◌≡◌, ℕ, false, ◌≤◌, List, [], ◌∷◌, ◌++◌, map, ap, refl, ◌∙◌, append-nil, append_assoc}
+use Rattle.std.proofs.Common.{take, drop, length, get_or, ◌-◌, arith, ◌≡◌, ℕ, ◌≤◌, List, [], ◌∷◌, ◌++◌, map, ap, refl, ◌∙◌, append-nil, append_assoc}
 use Rattle.std.specs.List.{flat_map, join_with_byte}
 use Rattle.net_items.specs.declared.links.Link.{Link}
 use Rattle.net_items.specs.declared.lists.Row.{Row}
 use Rattle.point_codes.specs.Codes.{code_text}
 use Rattle.tokens.specs.Marked.{marked_text}
+use Rattle.tokens.specs.declared.marked.Format.TheVariants.{Two}
 use Rattle.tokens.specs.Rows.{row_text}
 use Rattle.net_saving.specs.Writing.{plan_text}
 
@@ -29,7 +30,7 @@ tails_made c f (x ∷ xs) v t0 t1 some first h0 h1 =
 pub plan_tails : (dest : ℕ) (rows rs : List Row) (t0 t1 : List ℕ) → t0 ≡ code_text dest → rs ≡ rows → t1 ≡ t0 ++ flat_map (λ x. 32 ∷ row_text x) rs → t1 ≡ plan_text (record { dest = dest; rows = rows })
 plan_tails dest rows rs t0 t1 h0 hr h1 = h1 ∙ rw (h0, hr) (join_tails 32 row_text (code_text dest) rows)
 
-pub set_tails : (id a b : List ℕ) (links ls : List Link) (t0 t1 : List ℕ) → t0 ≡ id ++ (32 ∷ (a ++ (32 ∷ b))) → ls ≡ links → t1 ≡ t0 ++ flat_map (λ x. 32 ∷ marked_text false x) ls → t1 ≡ join_with_byte 32 (id ∷ a ∷ b ∷ map (marked_text false) links)
+pub set_tails : (id a b : List ℕ) (links ls : List Link) (t0 t1 : List ℕ) → t0 ≡ id ++ (32 ∷ (a ++ (32 ∷ b))) → ls ≡ links → t1 ≡ t0 ++ flat_map (λ x. 32 ∷ marked_text Two x) ls → t1 ≡ join_with_byte 32 (id ∷ a ∷ b ∷ map (marked_text Two) links)
 set_tails id a b links ls t0 t1 h0 hl h1 =
-    h1 ∙ rw (h0, hl) (append_assoc id (32 ∷ (a ++ (32 ∷ b))) (flat_map (λ x. 32 ∷ marked_text false x) links)
-    ∙ ap (λ t. id ++ (32 ∷ t)) (append_assoc a (32 ∷ b) (flat_map (λ x. 32 ∷ marked_text false x) links) ∙ ap (λ t. a ++ (32 ∷ t)) (join_tails 32 (marked_text false) b links)))
+    h1 ∙ rw (h0, hl) (append_assoc id (32 ∷ (a ++ (32 ∷ b))) (flat_map (λ x. 32 ∷ marked_text Two x) links)
+    ∙ ap (λ t. id ++ (32 ∷ t)) (append_assoc a (32 ∷ b) (flat_map (λ x. 32 ∷ marked_text Two x) links) ∙ ap (λ t. a ++ (32 ∷ t)) (join_tails 32 (marked_text Two) b links)))

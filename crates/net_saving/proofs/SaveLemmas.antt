@@ -7,13 +7,14 @@ use Rattle.net_data.specs.declared.events.Event.{Event}
 use Rattle.net_data.specs.declared.events.Event.TheVariants as on
 use Rattle.net_data.specs.declared.events.Refusal.{Refusal}
 use Rattle.net_data.specs.Network.{Network}
-use Rattle.net_data.specs.Edits.{refusal_of, changed}
+use Rattle.net_data.specs.Edits.{refusal_of, changed, apply_all, unless_refused}
 use Rattle.net_data.specs.Valid.{IsValid}
 use Rattle.point_codes.specs.Codes.{IsCode}
+use Rattle.tokens.specs.declared.marked.Format.TheVariants.{Two}
 use Rattle.net_text.specs.Faults.{chain}
 use Rattle.net_text.specs.Keys.{Held}
 use Rattle.net_text.specs.Entries.{entry_of, set_events, alone}
-use Rattle.net_text.specs.Reading.{after, apply_all, named, apply_entry, apply_entries, start, build, network_of}
+use Rattle.net_text.specs.Reading.{named, apply_entry, apply_entries, start, build, network_of}
 use Rattle.net_text.specs.declared.faults.Key.{Key}
 use Rattle.net_text.specs.declared.faults.Key.TheVariants.{Points, Pairs, Sets, Plans}
 use Rattle.net_building.specs.Building.{point_event, pair_events, plan_event}
@@ -29,10 +30,10 @@ split_here : (net new : Network) (e : Event) (es fs : List Event) (r : Option Re
     → (apply_all (changed net e) (es ++ fs) ≡ Ok new → (mid : Network) × (apply_all (changed net e) es ≡ Ok mid) × (apply_all mid fs ≡ Ok new))
     → (mid : Network) × (apply_all net (e ∷ es) ≡ Ok mid) × (apply_all mid fs ≡ Ok new)
 split_here net new e es fs None same h next =
-    let rest = next (ap (λ r. after r (apply_all (changed net e) (es ++ fs))) (sym same) ∙ h) in
-    (rest.0, ap (λ r. after r (apply_all (changed net e) es)) same ∙ rest.1, rest.2)
+    let rest = next (ap (λ r. unless_refused r (apply_all (changed net e) (es ++ fs))) (sym same) ∙ h) in
+    (rest.0, ap (λ r. unless_refused r (apply_all (changed net e) es)) same ∙ rest.1, rest.2)
 split_here net new e es fs (Some x) same h next =
-    let bad : Err x ≡ Ok new = ap (λ r. after r (apply_all (changed net e) (es ++ fs))) (sym same) ∙ h in
+    let bad : Err x ≡ Ok new = ap (λ r. unless_refused r (apply_all (changed net e) (es ++ fs))) (sym same) ∙ h in
     absurd (cc)
 
 apply_split : (net new : Network) (es fs : List Event) → apply_all net (es ++ fs) ≡ Ok new → (mid : Network) × (apply_all net es ≡ Ok mid) × (apply_all mid fs ≡ Ok new)
@@ -43,33 +44,33 @@ apply_split net new (e ∷ es) fs h = split_here net new e es fs (refusal_of net
 
 -- no entry and no event, or one entry that says the events
 abbrev Writes : Key → List (List ℕ) → List Event → Type 0
-Writes key texts events = ((texts ≡ []) × (events ≡ [])) ⊎ ((text : List ℕ) × (texts ≡ text ∷ []) × (entry_of key false text ≡ Some events))
+Writes key texts events = ((texts ≡ []) × (events ≡ [])) ⊎ ((text : List ℕ) × (texts ≡ text ∷ []) × (entry_of key Two text ≡ Some events))
 
 entries_applied : {X : Type 0} (key : Key) (texts : X → List (List ℕ)) (events : X → List Event) (Is : X → Type 0) → ((x : X) → Is x → Writes key (texts x) (events x))
-    → (xs : List X) → AllByRecursion Is xs → (place : ℕ) (net new : Network) → apply_all net (flat_map events xs) ≡ Ok new → apply_entries key false place net (flat_map texts xs) ≡ Ok new
+    → (xs : List X) → AllByRecursion Is xs → (place : ℕ) (net new : Network) → apply_all net (flat_map events xs) ≡ Ok new → apply_entries key Two place net (flat_map texts xs) ≡ Ok new
 entries_applied key texts events Is writes [] h place net new done = let same : net ≡ new = cc in ap Ok same
 entries_applied {X} key texts events Is writes (x ∷ xs) h place net new done = go (writes x h.0) (λ at from. entries_applied key texts events Is writes xs h.1 at from new)
   where
-    go : Writes key (texts x) (events x) → ((at : ℕ) (from : Network) → apply_all from (flat_map events xs) ≡ Ok new → apply_entries key false at from (flat_map texts xs) ≡ Ok new)
-        → apply_entries key false place net (flat_map texts (x ∷ xs)) ≡ Ok new
+    go : Writes key (texts x) (events x) → ((at : ℕ) (from : Network) → apply_all from (flat_map events xs) ≡ Ok new → apply_entries key Two at from (flat_map texts xs) ≡ Ok new)
+        → apply_entries key Two place net (flat_map texts (x ∷ xs)) ≡ Ok new
     go (inl none) next =
-        ap (λ ts. apply_entries key false place net (ts ++ flat_map texts xs)) none.0 ∙ next place net (ap (λ es. apply_all net (es ++ flat_map events xs)) (sym none.1) ∙ done)
+        ap (λ ts. apply_entries key Two place net (ts ++ flat_map texts xs)) none.0 ∙ next place net (ap (λ es. apply_all net (es ++ flat_map events xs)) (sym none.1) ∙ done)
     go (inr one) next =
         let parts = apply_split net new (events x) (flat_map events xs) done in
         let others = flat_map texts xs in
-        ap (λ ts. apply_entries key false place net (ts ++ others)) one.1
-        ∙ ap (λ o. chain (apply_entry key place net o) (λ n. apply_entries key false (place + 1) n others)) one.2
-        ∙ ap (λ r. chain (named key place r) (λ n. apply_entries key false (place + 1) n others)) parts.1 ∙ next (place + 1) parts.0 parts.2
+        ap (λ ts. apply_entries key Two place net (ts ++ others)) one.1
+        ∙ ap (λ o. chain (apply_entry key place net o) (λ n. apply_entries key Two (place + 1) n others)) one.2
+        ∙ ap (λ r. chain (named key place r) (λ n. apply_entries key Two (place + 1) n others)) parts.1 ∙ next (place + 1) parts.0 parts.2
 
 flat_single : {A B : Type 0} (f : A → B) (xs : List A) → flat_map (λ x. f x ∷ []) xs ≡ map f xs
 flat_single f [] = refl
 flat_single f (x ∷ xs) = ap (λ l. f x ∷ l) (flat_single f xs)
 
 -- an entry for each
-each_applied : {X : Type 0} (key : Key) (text : X → List ℕ) (events : X → List Event) (Is : X → Type 0) → ((x : X) → Is x → entry_of key false (text x) ≡ Some (events x))
-    → (xs : List X) → AllByRecursion Is xs → (net new : Network) → apply_all net (flat_map events xs) ≡ Ok new → apply_entries key false 1 net (map text xs) ≡ Ok new
+each_applied : {X : Type 0} (key : Key) (text : X → List ℕ) (events : X → List Event) (Is : X → Type 0) → ((x : X) → Is x → entry_of key Two (text x) ≡ Some (events x))
+    → (xs : List X) → AllByRecursion Is xs → (net new : Network) → apply_all net (flat_map events xs) ≡ Ok new → apply_entries key Two 1 net (map text xs) ≡ Ok new
 each_applied key text events Is reads xs h net new done =
-    ap (apply_entries key false 1 net) (sym (flat_single text xs)) ∙ entries_applied key (λ x. text x ∷ []) events Is (λ x i. inr (text x, refl, reads x i)) xs h 1 net new done
+    ap (apply_entries key Two 1 net) (sym (flat_single text xs)) ∙ entries_applied key (λ x. text x ∷ []) events Is (λ x i. inr (text x, refl, reads x i)) xs h 1 net new done
 
 pair_at : (p m : ℕ) (lower : Bool) → IsCode p → IsCode m → Writes Pairs (cond lower (pair_text p m ∷ []) []) (cond lower (on.Pair p m ∷ []) [])
 pair_at p m false h k = inl (refl, refl)
@@ -83,8 +84,8 @@ mate_writes p (Some m) h = let small = h m refl in pair_at p m (ltb p m) small.0
 pair_writes : (p : Point) → IsPairText p → Writes Pairs (pair_texts p) (pair_events p)
 pair_writes p h = mate_writes p.code p.mate h
 
-built_by : (h : Held) (n1 n2 n3 n4 : Network) → apply_entries Points h.one 1 (start h) h.points ≡ Ok n1 → apply_entries Pairs h.one 1 n1 h.pairs ≡ Ok n2 → apply_entries Sets h.one 1 n2 h.sets ≡ Ok n3
-    → apply_entries Plans h.one 1 n3 h.plans ≡ Ok n4 → build h ≡ Ok n4
+built_by : (h : Held) (n1 n2 n3 n4 : Network) → apply_entries Points h.format 1 (start h) h.points ≡ Ok n1 → apply_entries Pairs h.format 1 n1 h.pairs ≡ Ok n2 → apply_entries Sets h.format 1 n2 h.sets ≡ Ok n3
+    → apply_entries Plans h.format 1 n3 h.plans ≡ Ok n4 → build h ≡ Ok n4
 built_by h n1 n2 n3 n4 e1 e2 e3 e4 = rw (e1, e2, e3, e4) refl
 
 -- what is written of a network is read as that network

@@ -18,6 +18,7 @@ use Rattle.net_data.specs.Network.{Network}
 use Rattle.net_data.specs.Valid.{IsRightRow, IsRightPlan, IsRightSet, IsValid}
 use Rattle.net_data.proofs.PairLemmas.{mate_there}
 use Rattle.point_codes.specs.Codes.{IsCode}
+use Rattle.tokens.specs.declared.marked.Format.TheVariants.{Two}
 use Rattle.tokens.specs.Marked.{IsMarked}
 use Rattle.tokens.specs.Rows.{IsClass, IsRow}
 use Rattle.net_saving.proofs.EntryLemmas.{IsSetText, IsPlanText}
@@ -79,7 +80,7 @@ module _ (net : Network) (v : IsValid net) where
         code_there s.a h.a_there,
         code_there s.b h.b_there,
         h.some_link,
-        All-then (λ (l : Link). l.slc) (λ (l : Link). l.slc < 16) (IsMarked false) (λ l below. omega arith) s.links h.links_small,
+        All-then (λ (l : Link). l.slc) (λ (l : Link). l.slc < 16) (IsMarked Two) (λ l below. omega arith) s.links h.links_small,
       )
 
   pub sets_writable : AllByRecursion IsSetText net.sets

@@ -1,5 +1,5 @@
 -- The document that a network is written as, in format 2.
-use Rattle.std.specs.Prelude.{◌≡◌, ℕ, nat_lt, false, List, [], ◌∷◌, map, if◌then◌else◌, pos, codes, Ok}
+use Rattle.std.specs.Prelude.{ℕ, nat_lt, List, [], ◌∷◌, map, if◌then◌else◌, pos, codes}
 use Rattle.std.specs.List.{flat_map, join_with_byte}
 use Rattle.std.specs.Option.{option_map_or}
 use Rattle.std.specs.Fmt.{decimal}
@@ -14,6 +14,7 @@ use Rattle.net_data.specs.Network.{Network}
 use Rattle.point_codes.specs.Codes.{code_text}
 use Rattle.tokens.specs.Kinds.{kind_text}
 use Rattle.tokens.specs.Marked.{marked_text}
+use Rattle.tokens.specs.declared.marked.Format.TheVariants.{Two}
 use Rattle.tokens.specs.Rows.{row_text}
 
 -- `CODE KIND`
@@ -30,7 +31,7 @@ pair_texts p = option_map_or (λ m. if nat_lt p.code m then pair_text p.code m �
 
 -- `ID CODE CODE MARKED MARKED ..`
 abbrev pub set_text : LinkSet → List ℕ
-set_text s = join_with_byte 32 (decimal s.id ∷ code_text s.a ∷ code_text s.b ∷ map (marked_text false) s.links)
+set_text s = join_with_byte 32 (decimal s.id ∷ code_text s.a ∷ code_text s.b ∷ map (marked_text Two) s.links)
 
 -- `CODE ROW ROW ..`
 abbrev pub plan_text : Plan → List ℕ

@@ -1,10 +1,11 @@
 //! Points, pairs, sets and plans in text.
 
-ghost use Rattle.std.specs.Prelude.{◌≡◌, ◌++◌, ◌∷◌, false, map, IfOk, OnOk, string_bytes};
+ghost use Rattle.std.specs.Prelude.{◌≡◌, ◌++◌, ◌∷◌, map, IfOk, OnOk, string_bytes};
 ghost use Rattle.std.specs.List.{flat_map};
 ghost use Rattle.point_codes.specs.Codes.{code_text};
 ghost use Rattle.tokens.specs.Kinds.{kind_text};
 ghost use Rattle.tokens.specs.Marked.{marks_text, marked_text};
+ghost use Rattle.tokens.specs.declared.marked.Format.TheVariants.{Two};
 ghost use Rattle.tokens.specs.Rows.{row_text, vias_text, classes_text};
 ghost use Rattle.tokens.specs.Words.{word_if};
 ghost use Rattle.net_saving.specs.Writing.{point_text, pair_text, set_text, plan_text};
@@ -36,7 +37,7 @@ fn put_if(text: &mut String, wanted: bool, word: &str) -> Result<(), AllocError>
 
 /// Adds the marks of a link.
 fn put_marks(text: &mut String, marks: Marks) -> Result<(), AllocError>
-    ensures { OnOk result (string_bytes text.new ≡ string_bytes text.old ++ marks_text false marks) }
+    ensures { OnOk result (string_bytes text.new ≡ string_bytes text.old ++ marks_text Two marks) }
 {
     put_if(text, marks.failed, "f")?;
     put_if(text, marks.blocked_a, "ba")?;
@@ -47,7 +48,7 @@ fn put_marks(text: &mut String, marks: Marks) -> Result<(), AllocError>
 
 /// A link with its marks in text.
 fn write_marked(alloc: Global, link: &Link) -> Result<String, AllocError>
-    ensures { IfOk result (λ text. string_bytes text ≡ marked_text false link.now) }
+    ensures { IfOk result (λ text. string_bytes text ≡ marked_text Two link.now) }
 {
     let slc = link.slc;
     let mut text = format!(in alloc; "{slc}")?;
@@ -122,7 +123,7 @@ fn write_row(alloc: Global, row: &Row) -> Result<String, AllocError>
 
 /// Adds links with their marks, each after a space.
 fn put_links(alloc: Global, text: &mut String, links: &[Link]) -> Result<(), AllocError>
-    ensures { OnOk result (string_bytes text.new ≡ string_bytes text.old ++ flat_map (λ x. 32 ∷ marked_text false x) links.now) }
+    ensures { OnOk result (string_bytes text.new ≡ string_bytes text.old ++ flat_map (λ x. 32 ∷ marked_text Two x) links.now) }
 {
     for link in links {
         let word = write_marked(alloc, link)?;

@@ -6,13 +6,14 @@ use Rattle.std.proofs.lemmas.List.Folds.{list_all-map}
 use Rattle.toml.specs.Data.{Data, Items}
 use Rattle.toml.specs.View.{members_view, items_of, items_view, view}
 use Rattle.toml.specs.declared.value.Value.{Value}
+use Rattle.tokens.specs.declared.marked.Format.{Format}
 use Rattle.net_text.specs.Keys.{is_known, has_known_keys, list_of, is_text, text_of, texts_in}
 use Rattle.net_text.specs.declared.faults.Key.{Key}
 use Rattle.net_text.specs.declared.faults.LoadFault.TheVariants.{BadKey}
 
-pub known_keys : (one : Bool) (es : List (String Global × Value)) → list_all (λ key. is_known one (string_bytes key)) (keys_of es) ≡ has_known_keys one (members_view es)
-known_keys one [] = refl
-known_keys one (e ∷ es) = ap (λ b. is_known one (string_bytes e.0) && b) (known_keys one es)
+pub known_keys : (format : Format) (es : List (String Global × Value)) → list_all (λ key. is_known format (string_bytes key)) (keys_of es) ≡ has_known_keys format (members_view es)
+known_keys format [] = refl
+known_keys format (e ∷ es) = ap (λ b. is_known format (string_bytes e.0) && b) (known_keys format es)
 
 pub list_of_items : (ds : List Data) → list_of (items_of ds) ≡ ds
 list_of_items [] = refl

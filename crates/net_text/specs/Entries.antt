@@ -1,49 +1,34 @@
 -- The entries of a network text, as events.
-use Rattle.std.specs.Prelude.{ℕ, ◌==◌, length, if◌then◌else◌, Bool, false, not, List, [], ◌∷◌, Option, None, option_map, option_and_then, map, filter}
+use Rattle.std.specs.Prelude.{ℕ, ◌==◌, length, if◌then◌else◌, List, [], ◌∷◌, Option, None, option_map, option_and_then, map}
 use Rattle.std.specs.List.{flat_map}
 use Rattle.net_items.specs.declared.items.LinkSet.{LinkSet}
 use Rattle.link_state.specs.declared.marks.End.TheVariants.{First, Second}
 use Rattle.net_items.specs.declared.links.Link.{Link}
-use Rattle.link_state.specs.declared.marks.LinkChange.{LinkChange}
 use Rattle.link_state.specs.declared.marks.LinkChange.TheVariants.{Restore, Block, Inhibit}
-use Rattle.link_state.specs.declared.marks.Marks.{Marks}
 use Rattle.net_data.specs.declared.events.Event.{Event}
 use Rattle.net_data.specs.declared.events.Event.TheVariants as on
 pub use Rattle.net_building.specs.Building.{is_needed, changes_of, set_events}
 use Rattle.tokens.specs.Words.{words_of}
 use Rattle.tokens.specs.Numbers.{id_of}
 use Rattle.point_codes.specs.Codes.{code_of}
-use Rattle.tokens.specs.Kinds.{kind_of}
 use Rattle.tokens.specs.Marked.{marked_of}
-use Rattle.tokens.specs.Rows.{row_of}
+use Rattle.tokens.specs.declared.marked.Format.{Format}
 use Rattle.tokens.specs.Pieces.{all_of}
+use Rattle.script_words.specs.Events.{added_point_of, pair_of, plan_of}
 use Rattle.net_text.specs.declared.faults.Key.{Key}
 use Rattle.net_text.specs.declared.faults.Key.TheVariants.{Points, Pairs, Sets, Plans}
 
--- `CODE KIND`
-abbrev pub point_of : List (List ℕ) → Option Event
-point_of (code ∷ kind ∷ []) = option_and_then (λ c. option_map (λ k. on.AddPoint c k) (kind_of kind)) (code_of code)
-point_of _ = None
-
--- `CODE CODE`
-abbrev pub pair_of : List (List ℕ) → Option Event
-pair_of (one ∷ other ∷ []) = option_and_then (λ p. option_map (λ q. on.Pair p q) (code_of other)) (code_of one)
-pair_of _ = None
-
+-- the set of these values, if each is there
 abbrev pub set_from : List Link → Option ℕ → Option ℕ → Option ℕ → Option LinkSet
 set_from links id a b = option_and_then (λ i. option_and_then (λ p. option_map (λ q. record { id = i; a = p; b = q; links = links }) b) a) id
 
 -- `ID CODE CODE MARKED MARKED ..`, at least one MARKED
-abbrev pub set_of : Bool → List (List ℕ) → Option LinkSet
-set_of one (id ∷ a ∷ b ∷ links) =
-    if length links == 0 then None else option_and_then (λ ls. set_from ls (id_of id) (code_of a) (code_of b)) (all_of (marked_of one) links)
-set_of one _ = None
+abbrev pub set_of : Format → List (List ℕ) → Option LinkSet
+set_of format (id ∷ a ∷ b ∷ links) =
+    if length links == 0 then None else option_and_then (λ ls. set_from ls (id_of id) (code_of a) (code_of b)) (all_of (marked_of format) links)
+set_of format _ = None
 
--- `CODE ROW ROW ..`
-abbrev pub plan_of : List (List ℕ) → Option Event
-plan_of (dest ∷ rows) = option_and_then (λ c. option_map (λ rs. on.SetPlan (record { dest = c; rows = rs })) (all_of row_of rows)) (code_of dest)
-plan_of _ = None
-
+-- one event
 abbrev pub alone : Event → List Event
 alone e = e ∷ []
 
@@ -56,13 +41,13 @@ abbrev pub mark_events : LinkSet → List Event
 mark_events s = flat_map (changes_of s.id s.links) (Restore ∷ Block First ∷ Block Second ∷ Inhibit First ∷ Inhibit Second ∷ [])
 
 -- the events that the words of an entry say
-abbrev pub events_by : Key → Bool → List (List ℕ) → Option (List Event)
-events_by Points one words = option_map alone (point_of words)
-events_by Pairs one words = option_map alone (pair_of words)
-events_by Sets one words = option_map set_events (set_of one words)
-events_by Plans one words = option_map alone (plan_of words)
-events_by _ one words = None
+abbrev pub events_by : Key → Format → List (List ℕ) → Option (List Event)
+events_by Points format words = option_map alone (added_point_of words)
+events_by Pairs format words = option_map alone (pair_of words)
+events_by Sets format words = option_map set_events (set_of format words)
+events_by Plans format words = option_map alone (plan_of words)
+events_by _ format words = None
 
 -- the events that an entry says
-abbrev pub entry_of : Key → Bool → List ℕ → Option (List Event)
-entry_of key one text = events_by key one (words_of text)
+abbrev pub entry_of : Key → Format → List ℕ → Option (List Event)
+entry_of key format text = events_by key format (words_of text)

@@ -1,23 +1,32 @@
 -- The keys of a network text, and what they hold.
-use Rattle.std.specs.Prelude.{ℕ, ◌==◌, ◌&&◌, ◌||◌, not, nat_le, ℤ, pos, negsuc, option_and_then, Bool, true, false, if◌then◌else◌, List, [], ◌∷◌, Option, Some, None, option_map, map, is_some, unwrap_or, Ok, Err, codes}
+use Rattle.std.specs.Prelude.{ℕ, ◌==◌, ◌&&◌, ◌||◌, nat_le, ℤ, pos, negsuc, option_and_then, Bool, true, false, if◌then◌else◌, List, [], ◌∷◌, Option, Some, None, option_map, map, is_some, unwrap_or, Ok, Err, codes}
 use Rattle.std.specs.List.{list_all}
 use Rattle.std.specs.Str.{bytes_eq}
 use Rattle.toml.specs.Data.{Data, Items, no_items, item, Members, no_members, member, get_member, as_integer, as_array, as_bool, as_str}
+use Rattle.toml.specs.View.{view}
+use Rattle.tokens.specs.declared.marked.Format.{Format}
+use Rattle.tokens.specs.declared.marked.Format.TheVariants.{One, Two}
 use Rattle.net_text.specs.Faults.{Answer, chain}
 use Rattle.net_text.specs.declared.faults.Key.{Key}
-use Rattle.net_text.specs.declared.faults.Key.TheVariants.{Format, Ni, Tfr, Points, Pairs, Sets, Plans, Unknown}
+use Rattle.net_text.specs.declared.faults.Key.TheVariants.{Ni, Tfr, Points, Pairs, Sets, Plans, Unknown}
 use Rattle.net_text.specs.declared.faults.LoadFault.TheVariants.{BadKey}
+use Rattle.net_text.specs.declared.keys.Fields.{Fields}
 
--- whether a key is one of the table; in format 1 there is no `tfr`
-abbrev pub is_known : Bool → List ℕ → Bool
-is_known one key =
-    bytes_eq key (codes "format") || (bytes_eq key (codes "ni") || ((bytes_eq key (codes "tfr") && not one)
+-- whether a format has the key `tfr`
+abbrev pub has_tfr : Format → Bool
+has_tfr One = false
+has_tfr Two = true
+
+-- whether a key is one of the table
+abbrev pub is_known : Format → List ℕ → Bool
+is_known format key =
+    bytes_eq key (codes "format") || (bytes_eq key (codes "ni") || ((bytes_eq key (codes "tfr") && has_tfr format)
     || (bytes_eq key (codes "points") || (bytes_eq key (codes "pairs") || (bytes_eq key (codes "sets") || bytes_eq key (codes "plans"))))))
 
 -- whether each key is one of the table
-abbrev pub has_known_keys : Bool → Members → Bool
-has_known_keys one no_members = true
-has_known_keys one (member key d rest) = is_known one key && has_known_keys one rest
+abbrev pub has_known_keys : Format → Members → Bool
+has_known_keys format no_members = true
+has_known_keys format (member key d rest) = is_known format key && has_known_keys format rest
 
 -- the value at a key
 abbrev pub at : List ℕ → Members → Option Data
@@ -32,15 +41,15 @@ unsigned (negsuc n) = None
 abbrev pub unsigned_of : Option Data → Option ℕ
 unsigned_of found = option_and_then unsigned (option_and_then as_integer found)
 
--- whether the format is the number 1
-abbrev pub is_format_one : Option ℕ → Bool
-is_format_one (Some n) = n == 1
-is_format_one None = false
+-- the format by which keys are known: 1 if it is the number 1, else 2
+abbrev pub keys_format : Option ℕ → Format
+keys_format (Some n) = if n == 1 then One else Two
+keys_format None = Two
 
--- whether the format is 1 and not 2
-abbrev pub format_from : Option ℕ → Answer Bool
-format_from (Some n) = if n == 1 then Ok true else (if n == 2 then Ok false else Err (BadKey Format))
-format_from None = Err (BadKey Format)
+-- the format, 1 or 2
+abbrev pub format_from : Option ℕ → Answer Format
+format_from (Some n) = if n == 1 then Ok One else (if n == 2 then Ok Two else Err (BadKey Key.Format))
+format_from None = Err (BadKey Key.Format)
 
 -- the network indicator, 0 to 3
 abbrev pub ni_from : Option ℕ → Answer ℕ
@@ -80,9 +89,9 @@ abbrev pub texts_from : Key → Option Data → Answer (List (List ℕ))
 texts_from key None = Ok []
 texts_from key (Some d) = texts_in key (option_map list_of (as_array d))
 
--- what the keys hold; `one` says that the format is 1
+-- what the keys hold
 pub record Held : Type 0 where
-  pub one : Bool
+  pub format : Format
   pub ni : ℕ
   pub tfr : Bool
   pub points : List (List ℕ)
@@ -90,21 +99,33 @@ pub record Held : Type 0 where
   pub sets : List (List ℕ)
   pub plans : List (List ℕ)
 
+-- what the keys hold, as the program keeps it
+abbrev pub held : Fields → Held
+held f = record {
+  format = f.format;
+  ni = f.ni;
+  tfr = f.tfr;
+  points = map (λ v. text_of (view v)) f.points.now;
+  pairs = map (λ v. text_of (view v)) f.pairs.now;
+  sets = map (λ v. text_of (view v)) f.sets.now;
+  plans = map (λ v. text_of (view v)) f.plans.now;
+}
+
 -- the format, the network indicator and the option, or the first fault of one of them
-abbrev pub options_in : Members → Answer (Bool × ℕ × Bool)
+abbrev pub options_in : Members → Answer (Format × ℕ × Bool)
 options_in doc =
-    chain (format_from (unsigned_of (at (codes "format") doc))) (λ one.
+    chain (format_from (unsigned_of (at (codes "format") doc))) (λ format.
     chain (ni_from (unsigned_of (at (codes "ni") doc))) (λ ni.
-    chain (tfr_from (at (codes "tfr") doc)) (λ tfr. Ok (one, ni, tfr))))
+    chain (tfr_from (at (codes "tfr") doc)) (λ tfr. Ok (format, ni, tfr))))
 
 -- what the keys hold, or the first fault: unknown keys first, then each key in the order of the table
 abbrev pub held_by : Members → Answer Held
 held_by doc =
-    if has_known_keys (is_format_one (unsigned_of (at (codes "format") doc))) doc then
-    chain (options_in doc) (λ (one, ni, tfr).
+    if has_known_keys (keys_format (unsigned_of (at (codes "format") doc))) doc then
+    chain (options_in doc) (λ (format, ni, tfr).
     chain (texts_from Points (at (codes "points") doc)) (λ points.
     chain (texts_from Pairs (at (codes "pairs") doc)) (λ pairs.
     chain (texts_from Sets (at (codes "sets") doc)) (λ sets.
     chain (texts_from Plans (at (codes "plans") doc)) (λ plans.
-    Ok (record { one = one; ni = ni; tfr = tfr; points = points; pairs = pairs; sets = sets; plans = plans }))))))
+    Ok (record { format = format; ni = ni; tfr = tfr; points = points; pairs = pairs; sets = sets; plans = plans }))))))
     else Err (BadKey Unknown)

@@ -2,4 +2,3 @@ pub mod Faults
 pub mod Keys
 pub mod Entries
 pub mod Reading
-pub mod Shown

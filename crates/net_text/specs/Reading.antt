@@ -1,5 +1,5 @@
 -- What a network text says.
-use Rattle.std.specs.Prelude.{◌≡◌, ℕ, ◌+◌, Bool, true, List, [], ◌∷◌, Option, Some, None, Result, Ok, Err}
+use Rattle.std.specs.Prelude.{◌≡◌, ℕ, ◌+◌, true, List, [], ◌∷◌, Option, Some, None, Result, Ok, Err}
 use Rattle.std.specs.Str.{IsUtf8}
 use Rattle.toml.specs.Data.{Members}
 use Rattle.toml.specs.Parse.{parse_document}
@@ -7,8 +7,8 @@ use Rattle.net_data.specs.declared.events.Event.{Event}
 use Rattle.net_data.specs.declared.events.Event.TheVariants.{SetTfr}
 use Rattle.net_data.specs.declared.events.Refusal.{Refusal}
 use Rattle.net_data.specs.Network.{Network}
-use Rattle.net_data.specs.Edits.{changed}
-pub use Rattle.net_building.specs.Building.{after, apply_all}
+use Rattle.net_data.specs.Edits.{changed, apply_all}
+use Rattle.tokens.specs.declared.marked.Format.{Format}
 use Rattle.net_text.specs.Faults.{Answer, chain}
 use Rattle.net_text.specs.Keys.{Held, held_by}
 use Rattle.net_text.specs.Entries.{entry_of}
@@ -27,9 +27,9 @@ apply_entry key place net None = Err (BadLine key place)
 apply_entry key place net (Some events) = named key place (apply_all net events)
 
 -- the entries of a key from a place on
-abbrev pub apply_entries : Key → Bool → ℕ → Network → List (List ℕ) → Answer Network
-apply_entries key one place net [] = Ok net
-apply_entries key one place net (text ∷ texts) = chain (apply_entry key place net (entry_of key one text)) (λ more. apply_entries key one (place + 1) more texts)
+abbrev pub apply_entries : Key → Format → ℕ → Network → List (List ℕ) → Answer Network
+apply_entries key format place net [] = Ok net
+apply_entries key format place net (text ∷ texts) = chain (apply_entry key place net (entry_of key format text)) (λ more. apply_entries key format (place + 1) more texts)
 
 -- the empty network with its options
 abbrev pub start : Held → Network
@@ -38,10 +38,10 @@ start h = changed (record { ni = h.ni; tfr = true; points = []; sets = []; plans
 -- the entries of all arrays in their order, or their first fault; places count from 1
 abbrev pub apply_fields : Held → Network → Answer Network
 apply_fields h net =
-    chain (apply_entries Points h.one 1 net h.points) (λ net.
-    chain (apply_entries Pairs h.one 1 net h.pairs) (λ net.
-    chain (apply_entries Sets h.one 1 net h.sets) (λ net.
-    apply_entries Plans h.one 1 net h.plans)))
+    chain (apply_entries Points h.format 1 net h.points) (λ net.
+    chain (apply_entries Pairs h.format 1 net h.pairs) (λ net.
+    chain (apply_entries Sets h.format 1 net h.sets) (λ net.
+    apply_entries Plans h.format 1 net h.plans)))
 
 -- the network of the entries, or their first fault
 abbrev pub build : Held → Answer Network

@@ -5,17 +5,17 @@ ghost use Rattle.std.specs.List.{list_all};
 ghost use Rattle.std.specs.BTreeMap.{keys};
 ghost use Rattle.toml.specs.Data.{get_member, as_array};
 ghost use Rattle.toml.specs.View.{view, table_view};
-ghost use Rattle.net_text.specs.Keys.{unsigned, is_known, has_known_keys, unsigned_of, is_format_one, format_from, ni_from, tfr_from, is_text, text_of, list_of, texts_in, texts_from, options_in, held_by};
-ghost use Rattle.net_text.specs.Shown.{held};
+ghost use Rattle.net_text.specs.Keys.{unsigned, has_tfr, is_known, has_known_keys, unsigned_of, keys_format, format_from, ni_from, tfr_from, is_text, text_of, list_of, texts_in, texts_from, options_in, held_by, held};
 
 use crate::faults::{Key, LoadFault};
+use tokens::Format;
 use toml::{Table, Value};
 
 /// What the keys hold: the entries are arrays of strings.
 #[derive(Drop)]
 pub struct Fields<'a> {
-    /// Whether the format is 1, and not 2.
-    pub one: bool,
+    /// The format, 1 or 2.
+    pub format: Format,
     /// The network indicator, 0 to 3.
     pub ni: u8,
     /// The option of the transfer-restricted procedure.
@@ -33,21 +33,31 @@ pub struct Fields<'a> {
 /// What the keys hold that hold no entries.
 #[derive(Clone, Copy)]
 struct Options {
-    /// Whether the format is 1, and not 2.
-    one: bool,
+    /// The format, 1 or 2.
+    format: Format,
     /// The network indicator, 0 to 3.
     ni: u8,
     /// The option of the transfer-restricted procedure.
     tfr: bool,
 }
 
+/// Whether a format has the key `tfr`.
+fn knows_tfr(format: Format) -> bool
+    ensures { result ≡ has_tfr format }
+{
+    match format {
+        Format::One => false,
+        Format::Two => true,
+    }
+}
+
 /// Whether a key is one of the table.
-fn is_key(one: bool, key: &str) -> bool
-    ensures { result ≡ is_known one key.now }
+fn is_key(format: Format, key: &str) -> bool
+    ensures { result ≡ is_known format key.now }
 {
     key == "format"
         || key == "ni"
-        || (key == "tfr" && !one)
+        || (key == "tfr" && knows_tfr(format))
         || key == "points"
         || key == "pairs"
         || key == "sets"
@@ -55,17 +65,17 @@ fn is_key(one: bool, key: &str) -> bool
 }
 
 /// Whether each of the map's keys is one of the table.
-fn all_keys_known(one: bool, table: &Table) -> bool
-    ensures { result ≡ list_all (λ key. is_known one (string_bytes key)) (keys table.now) }
+fn all_keys_known(format: Format, table: &Table) -> bool
+    ensures { result ≡ list_all (λ key. is_known format (string_bytes key)) (keys table.now) }
 {
-    table.keys().all(|key| is_key(one, key.as_str()))
+    table.keys().all(|key| is_key(format, key.as_str()))
 }
 
 /// Whether each key of the document is one of the table.
-fn has_only_keys(one: bool, table: &Table) -> bool
-    ensures { result ≡ has_known_keys one (table_view table.now) }
+fn has_only_keys(format: Format, table: &Table) -> bool
+    ensures { result ≡ has_known_keys format (table_view table.now) }
 {
-    all_keys_known(one, table)
+    all_keys_known(format, table)
 }
 
 /// The value at a key.
@@ -93,26 +103,26 @@ fn read_unsigned(table: &Table, key: &str) -> Option<u64>
     not_negative(value.as_integer()?)
 }
 
-/// Whether the format is the number 1.
-fn has_format_one(table: &Table) -> bool
-    ensures { result ≡ is_format_one (unsigned_of (get_member (codes "format") (table_view table.now))) }
+/// The format by which keys are known: 1 if it is the number 1, else 2.
+fn read_keys_format(table: &Table) -> Format
+    ensures { result ≡ keys_format (unsigned_of (get_member (codes "format") (table_view table.now))) }
 {
     match read_unsigned(table, "format") {
-        Some(n) => n == 1,
-        None => false,
+        Some(n) => { if n == 1 { Format::One } else { Format::Two } }
+        None => Format::Two,
     }
 }
 
-/// Whether the format is 1, and not 2. `BadKey(Format)` if it is neither.
-fn read_format(table: &Table) -> Result<bool, LoadFault>
+/// The format, 1 or 2. `BadKey(Format)` if it is neither.
+fn read_format(table: &Table) -> Result<Format, LoadFault>
     ensures { result ≡ format_from (unsigned_of (get_member (codes "format") (table_view table.now))) }
 {
     match read_unsigned(table, "format") {
         Some(n) => {
             if n == 1 {
-                Ok(true)
+                Ok(Format::One)
             } else if n == 2 {
-                Ok(false)
+                Ok(Format::Two)
             } else {
                 Err(LoadFault::BadKey(Key::Format))
             }
@@ -197,12 +207,13 @@ fn texts_at<'a>(table: &'a Table, name: &str, key: Key) -> Result<&'a [Value], L
 
 /// The keys that hold no entries, or the first fault of one of them.
 fn read_options(table: &Table) -> Result<Options, LoadFault>
-    ensures ok { IfOk result (λ o. options_in (table_view table.now) ≡ Ok (o.one, o.ni, o.tfr)) }
+    ensures ok { IfOk result (λ o. options_in (table_view table.now) ≡ Ok (o.format, o.ni, o.tfr)) }
     ensures ni { IfOk result (λ o. o.ni ≤ 3) }
     ensures err { IfErr result (λ e. options_in (table_view table.now) ≡ Err e) }
 {
-    let one = match read_format(table) {
-        Ok(one) => one,
+    // Not by `?`, over which the prover doesn't find the type of a refusal.
+    let format = match read_format(table) {
+        Ok(format) => format,
         Err(fault) => return Err(fault),
     };
     let ni = match read_ni(table) {
@@ -210,7 +221,7 @@ fn read_options(table: &Table) -> Result<Options, LoadFault>
         Err(fault) => return Err(fault),
     };
     match read_tfr(table) {
-        Ok(tfr) => Ok(Options { one, ni, tfr }),
+        Ok(tfr) => Ok(Options { format, ni, tfr }),
         Err(fault) => Err(fault),
     }
 }
@@ -221,16 +232,16 @@ pub fn read_fields(table: &Table) -> Result<Fields<'_>, LoadFault>
     ensures ni { IfOk result (λ fields. fields.ni ≤ 3) }
     ensures err { IfErr result (λ e. held_by (table_view table.entry.now) ≡ Err e) }
 {
-    if !has_only_keys(has_format_one(table), table) {
+    if !has_only_keys(read_keys_format(table), table) {
         return Err(LoadFault::BadKey(Key::Unknown));
     }
-    let Options { one, ni, tfr } = read_options(table)?;
+    let Options { format, ni, tfr } = read_options(table)?;
     let points = texts_at(table, "points", Key::Points)?;
     let pairs = texts_at(table, "pairs", Key::Pairs)?;
     let sets = texts_at(table, "sets", Key::Sets)?;
     let plans = texts_at(table, "plans", Key::Plans)?;
     Ok(Fields {
-        one,
+        format,
         ni,
         tfr,
         points,

@@ -12,8 +12,8 @@
 //!    entry, in the order of rule 3, by its place, counted from 1: one that can't be read or whose event is refused.
 //!    Out of memory may come at any point.
 //!
-//! Stands on `tokens`, `net_building`, `toml`. A change here also changes specs/ (Entries, Faults, Keys, Reading,
-//! Shown), proofs/ and must-fail/.
+//! Stands on `net_building`, `script_words`, `toml`. A change here also changes specs/ (Entries, Faults, Keys,
+//! Reading), proofs/ and must-fail/.
 #![tactic(auto)]
 
 mod entries;

@@ -2,16 +2,17 @@
 
 ghost use Rattle.std.specs.Prelude.{◌≡◌, ◌≢◌, ◌≤◌, map, Ok, Err, IfOk, IfErr, OnOk};
 ghost use Rattle.toml.specs.View.{view, table_view};
-ghost use Rattle.net_text.specs.Keys.{text_of};
+ghost use Rattle.net_data.specs.Edits.{apply_all};
+ghost use Rattle.net_text.specs.Keys.{held, text_of};
 ghost use Rattle.net_text.specs.Entries.{entry_of};
-ghost use Rattle.net_text.specs.Reading.{Says, network_of, apply_all, apply_entry as entry_applied, apply_entries as entries_applied, apply_fields as fields_applied, start as started, build as built};
-ghost use Rattle.net_text.specs.Shown.{held};
+ghost use Rattle.net_text.specs.Reading.{Says, network_of, apply_entry as entry_applied, apply_entries as entries_applied, apply_fields as fields_applied, start as started, build as built};
 
 use crate::entries::read_entry;
 use crate::faults::{Key, LoadFault};
 use crate::keys::{Fields, read_fields, text_in};
 use net_data::{Event, Net, Refusal};
 use std::alloc::Global;
+use tokens::Format;
 use toml::{Table, Value};
 
 /// Applies each event in turn, up to the first refusal.
@@ -30,14 +31,14 @@ fn apply_entry(
     alloc: Global,
     net: &mut Net,
     key: Key,
-    one: bool,
+    format: Format,
     place: usize,
     text: &[u8],
 ) -> Result<(), LoadFault>
-    ensures ok { OnOk result (entry_applied key place net.old (entry_of key one text.now) ≡ Ok net.new) }
-    ensures err { IfErr result (λ e. e ≢ LoadFault.OutOfMemory → entry_applied key place net.old (entry_of key one text.now) ≡ Err e) }
+    ensures ok { OnOk result (entry_applied key place net.old (entry_of key format text.now) ≡ Ok net.new) }
+    ensures err { IfErr result (λ e. e ≢ LoadFault.OutOfMemory → entry_applied key place net.old (entry_of key format text.now) ≡ Err e) }
 {
-    let events = match read_entry(alloc, key, one, text) {
+    let events = match read_entry(alloc, key, format, text) {
         Ok(Some(events)) => events,
         Ok(None) => return Err(LoadFault::BadLine(key, place)),
         Err(_) => return Err(LoadFault::OutOfMemory),
@@ -54,14 +55,14 @@ fn apply_entries(
     alloc: Global,
     net: &mut Net,
     key: Key,
-    one: bool,
+    format: Format,
     values: &[Value],
 ) -> Result<(), LoadFault>
-    ensures ok { OnOk result (entries_applied key one 1 net.old (map (λ v. text_of (view v)) values.now) ≡ Ok net.new) }
-    ensures err { IfErr result (λ e. e ≢ LoadFault.OutOfMemory → entries_applied key one 1 net.old (map (λ v. text_of (view v)) values.now) ≡ Err e) }
+    ensures ok { OnOk result (entries_applied key format 1 net.old (map (λ v. text_of (view v)) values.now) ≡ Ok net.new) }
+    ensures err { IfErr result (λ e. e ≢ LoadFault.OutOfMemory → entries_applied key format 1 net.old (map (λ v. text_of (view v)) values.now) ≡ Err e) }
 {
     for (i, value) in values.iter().enumerate() {
-        if let Err(fault) = apply_entry(alloc, net, key, one, i + 1, text_in(value).as_bytes()) {
+        if let Err(fault) = apply_entry(alloc, net, key, format, i + 1, text_in(value).as_bytes()) {
             return Err(fault);
         }
     }
@@ -86,16 +87,16 @@ fn apply_fields(alloc: Global, net: &mut Net, fields: &Fields) -> Result<(), Loa
     ensures ok { OnOk result (fields_applied (held fields.now) net.old ≡ Ok net.new) }
     ensures err { IfErr result (λ e. e ≢ LoadFault.OutOfMemory → fields_applied (held fields.now) net.old ≡ Err e) }
 {
-    if let Err(fault) = apply_entries(alloc, net, Key::Points, fields.one, fields.points) {
+    if let Err(fault) = apply_entries(alloc, net, Key::Points, fields.format, fields.points) {
         return Err(fault);
     }
-    if let Err(fault) = apply_entries(alloc, net, Key::Pairs, fields.one, fields.pairs) {
+    if let Err(fault) = apply_entries(alloc, net, Key::Pairs, fields.format, fields.pairs) {
         return Err(fault);
     }
-    if let Err(fault) = apply_entries(alloc, net, Key::Sets, fields.one, fields.sets) {
+    if let Err(fault) = apply_entries(alloc, net, Key::Sets, fields.format, fields.sets) {
         return Err(fault);
     }
-    apply_entries(alloc, net, Key::Plans, fields.one, fields.plans)
+    apply_entries(alloc, net, Key::Plans, fields.format, fields.plans)
 }
 
 /// The network of the entries, or their first fault, with their places counted from 1.

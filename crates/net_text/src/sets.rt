@@ -11,15 +11,15 @@ use link_state::{End, LinkChange, Marks};
 use net_data::Event;
 use net_items::{Link, LinkSet, Links, Slcs};
 use std::alloc::{AllocError, Global};
-use tokens::{read_code, read_id, read_marked};
+use tokens::{Format, read_code, read_id, read_marked};
 
 /// The links of a set, with their marks. `None` if a word is no MARKED.
-fn read_links(alloc: Global, one: bool, words: &[&[u8]]) -> Result<Option<Links>, AllocError>
-    ensures { IfOk result (λ links. links ≡ all_of (marked_of one) (map (λ w. w.now) words.now)) }
+fn read_links(alloc: Global, format: Format, words: &[&[u8]]) -> Result<Option<Links>, AllocError>
+    ensures { IfOk result (λ links. links ≡ all_of (marked_of format) (map (λ w. w.now) words.now)) }
 {
     let mut links = Vec::with_capacity(alloc, words.len())?;
     for word in words {
-        match read_marked(one, *word) {
+        match read_marked(format, *word) {
             Some(link) => links.push(link)?,
             None => return Ok(None),
         }
@@ -38,15 +38,19 @@ fn set_with(id: &[u8], a: &[u8], b: &[u8], links: Links) -> Option<LinkSet>
 }
 
 /// An entry `ID CODE CODE MARKED MARKED ..`.
-pub fn read_set(alloc: Global, one: bool, words: &[&[u8]]) -> Result<Option<LinkSet>, AllocError>
-    ensures { IfOk result (λ set. set ≡ set_of one (map (λ w. w.now) words.now)) }
+pub fn read_set(
+    alloc: Global,
+    format: Format,
+    words: &[&[u8]],
+) -> Result<Option<LinkSet>, AllocError>
+    ensures { IfOk result (λ set. set ≡ set_of format (map (λ w. w.now) words.now)) }
 {
     match words {
         [id, a, b, links @ ..] => {
             if links.is_empty() {
                 return Ok(None);
             }
-            match read_links(alloc, one, links)? {
+            match read_links(alloc, format, links)? {
                 Some(links) => Ok(set_with(*id, *a, *b, links)),
                 None => Ok(None),
             }

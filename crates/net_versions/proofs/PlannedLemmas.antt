@@ -9,7 +9,7 @@ use Rattle.net_items.specs.Keyed.{IsRising, at_key}
 use Rattle.net_items.specs.Lookups.{plan_at}
 use Rattle.net_data.specs.Network.{Network}
 use Rattle.profile.proofs.CertificateLemmas.{find-map}
-use Rattle.excerpts.specs.Excerpts.{ExcerptValue, excerpt_in, excerpt_at, IsAnswer}
+use Rattle.excerpts.specs.Excerpt.{ExcerptValue, excerpt_in, excerpt_at, IsExcerptAnswer}
 use Rattle.excerpts.specs.declared.faults.ExcerptFault.{ExcerptFault}
 use Rattle.transfer_state.proofs.SweepLemmas.{at_index}
 use Rattle.net_versions.specs.Versions.{excerpts}
@@ -24,7 +24,7 @@ found_in_place key (x ∷ xs) (suc i) d rising low =
     rw other (found_in_place key xs i d rising.1 (omega arith))
 
 -- the excerpt that is handed out is the one that is there
-pub answer_is : (o : Option ExcerptValue) (x e : ExcerptValue) → o ≡ Some x → IsAnswer o (Ok e) → e ≡ x
+pub answer_is : (o : Option ExcerptValue) (x e : ExcerptValue) → o ≡ Some x → IsExcerptAnswer o (Ok e) → e ≡ x
 answer_is None x e there answer = absurd (cc)
 answer_is (Some y) x e there answer = let same : y ≡ x = cc in answer ∙ same
 

@@ -5,7 +5,7 @@ use Rattle.net_data.specs.declared.events.Event.{Event}
 use Rattle.net_data.specs.Network.{Network}
 use Rattle.profile.specs.declared.tables.Table.{Table}
 use Rattle.profile.specs.Whole.{scratch}
-use Rattle.excerpts.specs.Excerpts.{ExcerptValue, excerpt_at, excerpt_in, source_of}
+use Rattle.excerpts.specs.Excerpt.{ExcerptValue, excerpt_at, excerpt_in, source_of}
 
 -- its number, the events since the version before, and its network, which says all else
 pub record VersionValue : Type 0 where

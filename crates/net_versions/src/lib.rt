@@ -8,6 +8,6 @@
 //! Stands on `transfer_state`. A change here also changes specs/ (Versions), proofs/ and must-fail/.
 #![tactic(auto)]
 
-pub mod version;
+pub mod versions;
 
-pub use version::Version;
+pub use versions::Version;

@@ -6,7 +6,7 @@ use point_codes::PointCode;
 use std::alloc::Global;
 use std::test::Fail;
 use tokens::{
-    read_code, read_id, read_kind, read_marked, read_rank, read_row, read_slc, split_words,
+    Format, read_code, read_id, read_kind, read_marked, read_rank, read_row, read_slc, split_words,
 };
 
 #[test]
@@ -72,9 +72,9 @@ fn links(rt: HostRuntime) {
         },
     };
     let read = [
-        read_marked(false, b"10baib".as_slice()),
-        read_marked(true, b"10baib".as_slice()),
-        read_marked(false, b"10bbba".as_slice()),
+        read_marked(Format::Two, b"10baib".as_slice()),
+        read_marked(Format::One, b"10baib".as_slice()),
+        read_marked(Format::Two, b"10bbba".as_slice()),
     ];
     assert_eq!(rt; read, [Some(link), None, None]);
 }

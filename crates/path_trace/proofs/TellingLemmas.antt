@@ -12,10 +12,10 @@ use Rattle.profile.specs.declared.hops.Trace.{Trace}
 use Rattle.profile.specs.Status.{Source}
 use Rattle.profile.specs.Traces.{trace_of, hops_in, Leads, IsTrace}
 use Rattle.profile.proofs.HopLemmas.{trace_is}
-use Rattle.excerpts.specs.Excerpts.{ExcerptValue, IsRight, excerpt_in, excerpt_at, source_of}
+use Rattle.excerpts.specs.Excerpt.{ExcerptValue, IsRight, excerpt_in, excerpt_at, source_of}
 use Rattle.path_trace.specs.declared.faults.TraceFault.{TraceFault}
 use Rattle.path_trace.specs.declared.faults.TraceFault.TheVariants.{NoRow}
-use Rattle.path_trace.specs.Traces.{trace_by, IsAnswer, TellsOf, IsTold}
+use Rattle.path_trace.specs.Traces.{trace_by, IsTraceAnswer, TellsOf, IsTold}
 
 -- a plan that is found is of the destination
 dest_is : (plans : List Plan) (x : ℕ) (plan : Plan) → plan_at plans x ≡ Some plan → plan.dest ≡ x
@@ -32,17 +32,17 @@ tells src y x (Trace.Reached hops) dest is = record { usable = is.usable; few = 
 tells src y x Trace.Stopped dest is = is
 
 -- a trace that is told is the one that is there
-trace_told : (o : Option Row) (hops : Option (List Hop)) (trace : Trace) → IsAnswer (option_map_or (λ row. Ok hops) o (Err NoRow)) (Ok trace) → hops_in trace ≡ hops
+trace_told : (o : Option Row) (hops : Option (List Hop)) (trace : Trace) → IsTraceAnswer (option_map_or (λ row. Ok hops) o (Err NoRow)) (Ok trace) → hops_in trace ≡ hops
 trace_told None hops trace answer = absurd (cc)
 trace_told (Some row) hops trace answer = answer
 
-told_by : (e : ExcerptValue) (y x s : ℕ) (trace : Trace) → IsRight e → s < 16 → e.plan.dest ≡ x → IsAnswer (trace_by e y s) (Ok trace) → TellsOf (source_of e) y x trace
+told_by : (e : ExcerptValue) (y x s : ℕ) (trace : Trace) → IsRight e → s < 16 → e.plan.dest ≡ x → IsTraceAnswer (trace_by e y s) (Ok trace) → TellsOf (source_of e) y x trace
 told_by e y x s trace right low dest answer =
     let is : hops_in trace ≡ trace_of (source_of e) y s = trace_told (row_at e.plan.rows y) (trace_of (source_of e) y s) trace answer in
     tells (source_of e) y x trace dest (subst (IsTrace (source_of e) y) (sym is) (trace_is (source_of e) right.valid right.few s low y))
 
 -- an answer to a trace by the excerpt of a destination tells of the network
-pub told : (net : Network) (y x s : ℕ) (e : ExcerptValue) (result : Result Trace TraceFault) → IsRight e → s < 16 → Some e ≡ excerpt_at net x → IsAnswer (trace_by e y s) result → IfOk result (IsTold net y x)
+pub told : (net : Network) (y x s : ℕ) (e : ExcerptValue) (result : Result Trace TraceFault) → IsRight e → s < 16 → Some e ≡ excerpt_at net x → IsTraceAnswer (trace_by e y s) result → IfOk result (IsTold net y x)
 told net y x s e (Err fault) right low at answer = tt
 told net y x s e (Ok trace) right low at answer =
     λ plan there. (

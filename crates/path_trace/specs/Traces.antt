@@ -7,9 +7,9 @@ use Rattle.net_items.specs.Lookups.{plan_at, row_at}
 use Rattle.net_data.specs.Network.{Network}
 use Rattle.profile.specs.declared.hops.Hop.{Hop}
 use Rattle.profile.specs.declared.hops.Trace.{Trace}
-use Rattle.profile.specs.Status.{Source, rank_of, status}
+use Rattle.profile.specs.Status.{Source, source_rank, status}
 use Rattle.profile.specs.Traces.{trace_of, hops_in, Leads}
-use Rattle.excerpts.specs.Excerpts.{ExcerptValue, excerpt_in, network_source, source_of}
+use Rattle.excerpts.specs.Excerpt.{ExcerptValue, excerpt_in, network_source, source_of}
 use Rattle.path_trace.specs.declared.faults.TraceFault.{TraceFault}
 use Rattle.path_trace.specs.declared.faults.TraceFault.TheVariants.{OutOfMemory, NoPlan, NoRow}
 
@@ -22,14 +22,14 @@ abbrev pub trace_at : Network → ℕ → ℕ → ℕ → Result (Option (List H
 trace_at net y x s = option_map_or (λ plan. trace_by (excerpt_in net plan) y s) (plan_at net.plans x) (Err NoPlan)
 
 -- an answer: the refusal, else the trace, or out of memory
-abbrev pub IsAnswer : Result (Option (List Hop)) TraceFault → Result Trace TraceFault → Type 0
-IsAnswer (Err fault) result = result ≡ Err fault
-IsAnswer (Ok hops) result = MatchResult result (λ trace. hops_in trace ≡ hops) (λ fault. fault ≡ OutOfMemory)
+abbrev pub IsTraceAnswer : Result (Option (List Hop)) TraceFault → Result Trace TraceFault → Type 0
+IsTraceAnswer (Err fault) result = result ≡ Err fault
+IsTraceAnswer (Ok hops) result = MatchResult result (λ trace. hops_in trace ≡ hops) (λ fault. fault ≡ OutOfMemory)
 
 -- hops from a point that isn't prohibited to another, at most twice the rank
 pub record IsWay (src : Source) (y x : ℕ) (hops : List Hop) : Type 0 where
   pub usable : status src y ≢ Prohibited
-  pub few : length hops ≤ 2 * rank_of src y
+  pub few : length hops ≤ 2 * source_rank src y
   pub leads : Leads y hops x
 
 -- where a trace stops the status of the point is prohibited, else its hops are a way to the destination

@@ -10,7 +10,7 @@
 #![tactic(auto)]
 
 pub mod faults;
-pub mod tracing;
+pub mod traces;
 
 pub use faults::TraceFault;
-pub use tracing::trace;
+pub use traces::trace;

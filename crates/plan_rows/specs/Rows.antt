@@ -12,14 +12,6 @@ use Rattle.net_sets.specs.Sets.{is_nil}
 abbrev pub all_vias : (ℕ → Bool) → Row → Bool
 all_vias p r = list_all (λ vias. list_all p vias) r.classes
 
--- a via passes
-abbrev pub any_via : (ℕ → Bool) → Row → Bool
-any_via p r = list_any (λ vias. list_any p vias) r.classes
-
--- z is a via of the row
-abbrev pub is_via : ℕ → Row → Bool
-is_via z r = any_via (λ via. via == z) r
-
 -- z is the mate of y
 abbrev pub is_mate : List Point → ℕ → ℕ → Bool
 is_mate points y z = option_map_or (λ m. m == z) (mate_of points y) false

@@ -1,15 +1,16 @@
 -- What the rows of a plan use.
 use Rattle.std.specs.Prelude.{ℕ, Bool, not, ◌&&◌, ◌||◌, ◌==◌, List}
 use Rattle.std.specs.List.{list_any}
+use Rattle.net_items.specs.Lookups.{is_via}
 use Rattle.net_items.specs.declared.items.Point.{Point}
 use Rattle.net_items.specs.declared.items.LinkSet.{LinkSet}
 use Rattle.net_items.specs.declared.items.Plan.{Plan}
 use Rattle.net_items.specs.declared.lists.Row.{Row}
-use Rattle.plan_rows.specs.Rows.{is_via, is_mate}
+use Rattle.plan_rows.specs.Rows.{is_mate}
 
 -- a row of y leads to z as a via, and the plan's destination isn't z
 abbrev pub row_uses : ℕ → ℕ → ℕ → Row → Bool
-row_uses y z dest r = (r.point == y && not (z == dest)) && is_via z r
+row_uses y z dest r = (r.point == y && not (z == dest)) && is_via r z
 
 -- a row of one of them leads to the other as a via, and that isn't the plan's destination
 abbrev pub either_uses : ℕ → ℕ → ℕ → Row → Bool
@@ -37,7 +38,7 @@ has_flag y p = list_any (is_flagged y) p.rows
 
 -- a row of y leads to z, as a via or as its mate
 abbrev pub row_leads : List Point → ℕ → ℕ → Row → Bool
-row_leads points y z r = r.point == y && (is_via z r || (r.mate && is_mate points y z))
+row_leads points y z r = r.point == y && (is_via r z || (r.mate && is_mate points y z))
 
 -- a row of one end of the set leads to the other
 abbrev pub either_leads : List Point → LinkSet → Row → Bool

@@ -15,7 +15,7 @@ use crate::row_questions::{
     are_vias_joined, are_vias_lower, are_vias_no_mates, has_mate_row, is_small_row,
 };
 use crate::seen::{are_vias_once, is_seen, see, see_points};
-use crate::setting::Setting;
+use crate::settings::Setting;
 use crate::transfers::note_transfers;
 use net_items::{Point, Row};
 use net_sets::Sets;

@@ -19,9 +19,9 @@ pub mod causes;
 pub mod ranks;
 pub mod row_questions;
 pub mod seen;
-pub mod setting;
+pub mod settings;
 pub mod transfers;
 pub mod uses;
 
 pub use causes::{Cause, WrongRow};
-pub use setting::Setting;
+pub use settings::Setting;

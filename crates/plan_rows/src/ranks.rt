@@ -43,29 +43,30 @@ pub fn note_ranks(ranks: &mut [u16], rows: &[Row])
 }
 
 /// Whether the point has a row of lower rank than that.
-pub fn has_lower(ranks: &[u16], rows: &[Row], z: PointCode, rank: u8) -> bool
+pub fn has_lower(ranks: &[u16], rows: &[Row], point: PointCode, rank: u8) -> bool
     requires long { length ranks.now ≡ 16384 }
     requires ranks { IsRanks ranks.now rows.now }
-    ensures { result ≡ has_lower_row rows.now z rank }
+    ensures { result ≡ has_lower_row rows.now point rank }
 {
-    let noted = ranks[z.number() as usize];
+    let noted = ranks[point.number() as usize];
     noted != 0 && noted <= u16::from(rank)
 }
 
 /// Whether a row of the point with that rank is among these.
-fn find_equal(rows: &[Row], z: PointCode, rank: u8) -> bool
-    ensures { result ≡ has_equal_row rows.now z rank }
+fn find_equal(rows: &[Row], point: PointCode, rank: u8) -> bool
+    ensures { result ≡ has_equal_row rows.now point rank }
 {
-    rows.iter().any(|row| row.point == z && row.rank == rank)
+    rows.iter()
+        .any(|row| row.point == point && row.rank == rank)
 }
 
 /// Whether the point has a row of that rank.
-pub fn has_same(ranks: &[u16], rows: &[Row], z: PointCode, rank: u8) -> bool
+pub fn has_same(ranks: &[u16], rows: &[Row], point: PointCode, rank: u8) -> bool
     requires long { length ranks.now ≡ 16384 }
     requires ranks { IsRanks ranks.now rows.now }
-    ensures { result ≡ has_equal_row rows.now z rank }
+    ensures { result ≡ has_equal_row rows.now point rank }
 {
-    let noted = ranks[z.number() as usize];
+    let noted = ranks[point.number() as usize];
     let wanted = u16::from(rank) + 1;
     if noted == wanted {
         return true;
@@ -77,5 +78,5 @@ pub fn has_same(ranks: &[u16], rows: &[Row], z: PointCode, rank: u8) -> bool
         return false;
     }
     // A lower rank is noted: a row of this rank is there only if the point has two.
-    find_equal(rows, z, rank)
+    find_equal(rows, point, rank)
 }

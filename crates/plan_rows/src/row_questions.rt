@@ -5,21 +5,21 @@ ghost use Rattle.std.specs.List.{list_all};
 ghost use Rattle.std.specs.Option.{option_map_or};
 ghost use Rattle.net_items.specs.Keyed.{IsRising, IsFoundAt, IsGapAt};
 ghost use Rattle.net_items.specs.Lookups.{point_at, has_point, is_stp as stp, mate_of as mate, set_between, adjacent, row_at};
-ghost use Rattle.plan_rows.specs.Rows.{all_vias, any_via, is_mate as mate_is, is_lower as lower, is_free as free, is_small_class as small_class, has_mate_row as mate_row, is_small_row as small_row};
+ghost use Rattle.plan_rows.specs.Rows.{all_vias, is_mate as mate_is, is_lower as lower, is_free as free, is_small_class as small_class, has_mate_row as mate_row, is_small_row as small_row};
 
-use crate::setting::Setting;
+use crate::settings::Setting;
 use net_items::lookups::mate_of;
 use net_items::{Point, Row, Vias};
 use net_sets::{Around, Sets};
 use point_codes::PointCode;
 
 /// Whether a point is the mate of another.
-pub fn is_mate(points: &[Point], y: PointCode, z: PointCode) -> bool
+pub fn is_mate(points: &[Point], point: PointCode, other: PointCode) -> bool
     requires { IsRising (λ p. p.code) points.now }
-    ensures { result ≡ mate_is points.now y z }
+    ensures { result ≡ mate_is points.now point other }
 {
-    match mate_of(points, y) {
-        Some(mate) => mate == z,
+    match mate_of(points, point) {
+        Some(mate) => mate == other,
         None => false,
     }
 }
@@ -47,16 +47,16 @@ pub fn are_vias_joined(sets: &Sets, row: &Row) -> bool
 }
 
 /// Whether a via leads to the destination, or to a transfer point with a row of lower rank.
-fn is_lower(setting: &Setting<'_>, row: &Row, z: PointCode) -> bool
-    ensures { result ≡ lower setting.now.points setting.now.dest setting.now.rows row.now z }
+fn is_lower(setting: &Setting<'_>, row: &Row, via: PointCode) -> bool
+    ensures { result ≡ lower setting.now.points setting.now.dest setting.now.rows row.now via }
 {
-    if z == setting.dest() {
+    if via == setting.dest() {
         return true;
     }
-    if !setting.is_stp(z) {
+    if !setting.is_stp(via) {
         return false;
     }
-    setting.has_lower_row(z, row.rank)
+    setting.has_lower_row(via, row.rank)
 }
 
 fn are_lower(setting: &Setting<'_>, row: &Row, vias: &[PointCode]) -> bool
@@ -81,11 +81,11 @@ pub fn are_vias_lower(setting: &Setting<'_>, row: &Row) -> bool
 }
 
 /// Whether a point is the destination, or isn't that mate.
-fn is_free_of(mate: Option<PointCode>, dest: PointCode, z: PointCode) -> bool
-    ensures { result ≡ (z == dest || not (option_map_or (λ m. m == z) mate false)) }
+fn is_free_of(mate: Option<PointCode>, dest: PointCode, via: PointCode) -> bool
+    ensures { result ≡ (via == dest || not (option_map_or (λ m. m == via) mate false)) }
 {
     match mate {
-        Some(mate) => z == dest || mate != z,
+        Some(mate) => via == dest || mate != via,
         None => true,
     }
 }

@@ -17,10 +17,10 @@ use Rattle.profile.specs.declared.tables.Table.{Table}
 use Rattle.link_sets.specs.Availability.{set_available, connected}
 use Rattle.net_items.specs.Lookups.{joins}
 use Rattle.route_choice.specs.Routes.{no_choice, choose}
-use Rattle.profile.specs.Status.{Source, row_of, offer, offers, mate_row, over_mate, choice}
+use Rattle.profile.specs.Status.{Source, source_row, offer, offers, mate_row, over_mate, choice}
 use Rattle.profile.specs.Local.{message, reading}
 use Rattle.profile.proofs.LocalLemmas.{heard, far_heard, local_choice, IsScratch}
-use Rattle.profile.specs.Valid.{IsVia, IsLower, IsValidRow, IsValid}
+use Rattle.profile.specs.Valid.{IsVia, IsLower, IsValidRow, IsValidSource}
 use Rattle.link_sets.specs.Neighbours.{all_codes, code_count, neighbours}
 use Rattle.profile.specs.Whole.{messages_of, state_of, scratch, heard_in, heard_from, choice_heard, IsSettledTable}
 use Rattle.link_sets.proofs.ListLemmas.{map_same}
@@ -84,18 +84,18 @@ module _ (src : Source) where
   abbrev pub entries_of : Table → ℕ → Choice
   entries_of table y = option_map_or (λ state. state.choice) (find (λ state. eqb state.point y) table.rows) no_choice
 
-  module _ (valid : IsValid src) (table : Table) (c : Row → Choice) (made : table.rows ≡ map (λ row. state_of src row (c row)) src.rows) where
-    pub state_found : (y : ℕ) (row : Row) → row_of src y ≡ Some row → find (λ state. eqb state.point y) table.rows ≡ Some (state_of src row (c row))
+  module _ (valid : IsValidSource src) (table : Table) (c : Row → Choice) (made : table.rows ≡ map (λ row. state_of src row (c row)) src.rows) where
+    pub state_found : (y : ℕ) (row : Row) → source_row src y ≡ Some row → find (λ state. eqb state.point y) table.rows ≡ Some (state_of src row (c row))
     state_found y row e =
         ap (find (λ (state : RowState). eqb state.point y)) made
         ∙ find-map (λ (state : RowState). eqb state.point y) (λ (r : Row). eqb r.point y) (λ r. state_of src r (c r)) (λ r. refl) src.rows
         ∙ ap (option_map (λ r. state_of src r (c r))) e
 
-    pub entry_is : (y : ℕ) (row : Row) → row_of src y ≡ Some row → entries_of table y ≡ c row
+    pub entry_is : (y : ℕ) (row : Row) → source_row src y ≡ Some row → entries_of table y ≡ c row
     entry_is y row e = ap (λ (o : Option RowState). option_map_or (λ state. state.choice) o no_choice) (state_found y row e)
 
     -- what is heard of a neighbour from the table is what its choice says
-    pub heard_from_is : (row below : Row) (z : ℕ) → IsValidRow src row → row_of src z ≡ Some below → src.is_stp z ≡ true → connected src.sets row.point z ≡ true → heard_from table row.point z ≡ heard (entries_of table z) row.point
+    pub heard_from_is : (row below : Row) (z : ℕ) → IsValidRow src row → source_row src z ≡ Some below → src.is_stp z ≡ true → connected src.sets row.point z ≡ true → heard_from table row.point z ≡ heard (entries_of table z) row.point
     heard_from_is row below z ok planned stp joined =
         let at : below.point ≡ z = (row_valid src valid z below planned).0 in
         let back : connected src.sets below.point row.point ≡ true = ap (λ w. connected src.sets w row.point) at ∙ sym (connected_back src.sets row.point z) ∙ joined in
@@ -104,7 +104,7 @@ module _ (src : Source) where
         ∙ ap (λ (k : Choice). heard k row.point) (sym (entry_is z below planned))
 
     -- a row's choice by what it hears from the table is the local one
-    pub choice_heard_is : (row : Row) → row_of src row.point ≡ Some row → IsValidRow src row → choice_heard src table row ≡ local_choice src (entries_of table) row
+    pub choice_heard_is : (row : Row) → source_row src row.point ≡ Some row → IsValidRow src row → choice_heard src table row ≡ local_choice src (entries_of table) row
     choice_heard_is row planned ok = rw vias (ap (choose src.tfr (offers src (far_heard src (entries_of table) row.point) row)) (go (mate_row src row) refl))
       where
         told : ℕ → Far
@@ -131,7 +131,7 @@ module _ (src : Source) where
             (All-weaker (IsVia src row) (λ z. offer src told row.point z ≡ offer src (far_heard src (entries_of table) row.point) row.point z) one vias each))
             row.classes ok.vias)
 
-        over : (mate : Row) → row_of src mate.point ≡ Some mate → src.is_stp mate.point ≡ true → over_mate src row mate (heard_from table row.point mate.point) ≡ over_mate src row mate (heard (entries_of table mate.point) row.point)
+        over : (mate : Row) → source_row src mate.point ≡ Some mate → src.is_stp mate.point ≡ true → over_mate src row mate (heard_from table row.point mate.point) ≡ over_mate src row mate (heard (entries_of table mate.point) row.point)
         over mate planned stp = split (connected src.sets row.point mate.point) refl
           where
             split : (b : Bool) → connected src.sets row.point mate.point ≡ b → over_mate src row mate (heard_from table row.point mate.point) ≡ over_mate src row mate (heard (entries_of table mate.point) row.point)
@@ -148,11 +148,11 @@ module _ (src : Source) where
             rw is (over h.0.mate h.0.planned (valid.mates_transfer row.point h.0.mate.point h.0.paired))
 
   -- rows that agree make the same list, if each row of the plan is found at its point
-  pub rows_same : IsValid src → (f g : Row → RowState) → ((row : Row) → row_of src row.point ≡ Some row → f row ≡ g row) → map f src.rows ≡ map g src.rows
+  pub rows_same : IsValidSource src → (f g : Row → RowState) → ((row : Row) → source_row src row.point ≡ Some row → f row ≡ g row) → map f src.rows ≡ map g src.rows
   rows_same valid f g same = map_same f g src.rows (λ k d low. same _ (row_at_place src valid k (get_or src.rows k d) (slice_get-get_or src.rows k d low)))
 
   -- THE CERTIFICATE of a whole table
-  pub settled_table : IsValid src → (table : Table) → IsSettledTable src table → table ≡ scratch src
+  pub settled_table : IsValidSource src → (table : Table) → IsSettledTable src table → table ≡ scratch src
   settled_table valid table settled =
       let made : table.rows ≡ map (λ row. state_of src row (choice_heard src table row)) src.rows = ap (λ (t : Table). t.rows) settled in
       let right : IsScratch src (entries_of table) = settled_scratch src valid (entries_of table) (λ y row e.
@@ -164,7 +164,7 @@ module _ (src : Source) where
       (rows_same valid (λ row. state_of src row (choice_heard src table row)) (λ row. state_of src row (choice src row))
       (λ row there. ap (state_of src row) (sym (entry_is valid table (choice_heard src table) made row.point row there) ∙ right row.point row there)))
 
-  pub scratch_table : IsValid src → IsSettledTable src (scratch src)
+  pub scratch_table : IsValidSource src → IsSettledTable src (scratch src)
   scratch_table valid =
       let right : IsScratch src (entries_of (scratch src)) = λ y row e. entry_is valid (scratch src) (choice src) refl y row e in
       ap (λ (rows : List RowState). record { dest = src.dest; rows = rows })

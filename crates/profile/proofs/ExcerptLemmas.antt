@@ -14,14 +14,13 @@ use Rattle.profile.specs.declared.tables.LinkRef.{LinkRef}
 use Rattle.profile.specs.declared.tables.Message.{Message}
 use Rattle.profile.specs.declared.tables.RowState.{RowState}
 use Rattle.link_sets.specs.Availability.{set_available, connected}
-use Rattle.net_items.specs.Lookups.{set_between, joins}
+use Rattle.net_items.specs.Lookups.{set_between, joins, is_via}
 use Rattle.sls_share.specs.Share.{link_for, share_of}
 use Rattle.route_choice.specs.Routes.{direct}
-use Rattle.profile.specs.Status.{Source, row_of, offer, offers, mate_offer, choice, status}
+use Rattle.profile.specs.Status.{Source, source_row, offer, offers, mate_offer, choice, status}
 use Rattle.profile.specs.Local.{message, is_member}
-use Rattle.profile.specs.Walk.{is_via}
-use Rattle.profile.specs.Valid.{IsVia, IsValidRow, IsValid}
-use Rattle.profile.specs.Reads.{is_planned_transfer, reads, is_flagged, excerpt_of, with_sets}
+use Rattle.profile.specs.Valid.{IsVia, IsValidRow, IsValidSource}
+use Rattle.profile.specs.Reads.{is_planned_transfer, reads, is_flagged_at, excerpt_of, with_sets}
 use Rattle.profile.proofs.ReadLemmas.{GivesSame}
 use Rattle.profile.specs.Whole.{size_of, carrier, link_between, link_of, messages_of, state_of, scratch}
 use Rattle.link_sets.specs.Neighbours.{all_codes, neighbours}
@@ -64,7 +63,7 @@ member_there (m ∷ ms) (suc position) z e = or_right (option_map_or (λ v. eqb 
 
 module _ (src : Source) where
   -- a set between a row's point and a via is read
-  pub reads_via : (row : Row) (z : ℕ) (set : LinkSet) → row_of src row.point ≡ Some row → is_via row z ≡ true → joins row.point z set ≡ true → reads src set ≡ true
+  pub reads_via : (row : Row) (z : ℕ) (set : LinkSet) → source_row src row.point ≡ Some row → is_via row z ≡ true → joins row.point z set ≡ true → reads src set ≡ true
   reads_via row z set planned via joined =
       or_right (is_planned_transfer src set.a || is_planned_transfer src set.b)
       (list_any (λ row. list_any (λ vias. list_any (λ via. joins row.point via set) vias) row.classes) src.rows)
@@ -82,7 +81,7 @@ module _ (src : Source) where
         | inr h ↦ or_right (is_planned_transfer src set.a) (is_planned_transfer src set.b) (ap (is_planned_transfer src) (eqb-true set.b y (and_second (eqb set.a z) (eqb set.b y) h)) ∙ transfer)
       ])
 
-  pub between_via : (row : Row) (z : ℕ) → row_of src row.point ≡ Some row → is_via row z ≡ true → set_between (excerpt_of src).sets row.point z ≡ set_between src.sets row.point z
+  pub between_via : (row : Row) (z : ℕ) → source_row src row.point ≡ Some row → is_via row z ≡ true → set_between (excerpt_of src).sets row.point z ≡ set_between src.sets row.point z
   between_via row z planned via = find-filter (joins row.point z) (reads src) src.sets (λ set j. reads_via row z set planned via j)
 
   pub between_transfer : (y z : ℕ) → is_planned_transfer src y ≡ true → set_between (excerpt_of src).sets y z ≡ set_between src.sets y z
@@ -91,27 +90,27 @@ module _ (src : Source) where
   connected_by : (y z : ℕ) → set_between (excerpt_of src).sets y z ≡ set_between src.sets y z → connected src.sets y z ≡ connected (excerpt_of src).sets y z
   connected_by y z e = ap (λ (o : Option LinkSet). option_map_or set_available o false) (sym e)
 
-  planned_transfer : (row : Row) → row_of src row.point ≡ Some row → src.is_stp row.point ≡ true → is_planned_transfer src row.point ≡ true
-  planned_transfer row planned stp = and_both (src.is_stp row.point) (is_some (row_of src row.point)) stp (ap (λ (o : Option Row). is_some o) planned)
+  planned_transfer : (row : Row) → source_row src row.point ≡ Some row → src.is_stp row.point ≡ true → is_planned_transfer src row.point ≡ true
+  planned_transfer row planned stp = and_both (src.is_stp row.point) (is_some (source_row src row.point)) stp (ap (λ (o : Option Row). is_some o) planned)
 
-  kind_kept : (y : ℕ) (row : Row) → row_of src y ≡ Some row → is_planned_transfer src y ≡ src.is_stp y
+  kind_kept : (y : ℕ) (row : Row) → source_row src y ≡ Some row → is_planned_transfer src y ≡ src.is_stp y
   kind_kept y row planned = go (src.is_stp y) refl
     where
       go : (b : Bool) → src.is_stp y ≡ b → is_planned_transfer src y ≡ src.is_stp y
-      go true e = let some : is_some (row_of src y) ≡ true = ap (λ (o : Option Row). is_some o) planned in rw (e, some) refl
+      go true e = let some : is_some (source_row src y) ≡ true = ap (λ (o : Option Row). is_some o) planned in rw (e, some) refl
       go false e = rw e refl
 
-  mate_kept : (row : Row) → row_of src row.point ≡ Some row → row.mate ≡ true → (excerpt_of src).mate_of row.point ≡ src.mate_of row.point
+  mate_kept : (row : Row) → source_row src row.point ≡ Some row → row.mate ≡ true → (excerpt_of src).mate_of row.point ≡ src.mate_of row.point
   mate_kept row planned flag = rw (planned, flag) refl
 
-  mate_told : (y m : ℕ) → (excerpt_of src).mate_of y ≡ Some m → (is_flagged src y ≡ true) × (src.mate_of y ≡ Some m)
-  mate_told y m e = go (is_flagged src y) refl
+  mate_told : (y m : ℕ) → (excerpt_of src).mate_of y ≡ Some m → (is_flagged_at src y ≡ true) × (src.mate_of y ≡ Some m)
+  mate_told y m e = go (is_flagged_at src y) refl
     where
-      go : (b : Bool) → is_flagged src y ≡ b → (is_flagged src y ≡ true) × (src.mate_of y ≡ Some m)
+      go : (b : Bool) → is_flagged_at src y ≡ b → (is_flagged_at src y ≡ true) × (src.mate_of y ≡ Some m)
       go true t = (t, rw t at e)
       go false t = let none : None ≡ Some m = rw t at e in cc
 
-  module _ (valid : IsValid src) where
+  module _ (valid : IsValidSource src) where
     pub excerpt_same : GivesSame src (excerpt_of src)
     excerpt_same = record {
       dest = refl;
@@ -126,14 +125,14 @@ module _ (src : Source) where
     via_there : (row : Row) → All (All (λ z. is_via row z ≡ true)) row.classes
     via_there row = each_via (λ z. is_via row z ≡ true) row.classes (λ z e. e)
 
-    flagged_row : (y : ℕ) → is_flagged src y ≡ true → (row : Row) × (row_of src y ≡ Some row) × (row.mate ≡ true)
-    flagged_row y e = go (row_of src y) refl
+    flagged_row : (y : ℕ) → is_flagged_at src y ≡ true → (row : Row) × (source_row src y ≡ Some row) × (row.mate ≡ true)
+    flagged_row y e = go (source_row src y) refl
       where
-        go : (o : Option Row) → row_of src y ≡ o → (row : Row) × (row_of src y ≡ Some row) × (row.mate ≡ true)
+        go : (o : Option Row) → source_row src y ≡ o → (row : Row) × (source_row src y ≡ Some row) × (row.mate ≡ true)
         go None n = let no_row : false ≡ true = rw n at e in cc
         go (Some row) n = let flag : row.mate ≡ true = rw n at e in (row, n, flag)
 
-    via_kept : (row : Row) (z : ℕ) → row_of src row.point ≡ Some row → is_via row z ≡ true → IsVia src row z → IsVia (excerpt_of src) row z
+    via_kept : (row : Row) (z : ℕ) → source_row src row.point ≡ Some row → is_via row z ≡ true → IsVia src row z → IsVia (excerpt_of src) row z
     via_kept row z planned via is = record {
       joined = subst (λ (o : Option LinkSet). IsSome o) (sym (between_via row z planned via)) is.joined;
       leads = elim is.leads [
@@ -143,7 +142,7 @@ module _ (src : Source) where
       not_mate = λ e. is.not_mate (mate_told row.point z e).1;
     }
 
-    row_kept : (row : Row) → row_of src row.point ≡ Some row → IsValidRow src row → IsValidRow (excerpt_of src) row
+    row_kept : (row : Row) → source_row src row.point ≡ Some row → IsValidRow src row → IsValidRow (excerpt_of src) row
     row_kept row planned ok = record {
       apart = ok.apart;
       coded = ok.coded;
@@ -166,7 +165,7 @@ module _ (src : Source) where
     }
 
     -- the excerpt of a valid source is valid
-    pub excerpt_valid : IsValid (excerpt_of src)
+    pub excerpt_valid : IsValidSource (excerpt_of src)
     excerpt_valid = record {
       rows = λ k d low.
           let planned = row_at_place src valid k (get_or src.rows k d) (slice_get-get_or src.rows k d low) in
@@ -179,19 +178,19 @@ module _ (src : Source) where
           let at = row_valid src valid p found.0 found.1 in
           let has = at.1.flagged found.2 in
           let same : q ≡ has.mate.point = same_Some q has.mate.point (sym told.1 ∙ ap src.mate_of (sym at.0) ∙ has.paired) in
-          let there : row_of src q ≡ Some has.mate = ap (row_of src) same ∙ has.planned in
+          let there : source_row src q ≡ Some has.mate = ap (source_row src) same ∙ has.planned in
           kind_kept q has.mate there ∙ valid.mates_transfer p q told.1;
     }
 
     -- the choices of the rows are the same
-    pub excerpt_choice : (row : Row) → row_of src row.point ≡ Some row → choice (excerpt_of src) row ≡ choice src row
+    pub excerpt_choice : (row : Row) → source_row src row.point ≡ Some row → choice (excerpt_of src) row ≡ choice src row
     excerpt_choice row planned =
         choice_given src (excerpt_of src) valid excerpt_same (status (excerpt_of src)) row planned
         ∙ choice_same src valid (status (excerpt_of src)) (status src) row (row_valid src valid row.point row planned).1
         (record { agree = λ z low. status_given src (excerpt_of src) valid excerpt_same excerpt_valid z })
 
     -- the set to a member is read
-    between_member : (row : Row) (z : ℕ) → row_of src row.point ≡ Some row → is_member z (choice src row) ≡ true → set_between (excerpt_of src).sets row.point z ≡ set_between src.sets row.point z
+    between_member : (row : Row) (z : ℕ) → source_row src row.point ≡ Some row → is_member z (choice src row) ≡ true → set_between (excerpt_of src).sets row.point z ≡ set_between src.sets row.point z
     between_member row z planned member =
         elim (choose_cases src.tfr (offers src (status src) row) (mate_offer src (status src) row)) [
           | inl w ↦
@@ -207,7 +206,7 @@ module _ (src : Source) where
               (subst (λ (k : Choice). is_member z k ≡ true) e member))
         ]
 
-    links_kept : (row : Row) (s : ℕ) → row_of src row.point ≡ Some row → link_of (excerpt_of src) row (choice src row) s ≡ link_of src row (choice src row) s
+    links_kept : (row : Row) (s : ℕ) → source_row src row.point ≡ Some row → link_of (excerpt_of src) row (choice src row) s ≡ link_of src row (choice src row) s
     links_kept row s planned = go (carrier row (choice src row) s) refl
       where
         go : (o : Option ℕ) → carrier row (choice src row) s ≡ o
@@ -218,7 +217,7 @@ module _ (src : Source) where
             let same = between_member row z planned (member_there (choice src row).members _ z e) in
             rw e (ap (λ (o : Option LinkSet). option_and_then (λ set. option_map (λ slc. record { id = set.id; slc = slc }) (link_for set.links (share_of (size_of row (choice src row).class) s))) o) same)
 
-    messages_kept : (row : Row) → row_of src row.point ≡ Some row → messages_of (excerpt_of src) row (choice src row) ≡ messages_of src row (choice src row)
+    messages_kept : (row : Row) → source_row src row.point ≡ Some row → messages_of (excerpt_of src) row (choice src row) ≡ messages_of src row (choice src row)
     messages_kept row planned = go (src.is_stp row.point) refl
       where
         go : (b : Bool) → src.is_stp row.point ≡ b → messages_of (excerpt_of src) row (choice src row) ≡ messages_of src row (choice src row)
@@ -236,7 +235,7 @@ module _ (src : Source) where
         (rows_same src valid (λ row. state_of (excerpt_of src) row (choice (excerpt_of src) row)) (λ row. state_of src row (choice src row))
         (λ row planned. ap (state_of (excerpt_of src) row) (excerpt_choice row planned) ∙ state_kept row planned))
       where
-        state_kept : (row : Row) → row_of src row.point ≡ Some row → state_of (excerpt_of src) row (choice src row) ≡ state_of src row (choice src row)
+        state_kept : (row : Row) → source_row src row.point ≡ Some row → state_of (excerpt_of src) row (choice src row) ≡ state_of src row (choice src row)
         state_kept row planned =
             let links : map (link_of (excerpt_of src) row (choice src row)) (range_with_len 0 16) ≡ map (link_of src row (choice src row)) (range_with_len 0 16)
             = map_same (link_of (excerpt_of src) row (choice src row)) (link_of src row (choice src row)) (range_with_len 0 16) (λ k d low. links_kept row _ planned) in

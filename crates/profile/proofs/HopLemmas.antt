@@ -15,8 +15,8 @@ use Rattle.profile.specs.declared.hops.Hop.{Hop}
 use Rattle.link_sets.specs.Availability.{connected}
 use Rattle.sls_share.specs.Share.{via_of, share_of}
 use Rattle.route_choice.specs.Routes.{Offer, goodness, same_far, best, has_via, member_at, no_choice, direct_status, lowest, direct_choice, direct, mate_choice}
-use Rattle.profile.specs.Status.{Source, row_of, rank_of, offer, offers, mate_offer, choice, status}
-use Rattle.profile.specs.Valid.{IsVia, IsValidRow, IsValid, HasMate, HasFewLinks}
+use Rattle.profile.specs.Status.{Source, source_row, source_rank, offer, offers, mate_offer, choice, status}
+use Rattle.profile.specs.Valid.{IsVia, IsValidRow, IsValidSource, HasMate, HasFewLinks}
 use Rattle.profile.specs.Whole.{size_of, carrier, link_of}
 use Rattle.profile.specs.Traces.{hops_within, trace_of, Leads, IsTrace}
 use Rattle.profile.proofs.UnfoldingLemmas.{row_valid, via_lower, status_is}
@@ -29,7 +29,7 @@ use Rattle.sls_share.proofs.CoverLemmas.{share_low}
 
 -- how many hops are enough: one less than twice the rank, or twice the rank if the mate is used
 abbrev pub hops_enough : Source → ℕ → ℕ
-hops_enough src y = option_map_or (λ row. cond (eqb (choice src row).class 5) (2 * row.rank) (2 * row.rank - 1)) (row_of src y) 0
+hops_enough src y = option_map_or (λ row. cond (eqb (choice src row).class 5) (2 * row.rank) (2 * row.rank - 1)) (source_row src y) 0
 
 -- the offer of the member at a position
 pub member_offer : (P : Offer → Type 0) (b : Far) (class : List Offer) (position z : ℕ) → All P class → member_at b class position ≡ Some z → (o : Offer) × P o × (o.via ≡ z) × (same_far o.far b ≡ true)
@@ -77,19 +77,19 @@ module _ (src : Source) where
   unfolding hops_within
   hops_end y s e = rw e refl
 
-  pub hops_without_row : (n y s : ℕ) → eqb y src.dest ≡ false → row_of src y ≡ None → hops_within src (suc n) y s ≡ None
+  pub hops_without_row : (n y s : ℕ) → eqb y src.dest ≡ false → source_row src y ≡ None → hops_within src (suc n) y s ≡ None
   unfolding hops_within
   hops_without_row n y s e none = rw (e, none) refl
 
-  pub hops_without_via : (n y s : ℕ) (row : Row) → eqb y src.dest ≡ false → row_of src y ≡ Some row → carrier row (choice src row) s ≡ None → hops_within src (suc n) y s ≡ None
+  pub hops_without_via : (n y s : ℕ) (row : Row) → eqb y src.dest ≡ false → source_row src y ≡ Some row → carrier row (choice src row) s ≡ None → hops_within src (suc n) y s ≡ None
   unfolding hops_within
   hops_without_via n y s row e planned none = rw (e, planned, none) refl
 
-  pub hops_without_link : (n y s : ℕ) (row : Row) (z : ℕ) → eqb y src.dest ≡ false → row_of src y ≡ Some row → carrier row (choice src row) s ≡ Some z → link_of src row (choice src row) s ≡ None → hops_within src (suc n) y s ≡ None
+  pub hops_without_link : (n y s : ℕ) (row : Row) (z : ℕ) → eqb y src.dest ≡ false → source_row src y ≡ Some row → carrier row (choice src row) s ≡ Some z → link_of src row (choice src row) s ≡ None → hops_within src (suc n) y s ≡ None
   unfolding hops_within
   hops_without_link n y s row z e planned carried none = let l = rw carried at none in rw (e, planned, carried, l) refl
 
-  pub hops_more : (n y s : ℕ) (row : Row) (z : ℕ) (link : LinkRef) → eqb y src.dest ≡ false → row_of src y ≡ Some row → carrier row (choice src row) s ≡ Some z → link_of src row (choice src row) s ≡ Some link
+  pub hops_more : (n y s : ℕ) (row : Row) (z : ℕ) (link : LinkRef) → eqb y src.dest ≡ false → source_row src y ≡ Some row → carrier row (choice src row) s ≡ Some z → link_of src row (choice src row) s ≡ Some link
       → hops_within src (suc n) y s ≡ option_map (λ rest. record { from = y; link = link; to = z } ∷ rest) (hops_within src n z s)
   unfolding hops_within
   hops_more n y s row z link e planned carried linked = let l = rw carried at linked in rw (e, planned, carried, l) refl
@@ -102,14 +102,14 @@ pub record Step (src : Source) (row : Row) (s : ℕ) : Type 0 where
   pub reached : 0 < goodness (status src to)
   pub less : hops_enough src to < hops_enough src row.point
 
-module _ (src : Source) (valid : IsValid src) where
-  enough_is : (y : ℕ) (row : Row) → row_of src y ≡ Some row → hops_enough src y ≡ cond (eqb (choice src row).class 5) (2 * row.rank) (2 * row.rank - 1)
+module _ (src : Source) (valid : IsValidSource src) where
+  enough_is : (y : ℕ) (row : Row) → source_row src y ≡ Some row → hops_enough src y ≡ cond (eqb (choice src row).class 5) (2 * row.rank) (2 * row.rank - 1)
   enough_is y row e = rw e refl
 
-  enough_most : (y : ℕ) → hops_enough src y ≤ 2 * rank_of src y
-  enough_most y = go (row_of src y) refl
+  enough_most : (y : ℕ) → hops_enough src y ≤ 2 * source_rank src y
+  enough_most y = go (source_row src y) refl
     where
-      go : (o : Option Row) → row_of src y ≡ o → hops_enough src y ≤ 2 * rank_of src y
+      go : (o : Option Row) → source_row src y ≡ o → hops_enough src y ≤ 2 * source_rank src y
       go None e = rw e (let z : 0 ≤ 2 * 0 = omega arith in z)
       go (Some row) e = rw e (split (eqb (choice src row).class 5))
         where
@@ -117,7 +117,7 @@ module _ (src : Source) (valid : IsValid src) where
           split true = omega arith
           split false = omega arith
 
-  enough_least : (y : ℕ) (row : Row) → row_of src y ≡ Some row → 2 * row.rank - 1 ≤ hops_enough src y
+  enough_least : (y : ℕ) (row : Row) → source_row src y ≡ Some row → 2 * row.rank - 1 ≤ hops_enough src y
   enough_least y row e = subst (λ n. 2 * row.rank - 1 ≤ n) (sym (enough_is y row e)) (split (eqb (choice src row).class 5))
     where
       split : (b : Bool) → 2 * row.rank - 1 ≤ cond b (2 * row.rank) (2 * row.rank - 1)
@@ -125,7 +125,7 @@ module _ (src : Source) (valid : IsValid src) where
       split false = omega arith
 
   -- over the direct class
-  direct_step : (row : Row) (s : ℕ) → row_of src row.point ≡ Some row → choice src row ≡ direct_choice src.tfr (offers src (status src) row) → 0 < goodness (best (offers src (status src) row)) → Step src row s
+  direct_step : (row : Row) (s : ℕ) → source_row src row.point ≡ Some row → choice src row ≡ direct_choice src.tfr (offers src (status src) row) → 0 < goodness (best (offers src (status src) row)) → Step src row s
   direct_step row s planned is above =
       let ok = (row_valid src valid row.point row planned).1 in
       let all : List (List Offer) = offers src (status src) row in
@@ -138,7 +138,7 @@ module _ (src : Source) (valid : IsValid src) where
       let within : found.position < length row.classes = omega (arith, found.within, count) in
       at_place row s planned ok b above found.position within (omega (arith, within, ok.few)) (is ∙ whole ∙ found.is) found.offers_it
     where
-      at_place : (row : Row) (s : ℕ) → row_of src row.point ≡ Some row → IsValidRow src row → (b : Far) → 0 < goodness b → (position : ℕ) → position < length row.classes → position < 4
+      at_place : (row : Row) (s : ℕ) → source_row src row.point ≡ Some row → IsValidRow src row → (b : Far) → 0 < goodness b → (position : ℕ) → position < length row.classes → position < 4
           → choice src row ≡ record { class = 1 + position; members = member_at b (get_or (offers src (status src) row) position []) 0 ∷ member_at b (get_or (offers src (status src) row) position []) 1 ∷ []; status = direct_status src.tfr b (1 + position) }
           → has_via b (get_or (offers src (status src) row) position []) ≡ true → Step src row s
       at_place row s planned ok b above position within low is has =
@@ -162,7 +162,7 @@ module _ (src : Source) (valid : IsValid src) where
           let o : Offer = offering.0 in
           let good : 0 < goodness (offer src (status src) row.point o.via).far = subst (λ (p : Offer). 0 < goodness p.far) offering.1.0 (omega (arith, above, eqb-true (goodness o.far) (goodness b) offering.3)) in
           let from = offer_from src valid row.point o.via good in
-          let lower : rank_of src filled.0 < row.rank = subst (λ z. rank_of src z < row.rank) offering.2 (via_lower src valid row o.via ok offering.1.1) in
+          let lower : source_rank src filled.0 < row.rank = subst (λ z. source_rank src z < row.rank) offering.2 (via_lower src valid row o.via ok offering.1.1) in
           record {
             to = filled.0;
             carried = ap (λ (c : Choice). carrier row c s) is ∙ ap (λ n. get_or (first ∷ second ∷ []) (via_of n (is_some first) (is_some second) s) None) sized ∙ filled.1;
@@ -172,7 +172,7 @@ module _ (src : Source) (valid : IsValid src) where
           }
 
   -- over the mate
-  mate_step : (row : Row) (s : ℕ) → row_of src row.point ≡ Some row → (m : Offer) → mate_offer src (status src) row ≡ Some m → goodness (best (offers src (status src) row)) < goodness m.far → choice src row ≡ mate_choice src.tfr m.via → Step src row s
+  mate_step : (row : Row) (s : ℕ) → source_row src row.point ≡ Some row → (m : Offer) → mate_offer src (status src) row ≡ Some m → goodness (best (offers src (status src) row)) < goodness m.far → choice src row ≡ mate_choice src.tfr m.via → Step src row s
   mate_step row s planned m offered better is =
       let ok = (row_valid src valid row.point row planned).1 in
       let g : Row → Far = λ mate. direct src.tfr (offers src (status src) mate) in
@@ -195,7 +195,7 @@ module _ (src : Source) (valid : IsValid src) where
         less = omega (arith, here, there, ap (hops_enough src) h.1, has.same_rank, ok.ranked);
       }
 
-  pub step : (row : Row) (s : ℕ) → row_of src row.point ≡ Some row → 0 < goodness (status src row.point) → Step src row s
+  pub step : (row : Row) (s : ℕ) → source_row src row.point ≡ Some row → 0 < goodness (status src row.point) → Step src row s
   step row s planned above =
       elim (choose_cases src.tfr (offers src (status src) row) (mate_offer src (status src) row)) [
         | inl w ↦ mate_step row s planned w.0 w.1 w.2 w.3
@@ -205,10 +205,10 @@ module _ (src : Source) (valid : IsValid src) where
       ]
 
   -- a point that isn't prohibited has a row, but for the destination
-  row_there : (y : ℕ) → eqb y src.dest ≡ false → 0 < goodness (status src y) → (row : Row) × (row_of src y ≡ Some row)
-  row_there y e above = go (row_of src y) refl
+  row_there : (y : ℕ) → eqb y src.dest ≡ false → 0 < goodness (status src y) → (row : Row) × (source_row src y ≡ Some row)
+  row_there y e above = go (source_row src y) refl
     where
-      go : (o : Option Row) → row_of src y ≡ o → (row : Row) × (row_of src y ≡ Some row)
+      go : (o : Option Row) → source_row src y ≡ o → (row : Row) × (source_row src y ≡ Some row)
       go None n =
           let shut : status src y ≡ Prohibited = status_is src valid y ∙ rw (e, n) refl in
           let none : goodness (status src y) ≡ 0 = ap goodness shut in
@@ -223,7 +223,7 @@ module _ (src : Source) (valid : IsValid src) where
         (r.0, rw hop.carried r.1)
 
     -- each SLS of a point that isn't prohibited has a link
-    pub link_serves : (row : Row) → row_of src row.point ≡ Some row → status src row.point ≢ Prohibited → is_some (link_of src row (choice src row) s) ≡ true
+    pub link_serves : (row : Row) → source_row src row.point ≡ Some row → status src row.point ≢ Prohibited → is_some (link_of src row (choice src row) s) ≡ true
     link_serves row planned usable =
         let r = linked row (step row s planned (above (status src row.point) usable)) in
         ap (λ (o : Option LinkRef). is_some o) r.1
@@ -265,12 +265,12 @@ module _ (src : Source) (valid : IsValid src) where
 
     -- none if the status is prohibited
     pub trace_stops : (n y : ℕ) → status src y ≡ Prohibited → hops_within src n y s ≡ None
-    trace_stops n y stopped = go n (row_of src y) refl
+    trace_stops n y stopped = go n (source_row src y) refl
       where
         apart : eqb y src.dest ≡ false
         apart = ne_eqb y src.dest (λ e. (let both : Allowed ≡ Prohibited = sym (ap (status src) e ∙ status_of_dest src valid) ∙ stopped in cc))
 
-        go : (n : ℕ) (o : Option Row) → row_of src y ≡ o → hops_within src n y s ≡ None
+        go : (n : ℕ) (o : Option Row) → source_row src y ≡ o → hops_within src n y s ≡ None
         go zero o e = hops_end src y s apart
         go (suc n) None e = hops_without_row src n y s apart e
         go (suc n) (Some row) e = hops_without_via src n y s row apart e (ap (λ (c : Choice). carrier row c s) none ∙ no_carrier row s)
@@ -295,7 +295,7 @@ module _ (src : Source) (valid : IsValid src) where
       where
         reached : 0 < goodness (status src y) → IsTrace src y (trace_of src y s)
         reached above =
-            let r = trace_reaches (2 * rank_of src y) y (enough_most y) above in
+            let r = trace_reaches (2 * source_rank src y) y (enough_most y) above in
             subst (IsTrace src y) (sym r.1) (record {
               usable = λ e. (let z : goodness (status src y) ≡ 0 = ap goodness e in omega (arith, z, above));
               few = omega (arith, r.2, enough_most y);
@@ -305,4 +305,4 @@ module _ (src : Source) (valid : IsValid src) where
         go : (f : Far) → status src y ≡ f → IsTrace src y (trace_of src y s)
         go Allowed e = reached (subst (λ (f : Far). 0 < goodness f) (sym e) (let z : 0 < 2 = omega arith in z))
         go Restricted e = reached (subst (λ (f : Far). 0 < goodness f) (sym e) (let z : 0 < 1 = omega arith in z))
-        go Prohibited e = subst (IsTrace src y) (sym (trace_stops (2 * rank_of src y) y e)) e
+        go Prohibited e = subst (IsTrace src y) (sym (trace_stops (2 * source_rank src y) y e)) e

@@ -5,7 +5,7 @@ use Rattle.route_choice.specs.declared.choices.Far.{Far}
 use Rattle.route_choice.specs.declared.choices.Choice.{Choice}
 use Rattle.net_items.specs.declared.lists.Row.{Row}
 use Rattle.route_choice.specs.Routes.{choose}
-use Rattle.profile.specs.Status.{Source, row_of, offers, mate_row, over_mate, choice}
+use Rattle.profile.specs.Status.{Source, source_row, offers, mate_row, over_mate, choice}
 use Rattle.profile.specs.Local.{message, reading}
 
 -- the far status that z hears from a point with this choice
@@ -24,8 +24,8 @@ local_choice src entries row =
 
 -- each row's choice is the one that it makes by what it hears
 abbrev pub IsSettled : Source → (ℕ → Choice) → Type 0
-IsSettled src entries = (y : ℕ) (row : Row) → row_of src y ≡ Some row → entries y ≡ local_choice src entries row
+IsSettled src entries = (y : ℕ) (row : Row) → source_row src y ≡ Some row → entries y ≡ local_choice src entries row
 
 -- each row's choice is the definition's
 abbrev pub IsScratch : Source → (ℕ → Choice) → Type 0
-IsScratch src entries = (y : ℕ) (row : Row) → row_of src y ≡ Some row → entries y ≡ choice src row
+IsScratch src entries = (y : ℕ) (row : Row) → source_row src y ≡ Some row → entries y ≡ choice src row

@@ -4,8 +4,8 @@ use Rattle.std.specs.Prelude.{find}
 use Rattle.std.proofs.lemmas.Bool.{eq-eqb, ne_eqb}
 use Rattle.std.proofs.lemmas.Option.{same_Some, slice_get_within, get_or_from_slice_get}
 use Rattle.net_items.specs.declared.lists.Row.{Row}
-use Rattle.profile.specs.Status.{Source, row_of}
-use Rattle.profile.specs.Valid.{IsValid}
+use Rattle.profile.specs.Status.{Source, source_row}
+use Rattle.profile.specs.Valid.{IsValidSource}
 
 -- what is found if all before it fail
 pub find_at_place : {X : Type 0} (p : X → Bool) (xs : List X) (i : ℕ) (x : X) → ((k : ℕ) (y : X) → k < i → slice_get xs k ≡ Some y → p y ≡ false) → slice_get xs i ≡ Some x → p x ≡ true → find p xs ≡ Some x
@@ -17,9 +17,9 @@ find_at_place p (y ∷ ys) (suc i) x before at passes =
     let other : p y ≡ false = before 0 y (omega arith) refl in
     rw other (find_at_place p ys i x (λ k z low e. before (suc k) z (omega arith) e) at passes)
 
-module _ (src : Source) (valid : IsValid src) where
+module _ (src : Source) (valid : IsValidSource src) where
   -- the row in a place is the row of its point
-  pub row_at_place : (i : ℕ) (row : Row) → slice_get src.rows i ≡ Some row → row_of src row.point ≡ Some row
+  pub row_at_place : (i : ℕ) (row : Row) → slice_get src.rows i ≡ Some row → source_row src row.point ≡ Some row
   row_at_place i row at =
       find_at_place (λ r. eqb r.point row.point) src.rows i row
       (λ k r low there.

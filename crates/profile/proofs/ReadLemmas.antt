@@ -5,15 +5,15 @@ use Rattle.std.specs.List.{list_any}
 use Rattle.std.specs.Option.{option_and_then}
 use Rattle.std.proofs.lemmas.List.Elements.{All-nil, All-cons, All-weaker}
 use Rattle.std.proofs.lemmas.Bool.{or_left, or_right, eq-eqb}
+use Rattle.net_items.specs.Lookups.{is_via}
 use Rattle.route_choice.specs.declared.choices.Far.{Far}
 use Rattle.route_choice.specs.declared.choices.Far.TheVariants.{Allowed, Prohibited}
 use Rattle.net_items.specs.declared.lists.Row.{Row}
 use Rattle.route_choice.specs.declared.choices.Choice.{Choice}
 use Rattle.link_sets.specs.Availability.{connected}
 use Rattle.route_choice.specs.Routes.{direct, choose}
-use Rattle.profile.specs.Status.{Source, row_of, rank_of, offer, offers, mate_row, over_mate, choice_by, status_by, status}
-use Rattle.profile.specs.Walk.{is_via}
-use Rattle.profile.specs.Valid.{IsValid}
+use Rattle.profile.specs.Status.{Source, source_row, source_rank, offer, offers, mate_row, over_mate, choice_by, status_by, status}
+use Rattle.profile.specs.Valid.{IsValidSource}
 use Rattle.link_sets.proofs.ListLemmas.{map_same}
 use Rattle.profile.proofs.UnfoldingLemmas.{row_valid, mate_row_has, status_is, status_alone}
 use Rattle.profile.proofs.SettledLemmas.{planned_there}
@@ -23,9 +23,9 @@ pub record GivesSame (src other : Source) : Type 0 where
   pub dest : src.dest ≡ other.dest
   pub rows : src.rows ≡ other.rows
   pub tfr : src.tfr ≡ other.tfr
-  pub mates : (row : Row) → row_of src row.point ≡ Some row → IsTrue row.mate → src.mate_of row.point ≡ other.mate_of row.point
-  pub over_vias : (y z : ℕ) (row : Row) → row_of src y ≡ Some row → is_via row z ≡ true → connected src.sets row.point z ≡ connected other.sets row.point z
-  pub over_mates : (row mate : Row) → row_of src row.point ≡ Some row → IsTrue row.mate → src.mate_of row.point ≡ Some mate.point → connected src.sets row.point mate.point ≡ connected other.sets row.point mate.point
+  pub mates : (row : Row) → source_row src row.point ≡ Some row → IsTrue row.mate → src.mate_of row.point ≡ other.mate_of row.point
+  pub over_vias : (y z : ℕ) (row : Row) → source_row src y ≡ Some row → is_via row z ≡ true → connected src.sets row.point z ≡ connected other.sets row.point z
+  pub over_mates : (row mate : Row) → source_row src row.point ≡ Some row → IsTrue row.mate → src.mate_of row.point ≡ Some mate.point → connected src.sets row.point mate.point ≡ connected other.sets row.point mate.point
 
 -- a look-up for what a filter keeps finds the same
 pub find-filter : {X : Type 0} (p keep : X → Bool) (xs : List X) → ((x : X) → p x ≡ true → keep x ≡ true) → find p (filter keep xs) ≡ find p xs
@@ -50,11 +50,11 @@ each_via P (c ∷ cs) h = All-cons (All P) c cs
     (each_in P c (λ z e. h z (or_left (list_any (λ v. eqb v z) c) (list_any (λ vias. list_any (λ v. eqb v z) vias) cs) e)))
     (each_via P cs (λ z e. h z (or_right (list_any (λ v. eqb v z) c) (list_any (λ vias. list_any (λ v. eqb v z) vias) cs) e)))
 
-module _ (src other : Source) (valid : IsValid src) (same : GivesSame src other) where
-  pub row_of_same : (y : ℕ) → row_of other y ≡ row_of src y
+module _ (src other : Source) (valid : IsValidSource src) (same : GivesSame src other) where
+  pub row_of_same : (y : ℕ) → source_row other y ≡ source_row src y
   row_of_same y = ap (λ (rows : List Row). find (λ row. eqb row.point y) rows) (sym same.rows)
 
-  pub offers_given : (f : ℕ → Far) (row : Row) → row_of src row.point ≡ Some row → offers other f row ≡ offers src f row
+  pub offers_given : (f : ℕ → Far) (row : Row) → source_row src row.point ≡ Some row → offers other f row ≡ offers src f row
   offers_given f row planned =
       map_same (map (offer other f row.point)) (map (offer src f row.point)) row.classes
       (All-weaker (All (λ z. offer other f row.point z ≡ offer src f row.point z)) (λ vias. map (offer other f row.point) vias ≡ map (offer src f row.point) vias)
@@ -63,18 +63,18 @@ module _ (src other : Source) (valid : IsValid src) (same : GivesSame src other)
       (λ z via. let j : connected other.sets row.point z ≡ connected src.sets row.point z = sym (same.over_vias row.point z row planned via) in
       ap (λ b. record { via = z; far = cond b (f z) Prohibited }) j)))
 
-  pub mate_row_given : (row : Row) → row_of src row.point ≡ Some row → mate_row other row ≡ mate_row src row
+  pub mate_row_given : (row : Row) → source_row src row.point ≡ Some row → mate_row other row ≡ mate_row src row
   mate_row_given row planned = go row.mate refl
     where
-      rows : (o : Option ℕ) → option_and_then (row_of other) o ≡ option_and_then (row_of src) o
+      rows : (o : Option ℕ) → option_and_then (source_row other) o ≡ option_and_then (source_row src) o
       rows None = refl
       rows (Some m) = row_of_same m
 
-      go : (b : Bool) → row.mate ≡ b → cond row.mate (option_and_then (row_of other) (other.mate_of row.point)) None ≡ cond row.mate (option_and_then (row_of src) (src.mate_of row.point)) None
+      go : (b : Bool) → row.mate ≡ b → cond row.mate (option_and_then (source_row other) (other.mate_of row.point)) None ≡ cond row.mate (option_and_then (source_row src) (src.mate_of row.point)) None
       go false e = rw e refl
-      go true e = rw e (ap (option_and_then (row_of other)) (sym (same.mates row planned e)) ∙ rows (src.mate_of row.point))
+      go true e = rw e (ap (option_and_then (source_row other)) (sym (same.mates row planned e)) ∙ rows (src.mate_of row.point))
 
-  pub choice_given : (f : ℕ → Far) (row : Row) → row_of src row.point ≡ Some row → choice_by other f row ≡ choice_by src f row
+  pub choice_given : (f : ℕ → Far) (row : Row) → source_row src row.point ≡ Some row → choice_by other f row ≡ choice_by src f row
   choice_given f row planned =
       let vias = offers_given f row planned in
       let option : other.tfr ≡ src.tfr = sym same.tfr in
@@ -93,15 +93,15 @@ module _ (src other : Source) (valid : IsValid src) (same : GivesSame src other)
           rw (mate_row_given row planned, is, there, joined) refl
 
   pub status_by_given : (f : ℕ → Far) (y : ℕ) → status_by other f y ≡ status_by src f y
-  status_by_given f y = go (row_of src y) refl
+  status_by_given f y = go (source_row src y) refl
     where
-      go : (o : Option Row) → row_of src y ≡ o → status_by other f y ≡ status_by src f y
+      go : (o : Option Row) → source_row src y ≡ o → status_by other f y ≡ status_by src f y
       go None e = rw (row_of_same y, e, same.dest) refl
       go (Some row) e =
           let choices : choice_by other f row ≡ choice_by src f row = choice_given f row (planned_there src valid y row e) in
           rw (row_of_same y, e, same.dest) (ap (λ (c : Choice). cond (eqb y other.dest) Allowed c.status) choices)
 
   -- an excerpt gives the statuses of its network
-  pub status_given : IsValid other → (y : ℕ) → status other y ≡ status src y
-  status_given ok y = status_alone src valid (status other) (suc (rank_of src y))
+  pub status_given : IsValidSource other → (y : ℕ) → status other y ≡ status src y
+  status_given ok y = status_alone src valid (status other) (suc (source_rank src y))
       (λ z low. status_is other ok z ∙ status_by_given (status other) z) y (omega arith)

@@ -11,27 +11,27 @@ use Rattle.net_items.specs.declared.lists.Row.{Row}
 use Rattle.route_choice.specs.declared.choices.Choice.{Choice}
 use Rattle.link_sets.specs.Availability.{connected}
 use Rattle.route_choice.specs.Routes.{Offer, goodness, best, direct_choice, direct, mate_choice, choose}
-use Rattle.profile.specs.Status.{Source, row_of, rank_of, offer, offers, mate_row, over_mate, mate_offer, choice_by, choice, status}
+use Rattle.profile.specs.Status.{Source, source_row, source_rank, offer, offers, mate_row, over_mate, mate_offer, choice_by, choice, status}
 use Rattle.profile.specs.Local.{is_member}
 use Rattle.profile.proofs.LocalLemmas.{heard, far_heard, local_choice, IsSettled, IsScratch}
-use Rattle.profile.specs.Valid.{IsVia, IsValidRow, IsValid, HasMate, IsLower}
+use Rattle.profile.specs.Valid.{IsVia, IsValidRow, IsValidSource, HasMate, IsLower}
 use Rattle.link_sets.proofs.ListLemmas.{map_same}
 use Rattle.profile.proofs.UnfoldingLemmas.{row_valid, rank_is, via_lower, mate_row_has, status_is}
 use Rattle.profile.proofs.ChoiceLemmas.{CanStand, direct_bound, direct_class_bound, choose_cases, choose_unused, direct_member, mate_is_member, mate_choice_member, heard_member, heard_other, heard_bound, choose_can_stand, best_can_stand}
 
-module _ (src : Source) (valid : IsValid src) where
+module _ (src : Source) (valid : IsValidSource src) where
   pub status_of_dest : status src src.dest ≡ Allowed
   status_of_dest = status_is src valid src.dest ∙ (let e : eqb src.dest src.dest ≡ true = eq-eqb src.dest src.dest refl in rw e refl)
 
   -- the status of a point with a row is that of the row's choice
-  pub status_of_row : (y : ℕ) (row : Row) → row_of src y ≡ Some row → status src y ≡ (choice src row).status
+  pub status_of_row : (y : ℕ) (row : Row) → source_row src y ≡ Some row → status src y ≡ (choice src row).status
   status_of_row y row e =
       let r = row_valid src valid y row e in
       let apart : eqb y src.dest ≡ false = ne_eqb y src.dest (λ h. r.1.apart (r.0 ∙ h)) in
       status_is src valid y ∙ rw (apart, e) refl
 
   pub status_can_stand : (y : ℕ) → CanStand src.tfr (status src y)
-  status_can_stand y = subst (CanStand src.tfr) (sym (status_is src valid y)) (go (eqb y src.dest) (row_of src y))
+  status_can_stand y = subst (CanStand src.tfr) (sym (status_is src valid y)) (go (eqb y src.dest) (source_row src y))
     where
       go : (b : Bool) (o : Option Row) → CanStand src.tfr (cond b Allowed (option_map_or (λ row. (choice_by src (status src) row).status) o Prohibited))
       go true o = record { stands = λ off h. cc }
@@ -55,13 +55,13 @@ module _ (src : Source) (valid : IsValid src) where
   row_bound row = direct_bound src.tfr (offers src (status src) row) (offers_can_stand row)
 
   -- a member of a row's direct choice has a lower rank
-  pub direct_member_lower : (row : Row) (f : ℕ → Far) (z : ℕ) → IsValidRow src row → is_member z (direct_choice src.tfr (offers src f row)) ≡ true → rank_of src z < row.rank
+  pub direct_member_lower : (row : Row) (f : ℕ → Far) (z : ℕ) → IsValidRow src row → is_member z (direct_choice src.tfr (offers src f row)) ≡ true → source_rank src z < row.rank
   direct_member_lower row f z ok h =
-      direct_member (λ v. rank_of src v < row.rank) src.tfr (offers src f row) z
-      (All-map (All (λ o. rank_of src o.via < row.rank)) (map (offer src f row.point)) row.classes
-      (All-weaker (All (IsVia src row)) (λ vias. All (λ o. rank_of src o.via < row.rank) (map (offer src f row.point) vias))
-      (λ vias each. All-map (λ o. rank_of src o.via < row.rank) (offer src f row.point) vias
-      (All-weaker (IsVia src row) (λ z. rank_of src z < row.rank) (λ z via. via_lower src valid row z ok via) vias each))
+      direct_member (λ v. source_rank src v < row.rank) src.tfr (offers src f row) z
+      (All-map (All (λ o. source_rank src o.via < row.rank)) (map (offer src f row.point)) row.classes
+      (All-weaker (All (IsVia src row)) (λ vias. All (λ o. source_rank src o.via < row.rank) (map (offer src f row.point) vias))
+      (λ vias each. All-map (λ o. source_rank src o.via < row.rank) (offer src f row.point) vias
+      (All-weaker (IsVia src row) (λ z. source_rank src z < row.rank) (λ z via. via_lower src valid row z ok via) vias each))
       row.classes ok.vias)) h
 
   -- what a mate's offer is
@@ -82,7 +82,7 @@ module _ (src : Source) (valid : IsValid src) where
           joined h.0 h.2 (connected src.sets row.point h.0.mate.point) (rw is at e)
 
   -- what a row hears of its mate serves as the mate's direct status
-  pub mate_heard : (row mate : Row) (c : Choice) (x : Option Offer) → IsValidRow src row → IsValidRow src mate → row_of src row.point ≡ Some row → mate.rank ≡ row.rank
+  pub mate_heard : (row mate : Row) (c : Choice) (x : Option Offer) → IsValidRow src row → IsValidRow src mate → source_row src row.point ≡ Some row → mate.rank ≡ row.rank
       → c ≡ choose src.tfr (offers src (status src) mate) x
       → ((m : Offer) → x ≡ Some m → (m.via ≡ row.point) × (goodness m.far ≤ goodness (best (offers src (status src) row))))
       → choose src.tfr (offers src (status src) row) (over_mate src row mate (heard c row.point))
@@ -112,8 +112,8 @@ module _ (src : Source) (valid : IsValid src) where
       unused f g false lf lg = refl
 
   -- what is heard of a via is its status
-  pub via_heard : (entries : ℕ → Choice) (row : Row) (z : ℕ) → row_of src row.point ≡ Some row → IsValidRow src row → IsVia src row z
-      → ((below : Row) → row_of src z ≡ Some below → below.rank < row.rank → entries z ≡ choice src below)
+  pub via_heard : (entries : ℕ → Choice) (row : Row) (z : ℕ) → source_row src row.point ≡ Some row → IsValidRow src row → IsVia src row z
+      → ((below : Row) → source_row src z ≡ Some below → below.rank < row.rank → entries z ≡ choice src below)
       → far_heard src entries row.point z ≡ status src z
   via_heard entries row z planned ok via right = go (eqb z src.dest) refl
     where
@@ -121,15 +121,15 @@ module _ (src : Source) (valid : IsValid src) where
       lower low =
           let r = row_valid src valid z low.below low.planned in
           let is : entries z ≡ choice src low.below = right low.below low.planned low.lower in
-          let rank : rank_of src row.point ≡ row.rank = rank_is src valid row.point row planned in
+          let rank : source_rank src row.point ≡ row.rank = rank_is src valid row.point row planned in
           let other : is_member row.point (choice src low.below) ≡ false = false_from_ne_true (is_member row.point (choice src low.below)) (λ t.
           elim (choose_cases src.tfr (offers src (status src) low.below) (mate_offer src (status src) low.below)) [
             | inl w ↦
                 let m = mate_offer_is low.below (λ mate. direct src.tfr (offers src (status src) mate)) w.0 r.1 w.1 in
                 let named : is_member row.point (mate_choice src.tfr w.0.via) ≡ true = subst (λ (k : Choice). is_member row.point k ≡ true) w.3 t in
                 let same : m.0.mate.point ≡ row.point = sym m.1 ∙ mate_choice_member src.tfr w.0.via row.point named in
-                let rank_there : rank_of src m.0.mate.point ≡ m.0.mate.rank = rank_is src valid m.0.mate.point m.0.mate m.0.planned in
-                let both : rank_of src m.0.mate.point ≡ rank_of src row.point = ap (rank_of src) same in
+                let rank_there : source_rank src m.0.mate.point ≡ m.0.mate.rank = rank_is src valid m.0.mate.point m.0.mate m.0.planned in
+                let both : source_rank src m.0.mate.point ≡ source_rank src row.point = ap (source_rank src) same in
                 omega (arith, rank, rank_there, both, m.0.same_rank, low.lower)
             | inr e ↦
                 let there = direct_member_lower low.below (status src) row.point r.1 (subst (λ (k : Choice). is_member row.point k ≡ true) e t) in
@@ -142,8 +142,8 @@ module _ (src : Source) (valid : IsValid src) where
       go false e = elim via.leads [ inl d ↦ absurd (eqb-false z src.dest e d) | inr low ↦ lower low ]
 
   -- what a row is offered by what it hears, if it hears the right choices of lower rank
-  pub local_offers : (entries : ℕ → Choice) (row : Row) → row_of src row.point ≡ Some row → IsValidRow src row
-      → ((z : ℕ) (below : Row) → row_of src z ≡ Some below → below.rank < row.rank → entries z ≡ choice src below)
+  pub local_offers : (entries : ℕ → Choice) (row : Row) → source_row src row.point ≡ Some row → IsValidRow src row
+      → ((z : ℕ) (below : Row) → source_row src z ≡ Some below → below.rank < row.rank → entries z ≡ choice src below)
       → offers src (far_heard src entries row.point) row ≡ offers src (status src) row
   local_offers entries row planned ok right =
       map_same (map (offer src (far_heard src entries row.point) row.point)) (map (offer src (status src) row.point)) row.classes
@@ -155,8 +155,8 @@ module _ (src : Source) (valid : IsValid src) where
       row.classes ok.vias)
 
   -- a row that hears the right choices makes the right one
-  pub local_choice_is : (entries : ℕ → Choice) (row : Row) → row_of src row.point ≡ Some row → IsValidRow src row
-      → ((z : ℕ) (below : Row) → row_of src z ≡ Some below → below.rank < row.rank → entries z ≡ choice src below)
+  pub local_choice_is : (entries : ℕ → Choice) (row : Row) → source_row src row.point ≡ Some row → IsValidRow src row
+      → ((z : ℕ) (below : Row) → source_row src z ≡ Some below → below.rank < row.rank → entries z ≡ choice src below)
       → ((has : HasMate src row) → row.mate ≡ true →
       choose src.tfr (offers src (status src) row) (over_mate src row has.mate (heard (entries has.mate.point) row.point))
       ≡ choose src.tfr (offers src (status src) row) (over_mate src row has.mate (direct src.tfr (offers src (status src) has.mate))))
@@ -172,14 +172,14 @@ module _ (src : Source) (valid : IsValid src) where
           rw is (mates h.0 h.2)
 
   -- a row is found at its own point
-  pub planned_there : (y : ℕ) (row : Row) → row_of src y ≡ Some row → row_of src row.point ≡ Some row
-  planned_there y row e = ap (row_of src) (row_valid src valid y row e).0 ∙ e
+  pub planned_there : (y : ℕ) (row : Row) → source_row src y ≡ Some row → source_row src row.point ≡ Some row
+  planned_there y row e = ap (source_row src) (row_valid src valid y row e).0 ∙ e
 
   -- the mate of a mate is the row itself
-  pub mate_of_mate : (row : Row) → row_of src row.point ≡ Some row → (has : HasMate src row) (back : HasMate src has.mate) → back.mate ≡ row
+  pub mate_of_mate : (row : Row) → source_row src row.point ≡ Some row → (has : HasMate src row) (back : HasMate src has.mate) → back.mate ≡ row
   mate_of_mate row planned has back =
       let point : back.mate.point ≡ row.point = valid.mates row.point has.mate.point back.mate.point has.paired back.paired in
-      same_Some back.mate row (sym back.planned ∙ ap (row_of src) point ∙ planned)
+      same_Some back.mate row (sym back.planned ∙ ap (source_row src) point ∙ planned)
 
   -- a row has one mate
   pub mate_alone : (row : Row) (one other : HasMate src row) → one.mate.point ≡ other.mate.point
@@ -205,17 +205,17 @@ module _ (src : Source) (valid : IsValid src) where
       ))))
 
   -- choices that obey the local rule are the definition's, rank by rank
-  pub settled_scratch_below : (entries : ℕ → Choice) → IsSettled src entries → (n : ℕ) (y : ℕ) (row : Row) → row_of src y ≡ Some row → row.rank < n → entries y ≡ choice src row
+  pub settled_scratch_below : (entries : ℕ → Choice) → IsSettled src entries → (n : ℕ) (y : ℕ) (row : Row) → source_row src y ≡ Some row → row.rank < n → entries y ≡ choice src row
   settled_scratch_below entries settled zero y row e low = absurd (omega arith)
   settled_scratch_below entries settled (suc n) y row e low =
       let r = row_valid src valid y row e in
       let planned = planned_there y row e in
-      let right : (z : ℕ) (below : Row) → row_of src z ≡ Some below → below.rank < row.rank → entries z ≡ choice src below
+      let right : (z : ℕ) (below : Row) → source_row src z ≡ Some below → below.rank < row.rank → entries z ≡ choice src below
       = λ z below p lower. settled_scratch_below entries settled n z below p (omega arith) in
       settled y row e ∙ local_choice_is entries row planned r.1 right (λ has t. with_mate entries settled row planned r.1 right has)
     where
-      with_mate : (entries : ℕ → Choice) → IsSettled src entries → (row : Row) → row_of src row.point ≡ Some row → IsValidRow src row
-          → ((z : ℕ) (below : Row) → row_of src z ≡ Some below → below.rank < row.rank → entries z ≡ choice src below) → (has : HasMate src row) →
+      with_mate : (entries : ℕ → Choice) → IsSettled src entries → (row : Row) → source_row src row.point ≡ Some row → IsValidRow src row
+          → ((z : ℕ) (below : Row) → source_row src z ≡ Some below → below.rank < row.rank → entries z ≡ choice src below) → (has : HasMate src row) →
           choose src.tfr (offers src (status src) row) (over_mate src row has.mate (heard (entries has.mate.point) row.point))
           ≡ choose src.tfr (offers src (status src) row) (over_mate src row has.mate (direct src.tfr (offers src (status src) has.mate)))
       with_mate entries settled row planned ok right has =
@@ -258,7 +258,7 @@ module _ (src : Source) (valid : IsValid src) where
   settled_scratch entries settled y row e = settled_scratch_below entries settled (suc row.rank) y row e (omega arith)
 
   -- no two mates use each other
-  pub mates_apart : (row : Row) → row_of src row.point ≡ Some row → (has : HasMate src row) → (choice src row).class ≡ 5 → (choice src has.mate).class ≡ 5 → ⊥
+  pub mates_apart : (row : Row) → source_row src row.point ≡ Some row → (has : HasMate src row) → (choice src row).class ≡ 5 → (choice src has.mate).class ≡ 5 → ⊥
   mates_apart row planned has one other =
       elim (choose_cases src.tfr (offers src (status src) row) (mate_offer src (status src) row)) [
         | inl w ↦ elim (choose_cases src.tfr (offers src (status src) has.mate) (mate_offer src (status src) has.mate)) [
@@ -268,7 +268,7 @@ module _ (src : Source) (valid : IsValid src) where
               let mine = mate_offer_is row g w.0 ok w.1 in
               let its = mate_offer_is has.mate g v.0 (mate_valid row has) v.1 in
               let its_row : its.0.mate ≡ row = mate_of_mate row planned has its.0 in
-              let my_mate : mine.0.mate ≡ has.mate = same_Some mine.0.mate has.mate (sym mine.0.planned ∙ ap (row_of src) (mate_alone row mine.0 has) ∙ has.planned) in
+              let my_mate : mine.0.mate ≡ has.mate = same_Some mine.0.mate has.mate (sym mine.0.planned ∙ ap (source_row src) (mate_alone row mine.0 has) ∙ has.planned) in
               let a : goodness w.0.far ≡ goodness (g has.mate) = ap goodness (mine.2 ∙ ap g my_mate) in
               let b : goodness v.0.far ≡ goodness (g row) = ap goodness (its.2 ∙ ap g its_row) in
               omega (arith, a, b, w.2, v.2, row_bound row, row_bound has.mate)
@@ -283,14 +283,14 @@ module _ (src : Source) (valid : IsValid src) where
           omega (arith, direct_class_bound src.tfr (offers src (status src) q), len, ok.few, e)
 
   -- the same of two rows whose points are mates: a choice of class 5 shows the flag
-  pub mates_apart_by : (row mate : Row) → row_of src row.point ≡ Some row → row_of src mate.point ≡ Some mate → src.mate_of row.point ≡ Some mate.point → (choice src row).class ≡ 5 → (choice src mate).class ≡ 5 → ⊥
+  pub mates_apart_by : (row mate : Row) → source_row src row.point ≡ Some row → source_row src mate.point ≡ Some mate → src.mate_of row.point ≡ Some mate.point → (choice src row).class ≡ 5 → (choice src mate).class ≡ 5 → ⊥
   mates_apart_by row mate planned mate_planned paired one other =
       elim (choose_cases src.tfr (offers src (status src) row) (mate_offer src (status src) row)) [
         | inl w ↦
             let ok = (row_valid src valid row.point row planned).1 in
             let has = (mate_offer_is row (λ m. direct src.tfr (offers src (status src) m)) w.0 ok w.1).0 in
             let point : has.mate.point ≡ mate.point = same_Some has.mate.point mate.point (sym has.paired ∙ paired) in
-            let same : has.mate ≡ mate = same_Some has.mate mate (sym has.planned ∙ ap (row_of src) point ∙ mate_planned) in
+            let same : has.mate ≡ mate = same_Some has.mate mate (sym has.planned ∙ ap (source_row src) point ∙ mate_planned) in
             mates_apart row planned has one (ap (λ (q : Row). (choice src q).class) same ∙ other)
         | inr e ↦
             let ok = (row_valid src valid row.point row planned).1 in

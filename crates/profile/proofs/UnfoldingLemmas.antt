@@ -6,41 +6,41 @@ use Rattle.route_choice.specs.declared.choices.Far.{Far}
 use Rattle.route_choice.specs.declared.choices.Far.TheVariants.{Allowed, Prohibited}
 use Rattle.net_items.specs.declared.lists.Row.{Row}
 use Rattle.route_choice.specs.declared.choices.Choice.{Choice}
-use Rattle.profile.specs.Status.{Source, row_of, rank_of, offer, offers, mate_row, mate_offer, choice_by, status_by, status_within, status}
-use Rattle.profile.specs.Valid.{IsVia, IsValidRow, IsValid, HasMate}
+use Rattle.profile.specs.Status.{Source, source_row, source_rank, offer, offers, mate_row, mate_offer, choice_by, status_by, status_within, status}
+use Rattle.profile.specs.Valid.{IsVia, IsValidRow, IsValidSource, HasMate}
 use Rattle.link_sets.proofs.ListLemmas.{map_same, find_gives}
 
 -- two tellings agree below a rank
 pub record AgreeBelow (src : Source) (n : ℕ) (f g : ℕ → Far) : Type 0 where
-  pub agree : (z : ℕ) → rank_of src z < n → f z ≡ g z
+  pub agree : (z : ℕ) → source_rank src z < n → f z ≡ g z
 
-module _ (src : Source) (valid : IsValid src) where
+module _ (src : Source) (valid : IsValidSource src) where
   -- the row of a point is that point's, and valid
-  pub row_valid : (y : ℕ) (row : Row) → row_of src y ≡ Some row → (row.point ≡ y) × IsValidRow src row
+  pub row_valid : (y : ℕ) (row : Row) → source_row src y ≡ Some row → (row.point ≡ y) × IsValidRow src row
   row_valid y row e =
       let found : (eqb row.point y ≡ true) × IsValidRow src row = find_gives (λ r. eqb r.point y) (IsValidRow src) src.rows row valid.rows e in
       (eqb-true row.point y found.0, found.1)
 
   -- the rank of a point with a row
-  pub rank_is : (y : ℕ) (row : Row) → row_of src y ≡ Some row → rank_of src y ≡ row.rank
+  pub rank_is : (y : ℕ) (row : Row) → source_row src y ≡ Some row → source_rank src y ≡ row.rank
   rank_is y row e = rw e refl
 
   -- the destination has no row
-  pub rank_of_dest : rank_of src src.dest ≡ 0
-  rank_of_dest = go (row_of src src.dest) refl
+  pub rank_of_dest : source_rank src src.dest ≡ 0
+  rank_of_dest = go (source_row src src.dest) refl
     where
-      go : (o : Option Row) → row_of src src.dest ≡ o → rank_of src src.dest ≡ 0
+      go : (o : Option Row) → source_row src src.dest ≡ o → source_rank src src.dest ≡ 0
       go None e = rw e refl
       go (Some row) e = let r = row_valid src.dest row e in absurd (r.1.apart r.0)
 
   -- a via has a lower rank
-  pub via_lower : (row : Row) (z : ℕ) → IsValidRow src row → IsVia src row z → rank_of src z < row.rank
+  pub via_lower : (row : Row) (z : ℕ) → IsValidRow src row → IsVia src row z → source_rank src z < row.rank
   via_lower row z ok via = elim via.leads [
-    | inl e ↦ let zero_rank : rank_of src z ≡ 0 = ap (rank_of src) e ∙ rank_of_dest in omega (arith, zero_rank, ok.ranked)
-    | inr low ↦ let is : rank_of src z ≡ low.below.rank = rank_is z low.below low.planned in omega (arith, is, low.lower)
+    | inl e ↦ let zero_rank : source_rank src z ≡ 0 = ap (source_rank src) e ∙ rank_of_dest in omega (arith, zero_rank, ok.ranked)
+    | inr low ↦ let is : source_rank src z ≡ low.below.rank = rank_is z low.below low.planned in omega (arith, is, low.lower)
   ]
 
-  pub offer_same : (f g : ℕ → Far) (n : ℕ) → AgreeBelow src n f g → (y z : ℕ) → rank_of src z < n → offer src f y z ≡ offer src g y z
+  pub offer_same : (f g : ℕ → Far) (n : ℕ) → AgreeBelow src n f g → (y z : ℕ) → source_rank src z < n → offer src f y z ≡ offer src g y z
   offer_same f g n same y z lower = let e : f z ≡ g z = same.agree z lower in rw e refl
 
   pub offers_same : (f g : ℕ → Far) (row : Row) → IsValidRow src row → AgreeBelow src row.rank f g → offers src f row ≡ offers src g row
@@ -90,10 +90,10 @@ module _ (src : Source) (valid : IsValid src) where
       let mates = mate_offer_same f g row ok same in
       rw (vias, mates) refl
 
-  pub status_by_same : (f g : ℕ → Far) (y : ℕ) → AgreeBelow src (rank_of src y) f g → status_by src f y ≡ status_by src g y
-  status_by_same f g y same = go (row_of src y) refl
+  pub status_by_same : (f g : ℕ → Far) (y : ℕ) → AgreeBelow src (source_rank src y) f g → status_by src f y ≡ status_by src g y
+  status_by_same f g y same = go (source_row src y) refl
     where
-      go : (o : Option Row) → row_of src y ≡ o → status_by src f y ≡ status_by src g y
+      go : (o : Option Row) → source_row src y ≡ o → status_by src f y ≡ status_by src g y
       go None e = rw e refl
       go (Some row) e =
           let choices : choice_by src f row ≡ choice_by src g row =
@@ -101,16 +101,16 @@ module _ (src : Source) (valid : IsValid src) where
           rw e (ap (λ (c : Choice). cond (eqb y src.dest) Allowed c.status) choices)
 
   -- at rank 0 there is the destination, or no row
-  pub at_rank_zero : (f : ℕ → Far) (y : ℕ) → rank_of src y ≡ 0 → status_by src f y ≡ status_within src zero y
+  pub at_rank_zero : (f : ℕ → Far) (y : ℕ) → source_rank src y ≡ 0 → status_by src f y ≡ status_within src zero y
   unfolding status_within
-  at_rank_zero f y h = go (row_of src y) refl
+  at_rank_zero f y h = go (source_row src y) refl
     where
-      go : (o : Option Row) → row_of src y ≡ o → status_by src f y ≡ cond (eqb y src.dest) Allowed Prohibited
+      go : (o : Option Row) → source_row src y ≡ o → status_by src f y ≡ cond (eqb y src.dest) Allowed Prohibited
       go None e = rw e refl
       go (Some row) e = let low = (row_valid y row e).1.ranked in absurd (omega (arith, low, rank_is y row e))
 
   -- more ranks change nothing
-  pub within_same : (m n : ℕ) (y : ℕ) → rank_of src y ≤ m → rank_of src y ≤ n → status_within src m y ≡ status_within src n y
+  pub within_same : (m n : ℕ) (y : ℕ) → source_rank src y ≤ m → source_rank src y ≤ n → status_within src m y ≡ status_within src n y
   unfolding status_within
   within_same zero zero y hm hn = refl
   within_same zero (suc n) y hm hn = sym (at_rank_zero (status_within src n) y (omega arith))
@@ -123,12 +123,12 @@ module _ (src : Source) (valid : IsValid src) where
   pub status_is : (y : ℕ) → status src y ≡ status_by src (status src) y
   unfolding status status_within
   status_is y =
-      within_same (rank_of src y) (suc (rank_of src y)) y (omega arith) (omega arith)
-      ∙ status_by_same (status_within src (rank_of src y)) (status src) y
-      (record { agree = λ z low. within_same (rank_of src y) (rank_of src z) z (omega arith) (omega arith) })
+      within_same (source_rank src y) (suc (source_rank src y)) y (omega arith) (omega arith)
+      ∙ status_by_same (status_within src (source_rank src y)) (status src) y
+      (record { agree = λ z low. within_same (source_rank src y) (source_rank src z) z (omega arith) (omega arith) })
 
   -- whatever obeys the rule at each point up to a rank is the status there
-  pub status_alone : (f : ℕ → Far) (n : ℕ) → ((y : ℕ) → rank_of src y < n → f y ≡ status_by src f y) → (y : ℕ) → rank_of src y < n → f y ≡ status src y
+  pub status_alone : (f : ℕ → Far) (n : ℕ) → ((y : ℕ) → source_rank src y < n → f y ≡ status_by src f y) → (y : ℕ) → source_rank src y < n → f y ≡ status src y
   status_alone f zero obeys y low = absurd (omega arith)
   status_alone f (suc n) obeys y low =
       obeys y low

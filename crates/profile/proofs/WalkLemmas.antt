@@ -11,8 +11,8 @@ use Rattle.net_items.specs.declared.lists.Row.{Row}
 use Rattle.route_choice.specs.declared.choices.Choice.{Choice}
 use Rattle.link_sets.specs.Availability.{connected}
 use Rattle.route_choice.specs.Routes.{Offer, goodness, best_in, best, direct, mate_choice, choose}
-use Rattle.profile.specs.Status.{Source, row_of, rank_of, offer, offers, mate_row, over_mate, mate_offer, choice, status}
-use Rattle.profile.specs.Valid.{IsVia, IsValidRow, IsValid}
+use Rattle.profile.specs.Status.{Source, source_row, source_rank, offer, offers, mate_row, over_mate, mate_offer, choice, status}
+use Rattle.profile.specs.Valid.{IsVia, IsValidRow, IsValidSource}
 use Rattle.profile.specs.Walk.{Walk, arrive, by_via, by_mate}
 use Rattle.profile.proofs.UnfoldingLemmas.{row_valid, rank_is, via_lower, mate_row_is, status_is}
 use Rattle.profile.proofs.ChoiceLemmas.{direct_cases, direct_reached, choose_cases, better_of_cases}
@@ -93,7 +93,7 @@ direct_only tfr classes above =
       | inr h ↦ h.0
     ]
 
-module _ (src : Source) (valid : IsValid src) where
+module _ (src : Source) (valid : IsValidSource src) where
   -- what is offered above prohibited is so over an available set
   pub offer_from : (y z : ℕ) → 0 < goodness (offer src (status src) y z).far → (connected src.sets y z ≡ true) × (0 < goodness (status src z))
   offer_from y z h = go (connected src.sets y z) refl
@@ -117,7 +117,7 @@ module _ (src : Source) (valid : IsValid src) where
       go mate false t o = let none : None ≡ Some m = rw t at o in cc
 
   -- a best above prohibited starts a walk, where the vias have walks
-  pub walk_from_best : (row : Row) (may : Bool) (y : ℕ) → row_of src y ≡ Some row → IsValidRow src row → ((z : ℕ) → rank_of src z < row.rank → 0 < goodness (status src z) → Walk src true z)
+  pub walk_from_best : (row : Row) (may : Bool) (y : ℕ) → source_row src y ≡ Some row → IsValidRow src row → ((z : ℕ) → source_rank src z < row.rank → 0 < goodness (status src z) → Walk src true z)
       → 0 < goodness (best (offers src (status src) row)) → Walk src may y
   walk_from_best row may y planned ok vias above =
       let r = best_from (IsVia src row) row.classes (offer src (status src) row.point) ok.vias above in
@@ -125,12 +125,12 @@ module _ (src : Source) (valid : IsValid src) where
       by_via row planned r.2 o.0 (vias r.0 (via_lower src valid row r.0 ok r.1) o.1)
 
   -- a status above prohibited has a walk, rank by rank
-  pub walk_below : (n y : ℕ) → rank_of src y < n → 0 < goodness (status src y) → Walk src true y
+  pub walk_below : (n y : ℕ) → source_rank src y < n → 0 < goodness (status src y) → Walk src true y
   walk_below zero y low above = absurd (omega arith)
-  walk_below (suc n) y low above = go (eqb y src.dest) refl (row_of src y) refl (λ z lower up. walk_below n z (omega arith) up)
+  walk_below (suc n) y low above = go (eqb y src.dest) refl (source_row src y) refl (λ z lower up. walk_below n z (omega arith) up)
     where
-      go : (b : Bool) → eqb y src.dest ≡ b → (o : Option Row) → row_of src y ≡ o
-          → ((z : ℕ) → rank_of src z < rank_of src y → 0 < goodness (status src z) → Walk src true z) → Walk src true y
+      go : (b : Bool) → eqb y src.dest ≡ b → (o : Option Row) → source_row src y ≡ o
+          → ((z : ℕ) → source_rank src z < source_rank src y → 0 < goodness (status src z) → Walk src true z) → Walk src true y
       go true t o e vias = arrive (eqb-true y src.dest t)
       go false t None e vias =
           let none : status src y ≡ Prohibited = status_is src valid y ∙ rw (t, e) refl in absurd (omega (arith, above, ap goodness none))
@@ -138,7 +138,7 @@ module _ (src : Source) (valid : IsValid src) where
           let r = row_valid src valid y row e in
           let rank = rank_is src valid y row e in
           let chosen : 0 < goodness (choice src row).status = subst (λ (f : Far). 0 < goodness f) (status_of_row src valid y row e) above in
-          let lower : (z : ℕ) → rank_of src z < row.rank → 0 < goodness (status src z) → Walk src true z = λ z l up. vias z (omega (arith, l, rank)) up in
+          let lower : (z : ℕ) → source_rank src z < row.rank → 0 < goodness (status src z) → Walk src true z = λ z l up. vias z (omega (arith, l, rank)) up in
           elim (choose_cases src.tfr (offers src (status src) row) (mate_offer src (status src) row)) [
             | inl w ↦
                 let g : Row → Far = λ mate. direct src.tfr (offers src (status src) mate) in
@@ -157,7 +157,7 @@ module _ (src : Source) (valid : IsValid src) where
   -- what a walk from a point shows of it; without the mate at first, its row's best too
   pub record Leads (may : Bool) (y : ℕ) : Type 0 where
     pub up : 0 < goodness (status src y)
-    pub on : (y ≡ src.dest) ⊎ ((row : Row) × (row_of src y ≡ Some row) × ((may ≡ true) ⊎ (0 < goodness (best (offers src (status src) row)))))
+    pub on : (y ≡ src.dest) ⊎ ((row : Row) × (source_row src y ≡ Some row) × ((may ≡ true) ⊎ (0 < goodness (best (offers src (status src) row)))))
 
   pub walk_leads : {may : Bool} {y : ℕ} → Walk src may y → Leads may y
   walk_leads (arrive e) = record { up = let is : goodness (status src src.dest) ≡ 2 = ap goodness (status_of_dest src valid) in omega (arith, is, ap (λ z. goodness (status src z)) e); on = inl e }
@@ -190,7 +190,7 @@ module _ (src : Source) (valid : IsValid src) where
 
   -- THE WALK LAW
   pub reached_walk : (y : ℕ) → status src y ≢ Prohibited → Walk src true y
-  reached_walk y ne = walk_below (suc (rank_of src y)) y (omega arith) (above (status src y) ne)
+  reached_walk y ne = walk_below (suc (source_rank src y)) y (omega arith) (above (status src y) ne)
     where
       above : (f : Far) → f ≢ Prohibited → 0 < goodness f
       above Allowed ne = omega arith

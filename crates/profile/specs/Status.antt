@@ -33,12 +33,12 @@ source_in points sets plan tfr = record {
 }
 
 -- the row of a point
-abbrev pub row_of : Source → ℕ → Option Row
-row_of src y = row_at src.rows y
+abbrev pub source_row : Source → ℕ → Option Row
+source_row src y = row_at src.rows y
 
 -- the rank of a point, 0 if it has no row
-abbrev pub rank_of : Source → ℕ → ℕ
-rank_of src y = option_map_or (λ row. row.rank) (row_of src y) 0
+abbrev pub source_rank : Source → ℕ → ℕ
+source_rank src y = option_map_or (λ row. row.rank) (source_row src y) 0
 
 -- what a point is offered over a via, where `far` tells the far statuses: prohibited if no available set joins them (Q.704 clause 3.2)
 abbrev pub offer : Source → (ℕ → Far) → ℕ → ℕ → Offer
@@ -50,7 +50,7 @@ offers src far row = map (map (offer src far row.point)) row.classes
 
 -- the row of the mate, where the row may use it (own)
 abbrev pub mate_row : Source → Row → Option Row
-mate_row src row = if row.mate then option_and_then (row_of src) (src.mate_of row.point) else None
+mate_row src row = if row.mate then option_and_then (source_row src) (src.mate_of row.point) else None
 
 -- what a mate with this direct status offers, where the set between is available
 abbrev pub over_mate : Source → Row → Row → Far → Option Offer
@@ -69,7 +69,7 @@ choice_by src far row = choose src.tfr (offers src far row) (mate_offer src far 
 -- the status of a point, where `far` tells those of lower rank: allowed at the destination, prohibited if there is no row
 abbrev pub status_by : Source → (ℕ → Far) → ℕ → Far
 status_by src far y =
-    if y == src.dest then Allowed else option_map_or (λ row. (choice_by src far row).status) (row_of src y) Prohibited
+    if y == src.dest then Allowed else option_map_or (λ row. (choice_by src far row).status) (source_row src y) Prohibited
 
 -- the status as far as it rests on n ranks
 unfoldable pub status_within : Source → ℕ → ℕ → Far
@@ -78,7 +78,7 @@ status_within src (suc n) y = status_by src (status_within src n) y
 
 -- the status of a point: a point of rank n rests on n ranks
 unfoldable pub status : Source → ℕ → Far
-status src y = status_within src (rank_of src y) y
+status src y = status_within src (source_rank src y) y
 
 -- the choice of a row
 abbrev pub choice : Source → Row → Choice

@@ -4,7 +4,7 @@ use Rattle.std.specs.Option.{option_map, option_and_then, MatchOption}
 use Rattle.route_choice.specs.declared.choices.Far.TheVariants.{Prohibited}
 use Rattle.profile.specs.declared.hops.Hop.{Hop}
 use Rattle.profile.specs.declared.hops.Trace.{Trace}
-use Rattle.profile.specs.Status.{Source, row_of, rank_of, status, choice}
+use Rattle.profile.specs.Status.{Source, source_row, source_rank, status, choice}
 use Rattle.profile.specs.Whole.{carrier, link_of}
 
 -- the hop of an SLS from a point
@@ -13,7 +13,7 @@ hop_of src y s =
     option_and_then (λ row.
     option_and_then (λ z.
     option_map (λ link. record { from = y; link = link; to = z })
-    (link_of src row (choice src row) s)) (carrier row (choice src row) s)) (row_of src y)
+    (link_of src row (choice src row) s)) (carrier row (choice src row) s)) (source_row src y)
 
 -- the hops of an SLS in at most n: None if it stops
 unfoldable pub hops_within : Source → ℕ → ℕ → ℕ → Option (List Hop)
@@ -24,7 +24,7 @@ hops_within src (suc n) y s =
 
 -- the hops of an SLS: twice the rank suffices
 abbrev pub trace_of : Source → ℕ → ℕ → Option (List Hop)
-trace_of src y s = hops_within src (2 * rank_of src y) y s
+trace_of src y s = hops_within src (2 * source_rank src y) y s
 
 -- hops that follow each other from a point to another
 abbrev pub Leads : ℕ → List Hop → ℕ → Type 0
@@ -34,7 +34,7 @@ Leads y (hop ∷ hops) x = (hop.from ≡ y) × Leads hop.to hops x
 -- hops from a point that isn't prohibited to the destination, at most twice its rank
 pub record IsReached (src : Source) (y : ℕ) (hops : List Hop) : Type 0 where
   pub usable : status src y ≢ Prohibited
-  pub few : length hops ≤ 2 * rank_of src y
+  pub few : length hops ≤ 2 * source_rank src y
   pub leads : Leads y hops src.dest
 
 -- a trace stops exactly if the status is prohibited, and else it leads to the destination

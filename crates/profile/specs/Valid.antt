@@ -6,13 +6,13 @@ use Rattle.net_items.specs.declared.items.LinkSet.{LinkSet}
 use Rattle.net_items.specs.declared.links.Link.{Link}
 use Rattle.net_items.specs.Keyed.{IsRising}
 use Rattle.net_items.specs.Lookups.{set_between}
-use Rattle.profile.specs.Status.{Source, row_of}
+use Rattle.profile.specs.Status.{Source, source_row}
 
 -- the via is a transfer point with a row of lower rank
 pub record IsLower (src : Source) (row : Row) (via : ℕ) : Type 0 where
   pub transfers : IsTrue (src.is_stp via)
   pub below : Row
-  pub planned : row_of src via ≡ Some below
+  pub planned : source_row src via ≡ Some below
   pub lower : below.rank < row.rank
 
 -- what a row with the flag needs of its mate
@@ -20,7 +20,7 @@ pub record HasMate (src : Source) (row : Row) : Type 0 where
   pub transfers : IsTrue (src.is_stp row.point)
   pub mate : Row
   pub paired : src.mate_of row.point ≡ Some mate.point
-  pub planned : row_of src mate.point ≡ Some mate
+  pub planned : source_row src mate.point ≡ Some mate
   pub same_rank : mate.rank ≡ row.rank
   pub joined : IsSome (set_between src.sets row.point mate.point)
 
@@ -57,7 +57,7 @@ pub record IsValidRow (src : Source) (row : Row) : Type 0 where
   pub led : (0 < length row.classes) ⊎ IsTrue row.mate
 
 -- what a source is: its rows are valid and rise in code, and mates come in pairs of transfer points
-pub record IsValid (src : Source) : Type 0 where
+pub record IsValidSource (src : Source) : Type 0 where
   pub rows : All (IsValidRow src) src.rows
   pub once : AllPairs (λ (above below : Row). above.point < below.point) src.rows
   -- a source may know the mates of flagged rows alone

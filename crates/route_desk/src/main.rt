@@ -152,14 +152,14 @@ fn finish(rt: &HostRuntime, end: Result<ScriptEnd, Fault>, file: Option<&str>) -
 
 /// Works out and checks all tables of a network.
 fn check_tables(
-    rt: &(impl Threads + Sync),
+    threads: &(impl Threads + Sync),
     alloc: Global,
     net: Result<Net, Fault>,
 ) -> Result<CheckEnd, Fault> {
     let Ok(net) = Frozen::new(alloc, net?) else {
         return Err(Fault::OutOfMemory);
     };
-    match check_net(rt, alloc, &net) {
+    match check_net(threads, alloc, &net) {
         Ok(end) => Ok(end),
         Err(_) => Err(Fault::OutOfMemory),
     }
@@ -195,15 +195,22 @@ fn play(rt: &HostRuntime, net: &str, steps: &str, save: Option<&str>) -> io::Res
     report(rt, finish(rt, play_file(rt, net, steps), save))
 }
 
+/// Does what the words of the command line ask for; a check takes threads.
+fn obey(rt: &HostRuntime, threads: &(impl Threads + Sync), order: Order) -> io::Result<ExitCode> {
+    match order {
+        Order::Run { net, save } => run(rt, net, save),
+        Order::Play { net, steps, save } => play(rt, net, steps, save),
+        Order::Check { net } => {
+            report_end(rt, check_tables(threads, rt.alloc(), load_file(rt, net)))
+        }
+    }
+}
+
 fn main(rt: HostRuntime) -> io::Result<ExitCode> {
     let words: Vec<String> = env::args(&rt)?.collect(rt.alloc())?;
     let texts = texts(rt.alloc(), words.as_slice())?;
     match read_words(rt.alloc(), texts.as_slice()) {
-        Ok(Order::Run { net, save }) => run(&rt, net, save),
-        Ok(Order::Play { net, steps, save }) => play(&rt, net, steps, save),
-        Ok(Order::Check { net }) => {
-            report_end(&rt, check_tables(&rt, rt.alloc(), load_file(&rt, net)))
-        }
+        Ok(order) => obey(&rt, &rt, order),
         Err(WordFault::Clap(error)) => refuse(&rt, &error),
     }
 }

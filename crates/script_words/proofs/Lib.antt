@@ -1,7 +1,6 @@
-pub mod ListLemmas
 pub mod FormLemmas
-pub mod ReadLemmas
-pub mod WriteLemmas
+pub mod EventLemmas
+pub mod EventWordsLemmas
 pub mod VerbLemmas
 pub mod CommandLemmas
 pub mod NumberLemmas

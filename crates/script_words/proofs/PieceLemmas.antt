@@ -1,5 +1,5 @@
 -- Pieces between words `;`.
-use Rattle.std.proofs.Common.{◌≡◌, ℕ, ◌+◌, ◌-◌, ◌<◌, ◌≤◌, Bool, true, false, cond, ltb, List, [], ◌∷◌, ◌++◌, map, length, take, drop, Option, Some, None, option_map, option_and_then, codes, sym, ap, refl, ◌∙◌, arith, Bor, append_assoc, append-nil, position}
+use Rattle.std.proofs.Common.{◌≡◌, ℕ, ◌+◌, ◌-◌, ◌<◌, ◌≤◌, Bool, true, false, cond, ltb, List, [], ◌∷◌, ◌++◌, map, length, take, drop, Option, Some, None, option_map, option_and_then, codes, sym, ap, refl, ◌∙◌, arith, Bor, append-nil, position}
 use Rattle.std.proofs.lemmas.Bool.{ltb-true, ltb-false}
 use Rattle.std.proofs.lemmas.List.{take_all, length-drop, drop-drop}
 use Rattle.std.proofs.lemmas.List.Sums.{fails_before_first}
@@ -8,7 +8,7 @@ use Rattle.std.specs.List.{position_or_len, slice_split, onto_first}
 use Rattle.std.specs.Str.{bytes_eq}
 use Rattle.net_data.specs.declared.events.Event.{Event}
 use Rattle.tokens.specs.Pieces.{all_of}
-use Rattle.tokens.proofs.PiecesLemmas.{onto}
+use Rattle.tokens.proofs.PiecesLemmas.{onto, onto_more}
 use Rattle.tokens.proofs.WordsLemmas.{nows}
 use Rattle.script_words.specs.Events.{event_of}
 use Rattle.script_words.specs.Commands.{pieces_at}
@@ -79,10 +79,6 @@ pub piece_end : (ws : Words) (n : ℕ) → position is_stop (take (length ws - n
 piece_end ws n e = pieces_last (drop n ws) (ap (λ l. position is_stop l) (sym (rest_whole ws n)) ∙ e) ∙ ap (λ l. nows l ∷ []) (sym (rest_whole ws n))
 
 -- ---- events read piece by piece
-
-onto_more : (es : List Event) (e : Event) (o : Option (List Event)) → onto (es ++ e ∷ []) o ≡ onto es (option_map (λ more. e ∷ more) o)
-onto_more es e None = refl
-onto_more es e (Some more) = ap Some (append_assoc es (e ∷ []) more)
 
 -- the events of a first piece and of more pieces
 abbrev all_with : Option Event → Option (List Event) → Option (List Event)

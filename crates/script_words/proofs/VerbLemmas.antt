@@ -1,43 +1,40 @@
--- The first word of an event: of a change of a link's state, or of an edit.
-use Rattle.std.proofs.Common.{◌≡◌, ℕ, codes, [], ◌∷◌, Bool, true, false, cond, List, Option, Some, None, refl}
+-- The first word of an event.
+use Rattle.std.proofs.Common.{◌≡◌, ℕ, codes, Bool, true, false, cond, List, Option, Some, None, refl, ap, ◌∙◌}
 use Rattle.std.specs.Str.{bytes_eq}
+use Rattle.point_codes.proofs.CodeLemmas.{same_pair}
+use Rattle.tokens.proofs.MarkedLemmas.{bytes_same}
 use Rattle.script_words.specs.declared.verbs.Verb.{Verb}
 use Rattle.script_words.specs.declared.verbs.Verb.TheVariants as verb
-use Rattle.script_words.specs.Events.{change_verb_of, point_verb_of, route_verb_of, edit_verb_of, verb_of}
+use Rattle.script_words.specs.Events.{verb_of}
 
--- the first of some tests that passes, and its verb, or else what is left
-abbrev first_verb : List (Bool × Verb) → Option Verb → Option Verb
-first_verb [] left = left
-first_verb (test ∷ tests) left = cond test.0 (Some test.1) (first_verb tests left)
+abbrev pub verb_word : Verb → List ℕ
+verb_word verb.Fail = codes "fail"
+verb_word verb.Restore = codes "restore"
+verb_word verb.Block = codes "block"
+verb_word verb.Unblock = codes "unblock"
+verb_word verb.Inhibit = codes "inhibit"
+verb_word verb.Uninhibit = codes "uninhibit"
+verb_word verb.Point = codes "point"
+verb_word verb.Pair = codes "pair"
+verb_word verb.Unpair = codes "unpair"
+verb_word verb.Set = codes "set"
+verb_word verb.Link = codes "link"
+verb_word verb.Plan = codes "plan"
+verb_word verb.Tfr = codes "tfr"
 
--- a verb found among the first tests is found, whatever is left
-found : (tests : List (Bool × Verb)) (left : Option Verb) (v : Verb) → first_verb tests None ≡ Some v → first_verb tests left ≡ Some v
-found [] left v e = absurd (cc)
-found ((true, x) ∷ tests) left v e = e
-found ((false, x) ∷ tests) left v e = found tests left v e
+no_verb : (v : Verb) (word : List ℕ) → None ≡ Some v → word ≡ verb_word v
+no_verb v word e = absurd (cc)
 
--- if none is found among the first tests, what is left decides
-passed : (tests : List (Bool × Verb)) (left : Option Verb) → first_verb tests None ≡ None → first_verb tests left ≡ left
-passed [] left e = refl
-passed ((true, x) ∷ tests) left e = absurd (cc)
-passed ((false, x) ∷ tests) left e = passed tests left e
+this_at : (x v : Verb) (word : List ℕ) (rest : Option Verb) (b : Bool) → bytes_eq word (verb_word x) ≡ b → (rest ≡ Some v → word ≡ verb_word v) → cond b (Some x) rest ≡ Some v → word ≡ verb_word v
+this_at x v word rest true p next e = bytes_same word (verb_word x) p ∙ ap verb_word (same_pair x v e)
+this_at x v word rest false p next e = next e
 
-abbrev change_tests : List ℕ → List (Bool × Verb)
-change_tests word =
-    (bytes_eq word (codes "fail"), verb.Fail) ∷ (bytes_eq word (codes "restore"), verb.Restore) ∷ (bytes_eq word (codes "block"), verb.Block)
-    ∷ (bytes_eq word (codes "unblock"), verb.Unblock) ∷ (bytes_eq word (codes "inhibit"), verb.Inhibit) ∷ (bytes_eq word (codes "uninhibit"), verb.Uninhibit) ∷ []
+this_or : (x v : Verb) (word : List ℕ) (rest : Option Verb) → (rest ≡ Some v → word ≡ verb_word v) → cond (bytes_eq word (verb_word x)) (Some x) rest ≡ Some v → word ≡ verb_word v
+this_or x v word rest next e = this_at x v word rest (bytes_eq word (verb_word x)) refl next e
 
-abbrev point_tests : List ℕ → List (Bool × Verb)
-point_tests word = (bytes_eq word (codes "point"), verb.Point) ∷ (bytes_eq word (codes "pair"), verb.Pair) ∷ (bytes_eq word (codes "unpair"), verb.Unpair) ∷ []
-
-pub change_found : (word : List ℕ) (v : Verb) → change_verb_of word ≡ Some v → verb_of word ≡ Some v
-change_found word v e = found (change_tests word) (edit_verb_of word) v e
-
-pub change_passed : (word : List ℕ) → change_verb_of word ≡ None → verb_of word ≡ edit_verb_of word
-change_passed word e = passed (change_tests word) (edit_verb_of word) e
-
-pub point_found : (word : List ℕ) (v : Verb) → point_verb_of word ≡ Some v → edit_verb_of word ≡ Some v
-point_found word v e = found (point_tests word) (route_verb_of word) v e
-
-pub point_passed : (word : List ℕ) → point_verb_of word ≡ None → edit_verb_of word ≡ route_verb_of word
-point_passed word e = passed (point_tests word) (route_verb_of word) e
+pub verb_reads : (word : List ℕ) (v : Verb) → verb_of word ≡ Some v → word ≡ verb_word v
+verb_reads word v =
+    this_or verb.Fail v word _ (this_or verb.Restore v word _ (this_or verb.Block v word _ (this_or verb.Unblock v word _
+    (this_or verb.Inhibit v word _ (this_or verb.Uninhibit v word _ (this_or verb.Point v word _ (this_or verb.Pair v word _
+    (this_or verb.Unpair v word _ (this_or verb.Set v word _ (this_or verb.Link v word _ (this_or verb.Plan v word _
+    (this_or verb.Tfr v word _ (no_verb v word)))))))))))))

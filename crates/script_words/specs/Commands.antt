@@ -1,6 +1,7 @@
 -- What the words of a line command.
 use Rattle.std.specs.Prelude.{ℕ, ◌<◌, if◌then◌else◌, List, [], ◌∷◌, Option, Some, None, option_map, option_and_then, codes}
 use Rattle.std.specs.List.{slice_split}
+use Rattle.std.specs.Option.{option_map_or}
 use Rattle.std.specs.Str.{bytes_eq}
 use Rattle.point_codes.specs.Codes.{code_of}
 use Rattle.net_data.specs.declared.events.Event.{Event}
@@ -9,6 +10,8 @@ use Rattle.script_words.specs.Events.{event_of}
 use Rattle.script_words.specs.declared.questions.Question.{Question}
 use Rattle.script_words.specs.declared.questions.Question.TheVariants.{Status, Links, Messages, Octets}
 use Rattle.script_words.specs.declared.commands.Command.{Command}
+use Rattle.script_words.specs.declared.command_words.CommandWord.{CommandWord}
+use Rattle.script_words.specs.declared.command_words.CommandWord.TheVariants as word
 use Rattle.script_words.specs.Numbers.{collector_of, sequence_of, slot_of, selection_of}
 
 -- nothing: the first word stands alone
@@ -53,64 +56,68 @@ pieces_at words = slice_split (λ w. bytes_eq w (codes ";")) words
 abbrev pub events_of : List (List ℕ) → Option (List Event)
 events_of words = all_of event_of (pieces_at words)
 
--- what events would change is asked, or the line is an event
-abbrev pub events_order_by : List ℕ → List (List ℕ) → Option Command
-events_order_by word rest =
-    -- `whatif EVENT ; EVENT ..`
-    if bytes_eq word (codes "whatif") then option_map (λ events. Command.WhatIf events) (events_of rest)
-    -- EVENT
-    else option_map (λ event. Command.Event event) (event_of (word ∷ rest))
+-- the first word of a command that is neither an event nor a question about a row
+abbrev pub desk_word_of : List ℕ → Option CommandWord
+desk_word_of text =
+    if bytes_eq text (codes "sync") then Some word.Sync
+    else if bytes_eq text (codes "whatif") then Some word.WhatIf
+    else if bytes_eq text (codes "post") then Some word.Post
+    else if bytes_eq text (codes "open") then Some word.Open
+    else if bytes_eq text (codes "take") then Some word.Take
+    else if bytes_eq text (codes "give") then Some word.Give
+    else if bytes_eq text (codes "abandon") then Some word.Abandon
+    else if bytes_eq text (codes "publish") then Some word.Publish
+    else if bytes_eq text (codes "version") then Some word.Version
+    else if bytes_eq text (codes "audit") then Some word.Audit
+    else None
 
--- a question about a row of a table, or else an order of events
-abbrev pub question_by : List ℕ → List (List ℕ) → Option Command
-question_by word rest =
-    -- `status Y X`
-    if bytes_eq word (codes "status") then about_of Status rest
-    -- `sls Y X`
-    else if bytes_eq word (codes "sls") then about_of Links rest
-    -- `messages Y X`
-    else if bytes_eq word (codes "messages") then about_of Messages rest
-    -- `octets Y Z X`
-    else if bytes_eq word (codes "octets") then octets_of rest
-    -- `trace Y X S`
-    else if bytes_eq word (codes "trace") then trace_of rest
-    else events_order_by word rest
+-- the first word of a command that is no event
+abbrev pub command_word_of : List ℕ → Option CommandWord
+command_word_of text =
+    if bytes_eq text (codes "status") then Some word.Status
+    else if bytes_eq text (codes "sls") then Some word.Sls
+    else if bytes_eq text (codes "messages") then Some word.Messages
+    else if bytes_eq text (codes "octets") then Some word.Octets
+    else if bytes_eq text (codes "trace") then Some word.Trace
+    else desk_word_of text
 
--- an order about all tables at once, or else a question or an order of events
-abbrev pub whole_order_by : List ℕ → List (List ℕ) → Option Command
-whole_order_by word rest =
-    -- `publish`
-    if bytes_eq word (codes "publish") then alone Command.Publish rest
-    -- `sync`
-    else if bytes_eq word (codes "sync") then alone Command.Sync rest
-    -- `version`
-    else if bytes_eq word (codes "version") then alone Command.Version rest
-    -- `audit`
-    else if bytes_eq word (codes "audit") then alone Command.Audit rest
-    else question_by word rest
+-- the command of a first word and the words after it
+abbrev pub command_by : CommandWord → List (List ℕ) → Option Command
+-- `status Y X`
+command_by word.Status rest = about_of Status rest
+-- `sls Y X`
+command_by word.Sls rest = about_of Links rest
+-- `messages Y X`
+command_by word.Messages rest = about_of Messages rest
+-- `octets Y Z X`
+command_by word.Octets rest = octets_of rest
+-- `trace Y X S`
+command_by word.Trace rest = trace_of rest
+-- `sync`
+command_by word.Sync rest = alone Command.Sync rest
+-- `whatif EVENT ; EVENT ..`
+command_by word.WhatIf rest = option_map (λ events. Command.WhatIf events) (events_of rest)
+-- `post C SEQ EVENT`
+command_by word.Post rest = post_of rest
+-- `open`
+command_by word.Open rest = alone Command.Open rest
+-- `take K`
+command_by word.Take rest = option_map (λ k. Command.Take k) (slot_alone rest)
+-- `give K`
+command_by word.Give rest = option_map (λ k. Command.Give k) (slot_alone rest)
+-- `abandon K`
+command_by word.Abandon rest = option_map (λ k. Command.Abandon k) (slot_alone rest)
+-- `publish`
+command_by word.Publish rest = alone Command.Publish rest
+-- `version`
+command_by word.Version rest = alone Command.Version rest
+-- `audit`
+command_by word.Audit rest = alone Command.Audit rest
 
--- the opening of a target, a command about a job of it, or else any command but a post
-abbrev pub job_order_by : List ℕ → List (List ℕ) → Option Command
-job_order_by word rest =
-    -- `open`
-    if bytes_eq word (codes "open") then alone Command.Open rest
-    -- `take K`
-    else if bytes_eq word (codes "take") then option_map (λ k. Command.Take k) (slot_alone rest)
-    -- `give K`
-    else if bytes_eq word (codes "give") then option_map (λ k. Command.Give k) (slot_alone rest)
-    -- `abandon K`
-    else if bytes_eq word (codes "abandon") then option_map (λ k. Command.Abandon k) (slot_alone rest)
-    else whole_order_by word rest
-
--- the order of a first word and the words after it
-abbrev pub command_by : List ℕ → List (List ℕ) → Option Command
-command_by word rest =
-    -- `post C SEQ EVENT`
-    if bytes_eq word (codes "post") then post_of rest else job_order_by word rest
-
--- the command that the words of a line say: its first word and what comes after it
+-- the command that the words of a line say: by its first word if that is a command's, else the line is an EVENT
 abbrev pub command_of : List (List ℕ) → Option Command
-command_of (word ∷ rest) = command_by word rest
+command_of (first ∷ rest) =
+    option_map_or (λ w. command_by w rest) (command_word_of first) (option_map (λ event. Command.Event event) (event_of (first ∷ rest)))
 command_of [] = None
 
 -- the slot, or the signalling link selection, is within its range

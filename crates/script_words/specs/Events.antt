@@ -14,42 +14,6 @@ use Rattle.tokens.specs.Rows.{row_of}
 use Rattle.script_words.specs.declared.verbs.Verb.{Verb}
 use Rattle.script_words.specs.declared.verbs.Verb.TheVariants as verb
 
--- the first word of a change of a link's state
-abbrev pub change_verb_of : List ℕ → Option Verb
-change_verb_of word =
-    if bytes_eq word (codes "fail") then Some verb.Fail
-    else if bytes_eq word (codes "restore") then Some verb.Restore
-    else if bytes_eq word (codes "block") then Some verb.Block
-    else if bytes_eq word (codes "unblock") then Some verb.Unblock
-    else if bytes_eq word (codes "inhibit") then Some verb.Inhibit
-    else if bytes_eq word (codes "uninhibit") then Some verb.Uninhibit
-    else None
-
--- the first word of an edit of points or of pairs
-abbrev pub point_verb_of : List ℕ → Option Verb
-point_verb_of word =
-    if bytes_eq word (codes "point") then Some verb.Point
-    else if bytes_eq word (codes "pair") then Some verb.Pair
-    else if bytes_eq word (codes "unpair") then Some verb.Unpair
-    else None
-
--- the first word of an edit of sets, their links, plans or the option
-abbrev pub route_verb_of : List ℕ → Option Verb
-route_verb_of word =
-    if bytes_eq word (codes "set") then Some verb.Set
-    else if bytes_eq word (codes "link") then Some verb.Link
-    else if bytes_eq word (codes "plan") then Some verb.Plan
-    else if bytes_eq word (codes "tfr") then Some verb.Tfr
-    else None
-
--- the first word of an edit of the network
-abbrev pub edit_verb_of : List ℕ → Option Verb
-edit_verb_of word =
-    if bytes_eq word (codes "point") then Some verb.Point
-    else if bytes_eq word (codes "pair") then Some verb.Pair
-    else if bytes_eq word (codes "unpair") then Some verb.Unpair
-    else route_verb_of word
-
 -- the first word of an event
 abbrev pub verb_of : List ℕ → Option Verb
 verb_of word =

@@ -1,4 +1,4 @@
 pub mod Events
-pub mod Written
+pub mod EventWords
 pub mod Numbers
 pub mod Commands

@@ -3,6 +3,7 @@
 ghost use Rattle.std.specs.Prelude.{◌≡◌, map};
 ghost use Rattle.script_words.specs.Events.{change_by, change_of, at_end, end_change_of};
 
+use crate::words::is_word;
 use link_state::LinkChange;
 use net_data::Event;
 use tokens::{read_id, read_slc};
@@ -32,10 +33,10 @@ pub fn read_change(change: LinkChange, words: &[&[u8]]) -> Option<Event>
 fn pick_change(first: LinkChange, second: LinkChange, word: &[u8]) -> Option<LinkChange>
     ensures { result ≡ at_end first second word.now }
 {
-    if word == b"a".as_slice() {
+    if is_word(word, "a") {
         return Some(first);
     }
-    if word == b"b".as_slice() {
+    if is_word(word, "b") {
         return Some(second);
     }
     None

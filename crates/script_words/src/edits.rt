@@ -6,13 +6,14 @@ ghost use Rattle.tokens.specs.Numbers.{id_of};
 ghost use Rattle.script_words.specs.Events.{added_point_of, dropped_point_of, point_event_of, pair_of, unpaired_of, set_from, added_set_of, dropped_set_of, set_event_of, added_link_of, dropped_link_of, link_event_of, plan_of, dropped_plan_of, plan_event_of, tfr_of};
 
 use crate::lists::{read_rows, read_slcs};
+use crate::words::is_word;
 use net_data::Event;
 use net_items::{Plan, Slcs};
 use std::alloc::{AllocError, Global};
 use tokens::{read_code, read_id, read_kind, read_slc};
 
-/// `CODE KIND`.
-fn read_added_point(words: &[&[u8]]) -> Option<Event>
+/// The event of the words `CODE KIND`: a point comes. `None` if the words have another form.
+pub fn read_added_point(words: &[&[u8]]) -> Option<Event>
     ensures { result ≡ added_point_of (map (λ w. w.now) words.now) }
 {
     match words {
@@ -47,10 +48,10 @@ pub fn read_point_event(words: &[&[u8]]) -> Option<Event>
 {
     match words {
         [what, rest @ ..] => {
-            if *what == b"add".as_slice() {
+            if is_word(*what, "add") {
                 return read_added_point(rest);
             }
-            if *what == b"drop".as_slice() {
+            if is_word(*what, "drop") {
                 return read_dropped_point(rest);
             }
             None
@@ -59,7 +60,7 @@ pub fn read_point_event(words: &[&[u8]]) -> Option<Event>
     }
 }
 
-/// `CODE CODE`.
+/// The event of the words `CODE CODE`: two points become mates. `None` if the words have another form.
 pub fn read_pair(words: &[&[u8]]) -> Option<Event>
     ensures { result ≡ pair_of (map (λ w. w.now) words.now) }
 {
@@ -139,10 +140,10 @@ pub fn read_set_event(alloc: Global, words: &[&[u8]]) -> Result<Option<Event>, A
 {
     match words {
         [what, rest @ ..] => {
-            if *what == b"add".as_slice() {
+            if is_word(*what, "add") {
                 return read_added_set(alloc, rest);
             }
-            if *what == b"drop".as_slice() {
+            if is_word(*what, "drop") {
                 return Ok(read_dropped_set(rest));
             }
             Ok(None)
@@ -189,10 +190,10 @@ pub fn read_link_event(words: &[&[u8]]) -> Option<Event>
 {
     match words {
         [what, rest @ ..] => {
-            if *what == b"add".as_slice() {
+            if is_word(*what, "add") {
                 return read_added_link(rest);
             }
-            if *what == b"drop".as_slice() {
+            if is_word(*what, "drop") {
                 return read_dropped_link(rest);
             }
             None
@@ -201,8 +202,9 @@ pub fn read_link_event(words: &[&[u8]]) -> Option<Event>
     }
 }
 
-/// `CODE ROW ROW ..`.
-fn read_plan(alloc: Global, words: &[&[u8]]) -> Result<Option<Event>, AllocError>
+/// The event of the words `CODE ROW ROW ..`: the plan of a destination is set, an empty one if there is no ROW. `None` if
+/// the words have another form. It fails if memory is refused.
+pub fn read_plan(alloc: Global, words: &[&[u8]]) -> Result<Option<Event>, AllocError>
     ensures { IfOk result (λ event. event ≡ plan_of (map (λ w. w.now) words.now)) }
 {
     match words {
@@ -239,10 +241,10 @@ pub fn read_plan_event(alloc: Global, words: &[&[u8]]) -> Result<Option<Event>, 
 {
     match words {
         [what, rest @ ..] => {
-            if *what == b"set".as_slice() {
+            if is_word(*what, "set") {
                 return read_plan(alloc, rest);
             }
-            if *what == b"drop".as_slice() {
+            if is_word(*what, "drop") {
                 return Ok(read_dropped_plan(rest));
             }
             Ok(None)
@@ -257,10 +259,10 @@ pub fn read_tfr(words: &[&[u8]]) -> Option<Event>
 {
     match words {
         [what] => {
-            if *what == b"on".as_slice() {
+            if is_word(*what, "on") {
                 return Some(Event::SetTfr(true));
             }
-            if *what == b"off".as_slice() {
+            if is_word(*what, "off") {
                 return Some(Event::SetTfr(false));
             }
             None

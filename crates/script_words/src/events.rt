@@ -16,7 +16,7 @@ use net_data::Event;
 use std::alloc::{AllocError, Global};
 
 /// The event of a first word and the words after it.
-fn read_by(alloc: Global, verb: Verb, rest: &[&[u8]]) -> Result<Option<Event>, AllocError>
+pub fn read_event_by(alloc: Global, verb: Verb, rest: &[&[u8]]) -> Result<Option<Event>, AllocError>
     ensures { IfOk result (λ event. event ≡ event_by verb (map (λ w. w.now) rest.now)) }
 {
     match verb {
@@ -46,5 +46,5 @@ pub fn read_event(alloc: Global, words: &[&[u8]]) -> Result<Option<Event>, Alloc
     let Some(verb) = read_verb(*word) else {
         return Ok(None);
     };
-    read_by(alloc, verb, rest)
+    read_event_by(alloc, verb, rest)
 }

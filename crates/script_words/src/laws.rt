@@ -3,7 +3,7 @@
 ghost use Rattle.std.specs.Prelude.{◌≡◌, ℕ, ◌↔◌, List, Some, ◌^◌, ◌<◌};
 ghost use Rattle.net_data.specs.declared.events.Event.{Event};
 ghost use Rattle.script_words.specs.Events.{event_of};
-ghost use Rattle.script_words.specs.Written.{IsEvent, IsWritten};
+ghost use Rattle.script_words.specs.EventWords.{IsEvent, IsWritten};
 ghost use Rattle.std.specs.Fmt.{decimal};
 ghost use Rattle.script_words.specs.Numbers.{sequence_of};
 

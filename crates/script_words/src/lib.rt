@@ -26,11 +26,12 @@
 //! 13. Words are read exactly if they are what is written of their event or command: no other word, and none too many or
 //!     too few. Only a change of the first end has two forms, with `a` and without.
 //!
-//! Stands on `net_data`, `tokens`. A change here also changes specs/ (Commands, Events, Numbers, Written), proofs/ and
+//! Stands on `net_data`, `tokens`. A change here also changes specs/ (Commands, EventWords, Events, Numbers), proofs/ and
 //! must-fail/.
 #![tactic(auto)]
 
 mod changes;
+mod command_words;
 mod commands;
 mod edits;
 mod events;
@@ -42,8 +43,10 @@ mod queries;
 pub mod questions;
 mod verbs;
 mod what_ifs;
+mod words;
 
 pub use commands::{Command, Events};
+pub use edits::{read_added_point, read_pair, read_plan};
 pub use events::read_event;
 pub use laws::{event_law, sequence_law};
 pub use lines::read_command;

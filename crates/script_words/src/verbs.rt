@@ -1,7 +1,9 @@
 //! The first word of an event.
 
 ghost use Rattle.std.specs.Prelude.{◌≡◌};
-ghost use Rattle.script_words.specs.Events.{change_verb_of, point_verb_of, route_verb_of, edit_verb_of, verb_of};
+ghost use Rattle.script_words.specs.Events.{verb_of};
+
+use crate::words::is_word;
 
 /// What an event begins with.
 #[derive(Clone, Copy, Debug, PartialEq, Eq)]
@@ -34,75 +36,24 @@ pub enum Verb {
     Tfr,
 }
 
-/// The first word of a change of a link's state.
-fn read_change_verb(word: &[u8]) -> Option<Verb>
-    ensures { result ≡ change_verb_of word.now }
-{
-    if word == b"fail".as_slice() {
-        Some(Verb::Fail)
-    } else if word == b"restore".as_slice() {
-        Some(Verb::Restore)
-    } else if word == b"block".as_slice() {
-        Some(Verb::Block)
-    } else if word == b"unblock".as_slice() {
-        Some(Verb::Unblock)
-    } else if word == b"inhibit".as_slice() {
-        Some(Verb::Inhibit)
-    } else if word == b"uninhibit".as_slice() {
-        Some(Verb::Uninhibit)
-    } else {
-        None
-    }
-}
-
-/// The first word of an edit of points or of pairs.
-fn read_point_verb(word: &[u8]) -> Option<Verb>
-    ensures { result ≡ point_verb_of word.now }
-{
-    if word == b"point".as_slice() {
-        Some(Verb::Point)
-    } else if word == b"pair".as_slice() {
-        Some(Verb::Pair)
-    } else if word == b"unpair".as_slice() {
-        Some(Verb::Unpair)
-    } else {
-        None
-    }
-}
-
-/// The first word of an edit of sets, their links, plans or the option.
-fn read_route_verb(word: &[u8]) -> Option<Verb>
-    ensures { result ≡ route_verb_of word.now }
-{
-    if word == b"set".as_slice() {
-        Some(Verb::Set)
-    } else if word == b"link".as_slice() {
-        Some(Verb::Link)
-    } else if word == b"plan".as_slice() {
-        Some(Verb::Plan)
-    } else if word == b"tfr".as_slice() {
-        Some(Verb::Tfr)
-    } else {
-        None
-    }
-}
-
-/// The first word of an edit of the network.
-fn read_edit_verb(word: &[u8]) -> Option<Verb>
-    ensures { result ≡ edit_verb_of word.now }
-{
-    match read_point_verb(word) {
-        Some(verb) => Some(verb),
-        None => read_route_verb(word),
-    }
-}
-
 /// The first word of an event.
 pub fn read_verb(word: &[u8]) -> Option<Verb>
     ensures { result ≡ verb_of word.now }
 {
-    match read_change_verb(word) {
-        Some(verb) => Some(verb),
-        None => read_edit_verb(word),
+    match word {
+        _ if is_word(word, "fail") => Some(Verb::Fail),
+        _ if is_word(word, "restore") => Some(Verb::Restore),
+        _ if is_word(word, "block") => Some(Verb::Block),
+        _ if is_word(word, "unblock") => Some(Verb::Unblock),
+        _ if is_word(word, "inhibit") => Some(Verb::Inhibit),
+        _ if is_word(word, "uninhibit") => Some(Verb::Uninhibit),
+        _ if is_word(word, "point") => Some(Verb::Point),
+        _ if is_word(word, "pair") => Some(Verb::Pair),
+        _ if is_word(word, "unpair") => Some(Verb::Unpair),
+        _ if is_word(word, "set") => Some(Verb::Set),
+        _ if is_word(word, "link") => Some(Verb::Link),
+        _ if is_word(word, "plan") => Some(Verb::Plan),
+        _ if is_word(word, "tfr") => Some(Verb::Tfr),
+        _ => None,
     }
 }

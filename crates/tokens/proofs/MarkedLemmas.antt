@@ -16,6 +16,8 @@ use Rattle.net_items.specs.declared.links.Link.{Link}
 use Rattle.tokens.specs.Numbers.{slc_of}
 use Rattle.tokens.specs.Marked.{starts_with, at_end, marks, marks_in_one, marks_in_two, digits_len, marked_by, marked_of, marks_text, marked_text, IsMarked}
 use Rattle.tokens.specs.Words.{word_if}
+use Rattle.tokens.specs.declared.marked.Format.{Format}
+use Rattle.tokens.specs.declared.marked.Format.TheVariants.{One, Two}
 use Rattle.point_codes.proofs.NumberLemmas.{own, number_reads, number_written}
 use Rattle.point_codes.proofs.CodeLemmas.{and_then_Some, map_Some}
 
@@ -37,26 +39,26 @@ ended [] x y e = (refl, cc)
 ended (b ∷ bs) x y e = absurd (cc)
 
 one_from : (text t1 t2 t3 : List ℕ) (f b i : Bool) (m : Marks) → text ≡ word_if f (codes "f") ++ t1 → t1 ≡ word_if b (codes "b") ++ t2 → t2 ≡ word_if i (codes "i") ++ t3
-    → at_end t3 (marks f b false i false) ≡ Some m → (m.blocked_b ≡ false) × (m.inhibited_b ≡ false) × (text ≡ marks_text true m)
+    → at_end t3 (marks f b false i false) ≡ Some m → (m.blocked_b ≡ false) × (m.inhibited_b ≡ false) × (text ≡ marks_text One m)
 one_from text t1 t2 t3 f b i m e1 e2 e3 e =
     let last = ended t3 (marks f b false i false) m e in
     let t2s : t2 ≡ word_if i (codes "i") = e3 ∙ ap (λ t. word_if i (codes "i") ++ t) last.0 ∙ append-nil (word_if i (codes "i")) in
-    let whole : text ≡ marks_text true (marks f b false i false) = e1 ∙ ap (λ t. word_if f (codes "f") ++ t) (e2 ∙ ap (λ t. word_if b (codes "b") ++ t) t2s) in
-    subst (λ (m : Marks). (m.blocked_b ≡ false) × (m.inhibited_b ≡ false) × (text ≡ marks_text true m)) last.1 (refl, refl, whole)
+    let whole : text ≡ marks_text One (marks f b false i false) = e1 ∙ ap (λ t. word_if f (codes "f") ++ t) (e2 ∙ ap (λ t. word_if b (codes "b") ++ t) t2s) in
+    subst (λ (m : Marks). (m.blocked_b ≡ false) × (m.inhibited_b ≡ false) × (text ≡ marks_text One m)) last.1 (refl, refl, whole)
 
-one_reads : (text : List ℕ) (m : Marks) → marks_in_one text ≡ Some m → (m.blocked_b ≡ false) × (m.inhibited_b ≡ false) × (text ≡ marks_text true m)
+one_reads : (text : List ℕ) (m : Marks) → marks_in_one text ≡ Some m → (m.blocked_b ≡ false) × (m.inhibited_b ≡ false) × (text ≡ marks_text One m)
 one_reads text m e = one_from text _ _ _ _ _ _ m (front_text (codes "f") text) (front_text (codes "b") _) (front_text (codes "i") _) e
 
 two_from : (text t1 t2 t3 t4 t5 : List ℕ) (f ba bb ia ib : Bool) (m : Marks) → text ≡ word_if f (codes "f") ++ t1 → t1 ≡ word_if ba (codes "ba") ++ t2 → t2 ≡ word_if bb (codes "bb") ++ t3
-    → t3 ≡ word_if ia (codes "ia") ++ t4 → t4 ≡ word_if ib (codes "ib") ++ t5 → at_end t5 (marks f ba bb ia ib) ≡ Some m → text ≡ marks_text false m
+    → t3 ≡ word_if ia (codes "ia") ++ t4 → t4 ≡ word_if ib (codes "ib") ++ t5 → at_end t5 (marks f ba bb ia ib) ≡ Some m → text ≡ marks_text Two m
 two_from text t1 t2 t3 t4 t5 f ba bb ia ib m e1 e2 e3 e4 e5 e =
     let last = ended t5 (marks f ba bb ia ib) m e in
     let t4s : t4 ≡ word_if ib (codes "ib") = e5 ∙ ap (λ t. word_if ib (codes "ib") ++ t) last.0 ∙ append-nil (word_if ib (codes "ib")) in
-    let whole : text ≡ marks_text false (marks f ba bb ia ib) =
+    let whole : text ≡ marks_text Two (marks f ba bb ia ib) =
     e1 ∙ ap (λ t. word_if f (codes "f") ++ t) (e2 ∙ ap (λ t. word_if ba (codes "ba") ++ t) (e3 ∙ ap (λ t. word_if bb (codes "bb") ++ t) (e4 ∙ ap (λ t. word_if ia (codes "ia") ++ t) t4s))) in
-    whole ∙ ap (marks_text false) last.1
+    whole ∙ ap (marks_text Two) last.1
 
-two_reads : (text : List ℕ) (m : Marks) → marks_in_two text ≡ Some m → text ≡ marks_text false m
+two_reads : (text : List ℕ) (m : Marks) → marks_in_two text ≡ Some m → text ≡ marks_text Two m
 two_reads text m e =
     two_from text _ _ _ _ _ _ _ _ _ _ m (front_text (codes "f") text) (front_text (codes "ba") _) (front_text (codes "bb") _) (front_text (codes "ia") _) (front_text (codes "ib") _) e
 
@@ -66,7 +68,7 @@ abbrev pub starts_other : List ℕ → Bool
 starts_other [] = true
 starts_other (b ∷ bs) = not (is_ascii_digit b)
 
-one_written : (f b i : Bool) → (marks_in_one (marks_text true (marks f b false i false)) ≡ Some (marks f b false i false)) × (starts_other (marks_text true (marks f b false i false)) ≡ true)
+one_written : (f b i : Bool) → (marks_in_one (marks_text One (marks f b false i false)) ≡ Some (marks f b false i false)) × (starts_other (marks_text One (marks f b false i false)) ≡ true)
 one_written false false false = (refl, refl)
 one_written false false true = (refl, refl)
 one_written false true false = (refl, refl)
@@ -76,7 +78,7 @@ one_written true false true = (refl, refl)
 one_written true true false = (refl, refl)
 one_written true true true = (refl, refl)
 
-two_written : (f ba bb ia ib : Bool) → (marks_in_two (marks_text false (marks f ba bb ia ib)) ≡ Some (marks f ba bb ia ib)) × (starts_other (marks_text false (marks f ba bb ia ib)) ≡ true)
+two_written : (f ba bb ia ib : Bool) → (marks_in_two (marks_text Two (marks f ba bb ia ib)) ≡ Some (marks f ba bb ia ib)) × (starts_other (marks_text Two (marks f ba bb ia ib)) ≡ true)
 two_written false false false false false = (refl, refl)
 two_written false false false false true = (refl, refl)
 two_written false false false true false = (refl, refl)
@@ -134,36 +136,36 @@ marked_written_by marks_in rest slc m small e o =
     marked_at marks_in (decimal slc ++ rest) (decimal slc) rest (length (decimal slc)) slc m (digits_then (decimal slc) rest (digits_decimal own slc (omega arith)) o)
     (take-append_seam (decimal slc) rest) (drop-append_seam (decimal slc) rest) (number_written 255 slc (omega arith) small) e
 
-pub marked_writes : (one : Bool) (link : Link) → IsMarked one link → marked_of one (marked_text one link) ≡ Some link
-marked_writes true link h =
+pub marked_writes : (format : Format) (link : Link) → IsMarked format link → marked_of format (marked_text format link) ≡ Some link
+marked_writes One link h =
     let m = link.marks in
     let shape : m ≡ marks m.failed m.blocked_a false m.inhibited_a false = ap (λ b. marks m.failed m.blocked_a b m.inhibited_a m.inhibited_b) h.1 ∙ ap (λ b. marks m.failed m.blocked_a false m.inhibited_a b) h.2 in
     let w = one_written m.failed m.blocked_a m.inhibited_a in
-    marked_written_by marks_in_one (marks_text true m) link.slc m h.0 (w.0 ∙ ap Some (sym shape)) w.1
-marked_writes false link h =
+    marked_written_by marks_in_one (marks_text One m) link.slc m h.0 (w.0 ∙ ap Some (sym shape)) w.1
+marked_writes Two link h =
     let m = link.marks in
     let w = two_written m.failed m.blocked_a m.blocked_b m.inhibited_a m.inhibited_b in
-    marked_written_by marks_in_two (marks_text false m) link.slc m h w.0 w.1
+    marked_written_by marks_in_two (marks_text Two m) link.slc m h w.0 w.1
 
-marked_from : (one : Bool) (text a b : List ℕ) (slc : ℕ) (m : Marks) (link : Link) → text ≡ a ++ b → a ≡ decimal slc → b ≡ marks_text one m → IsMarked one (record { slc = slc; marks = m }) → record { slc = slc; marks = m } ≡ link
-    → IsMarked one link × (text ≡ marked_text one link)
-marked_from one text a b slc m link whole first second is same =
-    subst (λ (l : Link). IsMarked one l × (text ≡ marked_text one l)) same (is, whole ∙ ap (λ t. t ++ b) first ∙ ap (λ t. decimal slc ++ t) second)
+marked_from : (format : Format) (text a b : List ℕ) (slc : ℕ) (m : Marks) (link : Link) → text ≡ a ++ b → a ≡ decimal slc → b ≡ marks_text format m → IsMarked format (record { slc = slc; marks = m }) → record { slc = slc; marks = m } ≡ link
+    → IsMarked format link × (text ≡ marked_text format link)
+marked_from format text a b slc m link whole first second is same =
+    subst (λ (l : Link). IsMarked format l × (text ≡ marked_text format l)) same (is, whole ∙ ap (λ t. t ++ b) first ∙ ap (λ t. decimal slc ++ t) second)
 
-marked_reads : (one : Bool) (link : Link) (text : List ℕ) → marked_of one text ≡ Some link → IsMarked one link × (text ≡ marked_text one link)
-marked_reads true link text e =
+marked_reads : (format : Format) (link : Link) (text : List ℕ) → marked_of format text ≡ Some link → IsMarked format link × (text ≡ marked_text format link)
+marked_reads One link text e =
     let n = digits_len text in
     let first = and_then_Some (slc_of (take n text)) _ link e in
     let second = map_Some (marks_in_one (drop n text)) _ link first.2 in
     let slc = number_reads 255 first.0 (take n text) (omega arith) first.1 in
     let m = one_reads (drop n text) second.0 second.1 in
-    marked_from true text (take n text) (drop n text) first.0 second.0 link (sym (take-append-drop n text)) slc.1 m.2 (slc.0, m.0, m.1) second.2
-marked_reads false link text e =
+    marked_from One text (take n text) (drop n text) first.0 second.0 link (sym (take-append-drop n text)) slc.1 m.2 (slc.0, m.0, m.1) second.2
+marked_reads Two link text e =
     let n = digits_len text in
     let first = and_then_Some (slc_of (take n text)) _ link e in
     let second = map_Some (marks_in_two (drop n text)) _ link first.2 in
     let slc = number_reads 255 first.0 (take n text) (omega arith) first.1 in
-    marked_from false text (take n text) (drop n text) first.0 second.0 link (sym (take-append-drop n text)) slc.1 (two_reads (drop n text) second.0 second.1) slc.0 second.2
+    marked_from Two text (take n text) (drop n text) first.0 second.0 link (sym (take-append-drop n text)) slc.1 (two_reads (drop n text) second.0 second.1) slc.0 second.2
 
-pub marked_law : (one : Bool) (link : Link) (text : List ℕ) → (marked_of one text ≡ Some link) ↔ (IsMarked one link × (text ≡ marked_text one link))
-marked_law one link text = (marked_reads one link text, λ h. ap (marked_of one) h.1 ∙ marked_writes one link h.0)
+pub marked_law : (format : Format) (link : Link) (text : List ℕ) → (marked_of format text ≡ Some link) ↔ (IsMarked format link × (text ≡ marked_text format link))
+marked_law format link text = (marked_reads format link text, λ h. ap (marked_of format) h.1 ∙ marked_writes format link h.0)

@@ -1,5 +1,5 @@
 -- Pieces between bytes, and what they are.
-use Rattle.std.proofs.Common.{◌≡◌, ℕ, suc, ◌+◌, ◌<◌, ◌≤◌, ◌==◌, not, Bool, true, false, cond, ltb, List, [], ◌∷◌, ◌++◌, map, length, take, drop, Option, Some, None, option_map, option_and_then, sym, ap, subst, refl, ◌∙◌, arith, append_assoc, length-append}
+use Rattle.std.proofs.Common.{◌≡◌, ℕ, ◌+◌, ◌<◌, ◌≤◌, ◌==◌, not, Bool, true, false, cond, ltb, List, [], ◌∷◌, ◌++◌, map, length, take, drop, Option, Some, None, option_map, option_and_then, sym, ap, subst, refl, ◌∙◌, arith, append_assoc, length-append}
 use Rattle.std.proofs.lemmas.Bool.{and_parts, ltb-true, ltb-false}
 use Rattle.std.proofs.lemmas.List.{length-map}
 use Rattle.std.proofs.lemmas.List.Sums.{fails_before_first}
@@ -7,7 +7,7 @@ use Rattle.std.proofs.lemmas.List.Splits.{slice_split-cons_no, slice_split_none,
 use Rattle.std.specs.List.{AllByRecursion, position_or_len, slice_split, onto_first, join_with_byte}
 use Rattle.point_codes.specs.Codes.{split_of}
 use Rattle.tokens.specs.Pieces.{all_of, pieces_of}
-use Rattle.point_codes.proofs.CodeLemmas.{lacks, lacks_parts, split_here, split_parts, parts_at, and_then_Some, map_Some, both}
+use Rattle.point_codes.proofs.CodeLemmas.{lacks, lacks_parts, split_here, parts_at, and_then_Some, map_Some, both}
 
 pub pieces_more : (c : ℕ) (text a b : List ℕ) → split_of c text ≡ Some (a, b) → slice_split (λ x. x == c) text ≡ a ∷ slice_split (λ x. x == c) b
 pieces_more c text a b e =
@@ -26,11 +26,6 @@ pieces_last c text e =
     let past : length text ≤ n = ltb-false n (length text) (none_at text (ltb n (length text)) n e) in
     slice_split_none (λ x. x == c) text (λ k d m. fails_before_first (λ x. x == c) text k d (omega arith))
 
-pub split_shorter : (c : ℕ) (text a b : List ℕ) → split_of c text ≡ Some (a, b) → length b < length text
-split_shorter c text a b e =
-    let size : length text ≡ length a + suc (length b) = ap length (split_parts c text a b e) ∙ length-append a (c ∷ b) in
-    omega arith
-
 pub whole_piece : (c : ℕ) (text : List ℕ) → lacks c text ≡ true → slice_split (λ x. x == c) text ≡ text ∷ []
 whole_piece c [] h = refl
 whole_piece c (b ∷ bs) h =
@@ -41,13 +36,30 @@ whole_piece c (b ∷ bs) h =
 abbrev pub onto : {B : Type 0} → List B → Option (List B) → Option (List B)
 onto ys o = option_map (λ more. ys ++ more) o
 
-onto_more : {B : Type 0} (ys : List B) (y : B) (o : Option (List B)) → onto (ys ++ y ∷ []) o ≡ onto ys (option_map (λ more. y ∷ more) o)
+pub onto_more : {B : Type 0} (ys : List B) (y : B) (o : Option (List B)) → onto (ys ++ y ∷ []) o ≡ onto ys (option_map (λ more. y ∷ more) o)
 onto_more ys y None = refl
 onto_more ys y (Some zs) = ap Some (append_assoc ys (y ∷ []) zs)
 
 pub onto_nothing : {B : Type 0} (o : Option (List B)) → onto [] o ≡ o
 onto_nothing None = refl
 onto_nothing (Some x) = refl
+
+-- texts that are read one by one, or written
+module _ {B : Type 0} (f : List ℕ → Option B) (write : B → List ℕ) (Is : B → Type 0) where
+  pub all_read : ((text : List ℕ) (y : B) → f text ≡ Some y → Is y × (text ≡ write y)) → (ps : List (List ℕ)) (ys : List B) → all_of f ps ≡ Some ys → AllByRecursion Is ys × (ps ≡ map write ys)
+  all_read reads [] [] e = (tt, refl)
+  all_read reads [] (y ∷ ys) e = absurd (cc)
+  all_read reads (p ∷ ps) ys e =
+      let first = and_then_Some (f p) _ ys e in
+      let rest = map_Some (all_of f ps) _ ys first.2 in
+      let more = all_read reads ps rest.0 rest.1 in
+      let here = reads p first.0 first.1 in
+      let same : p ∷ ps ≡ map write (first.0 ∷ rest.0) = ap (λ x. x ∷ ps) here.1 ∙ ap (λ xs. write first.0 ∷ xs) more.1 in
+      subst (λ l. AllByRecursion Is l × (p ∷ ps ≡ map write l)) rest.2 ((here.0, more.0), same)
+
+  pub all_written : ((y : B) → Is y → f (write y) ≡ Some y) → (ys : List B) → AllByRecursion Is ys → all_of f (map write ys) ≡ Some ys
+  all_written writes [] h = refl
+  all_written writes (y ∷ ys) h = rw (writes y h.0, all_written writes ys h.1) refl
 
 module _ {B : Type 0} (c : ℕ) (f : List ℕ → Option B) where
   first_read : (y : B) (text a b : List ℕ) → split_of c text ≡ Some (a, b) → f a ≡ Some y → pieces_of c f text ≡ option_map (λ more. y ∷ more) (pieces_of c f b)
@@ -75,28 +87,13 @@ module _ {B : Type 0} (c : ℕ) (f : List ℕ → Option B) where
   read_last_none ys text whole e r h = ap (onto ys) (sym (last_read None text e r)) ∙ h
 
   module _ (write : B → List ℕ) (Is : B → Type 0) where
-    all_read : ((text : List ℕ) (y : B) → f text ≡ Some y → Is y × (text ≡ write y)) → (ps : List (List ℕ)) (ys : List B) → all_of f ps ≡ Some ys → AllByRecursion Is ys × (ps ≡ map write ys)
-    all_read reads [] [] e = (tt, refl)
-    all_read reads [] (y ∷ ys) e = absurd (cc)
-    all_read reads (p ∷ ps) ys e =
-        let first = and_then_Some (f p) _ ys e in
-        let rest = map_Some (all_of f ps) _ ys first.2 in
-        let more = all_read reads ps rest.0 rest.1 in
-        let here = reads p first.0 first.1 in
-        let same : p ∷ ps ≡ map write (first.0 ∷ rest.0) = ap (λ x. x ∷ ps) here.1 ∙ ap (λ xs. write first.0 ∷ xs) more.1 in
-        subst (λ l. AllByRecursion Is l × (p ∷ ps ≡ map write l)) rest.2 ((here.0, more.0), same)
-
     pub pieces_read : ((text : List ℕ) (y : B) → f text ≡ Some y → Is y × (text ≡ write y)) → (text : List ℕ) (ys : List B) → pieces_of c f text ≡ Some ys
         → (0 < length ys) × AllByRecursion Is ys × (text ≡ join_with_byte c (map write ys))
     pieces_read reads text ys e =
-        let h = all_read reads (slice_split (λ x. x == c) text) ys e in
+        let h = all_read f write Is reads (slice_split (λ x. x == c) text) ys e in
         let size : length (slice_split (λ x. x == c) text) ≡ length ys = ap length h.1 ∙ length-map ys write in
         let some = length-slice_split (λ x. x == c) text in
         (omega arith, h.0, sym (join_with_byte-slice_split c text) ∙ ap (join_with_byte c) h.1)
-
-    all_written : ((y : B) → Is y → f (write y) ≡ Some y) → (ys : List B) → AllByRecursion Is ys → all_of f (map write ys) ≡ Some ys
-    all_written writes [] h = refl
-    all_written writes (y ∷ ys) h = rw (writes y h.0, all_written writes ys h.1) refl
 
     pub pieces_back : ((y : B) → Is y → lacks c (write y) ≡ true) → (y : B) (ys : List B) → AllByRecursion Is (y ∷ ys) → slice_split (λ x. x == c) (join_with_byte c (map write (y ∷ ys))) ≡ map write (y ∷ ys)
     pieces_back free y [] h = whole_piece c (write y) (free y h.0)
@@ -106,7 +103,7 @@ module _ {B : Type 0} (c : ℕ) (f : List ℕ → Option B) where
 
     pub pieces_written : ((y : B) → Is y → f (write y) ≡ Some y) → ((y : B) → Is y → lacks c (write y) ≡ true) → (ys : List B) → 0 < length ys → AllByRecursion Is ys → pieces_of c f (join_with_byte c (map write ys)) ≡ Some ys
     pieces_written writes free [] some h = absurd (omega arith)
-    pieces_written writes free (y ∷ ys) some h = ap (all_of f) (pieces_back free y ys h) ∙ all_written writes (y ∷ ys) h
+    pieces_written writes free (y ∷ ys) some h = ap (all_of f) (pieces_back free y ys h) ∙ all_written f write Is writes (y ∷ ys) h
 
 -- what lacks a byte still lacks it joined by another
 pub lacks-append : (c : ℕ) (a b : List ℕ) → lacks c a ≡ true → lacks c b ≡ true → lacks c (a ++ b) ≡ true

@@ -1,5 +1,5 @@
 -- Words between spaces.
-use Rattle.std.proofs.Common.{Bor, ◌≡◌, ℕ, ◌<◌, ◌==◌, true, false, nat_lt, List, [], ◌∷◌, ◌++◌, map, filter, length, Some, None, sym, ap, refl, ◌∙◌, arith, append_assoc, append-nil}
+use Rattle.std.proofs.Common.{Bor, ◌≡◌, ℕ, ◌<◌, ◌==◌, true, false, nat_lt, List, [], ◌∷◌, ◌++◌, map, filter, length, Some, None, sym, ap, refl, ◌∙◌, arith, append_assoc}
 use Rattle.std.proofs.lemmas.Bool.Decides.{nat_tests}
 use Rattle.std.specs.List.{AllByRecursion, slice_split, join_with_byte}
 use Rattle.point_codes.specs.Codes.{split_of}
@@ -8,9 +8,6 @@ use Rattle.tokens.proofs.PiecesLemmas.{pieces_more, pieces_last, pieces_back}
 
 long_by : (n : ℕ) → (n == 0) ≡ false → nat_lt 0 n ≡ true
 long_by n h = grind (arith, nat_tests)
-
-empty_by : (n : ℕ) → (n == 0) ≡ true → nat_lt 0 n ≡ false
-empty_by n h = grind (arith, nat_tests)
 
 some_by : (n : ℕ) → 0 < n → nat_lt 0 n ≡ true
 some_by n h = grind (arith, nat_tests)
@@ -23,20 +20,10 @@ word_taken so_far whole text a b e some h =
     let here : words_of text ≡ a ∷ words_of b = words_more text a b e ∙ rw (long_by (length a) some) refl in
     append_assoc so_far (a ∷ []) (words_of b) ∙ ap (λ t. so_far ++ t) (sym here) ∙ h
 
-pub word_passed : (so_far whole : List (List ℕ)) (text a b : List ℕ) → split_of 32 text ≡ Some (a, b) → (length a == 0) ≡ true → so_far ++ words_of text ≡ whole → so_far ++ words_of b ≡ whole
-word_passed so_far whole text a b e none h =
-    let here : words_of text ≡ words_of b = words_more text a b e ∙ rw (empty_by (length a) none) refl in
-    ap (λ t. so_far ++ t) (sym here) ∙ h
-
 pub word_last : (so_far whole : List (List ℕ)) (text : List ℕ) → split_of 32 text ≡ None → (length text == 0) ≡ false → so_far ++ words_of text ≡ whole → so_far ++ text ∷ [] ≡ whole
 word_last so_far whole text e some h =
     let here : words_of text ≡ text ∷ [] = ap (filter (λ w. nat_lt 0 (length w))) (pieces_last 32 text e) ∙ rw (long_by (length text) some) refl in
     ap (λ t. so_far ++ t) (sym here) ∙ h
-
-pub no_word_last : (so_far whole : List (List ℕ)) (text : List ℕ) → split_of 32 text ≡ None → (length text == 0) ≡ true → so_far ++ words_of text ≡ whole → so_far ≡ whole
-no_word_last so_far whole text e none h =
-    let here : words_of text ≡ [] = ap (filter (λ w. nat_lt 0 (length w))) (pieces_last 32 text e) ∙ rw (empty_by (length text) none) refl in
-    sym (append-nil so_far) ∙ ap (λ t. so_far ++ t) (sym here) ∙ h
 
 all_some : (ws : List (List ℕ)) → AllByRecursion IsWord ws → filter (λ w. nat_lt 0 (length w)) ws ≡ ws
 all_some [] h = refl

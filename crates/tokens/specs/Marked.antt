@@ -1,5 +1,5 @@
 -- MARKED: a link with its marks.
-use Rattle.std.specs.Prelude.{◌≡◌, ◌≤◌, ℕ, ◌&&◌, not, nat_le, Bool, true, false, if◌then◌else◌, List, [], ◌∷◌, ◌++◌, length, take, drop, position, unwrap_or, Option, Some, None, option_map, option_and_then, codes}
+use Rattle.std.specs.Prelude.{◌≡◌, ◌≤◌, ℕ, ◌&&◌, not, nat_le, Bool, false, if◌then◌else◌, List, [], ◌∷◌, ◌++◌, length, take, drop, position, unwrap_or, Option, Some, None, option_map, option_and_then, codes}
 use Rattle.std.specs.Char.{is_ascii_digit}
 use Rattle.std.specs.Str.{bytes_eq}
 use Rattle.std.specs.Fmt.{decimal}
@@ -7,6 +7,8 @@ use Rattle.link_state.specs.declared.marks.Marks.{Marks}
 use Rattle.net_items.specs.declared.links.Link.{Link}
 use Rattle.tokens.specs.Numbers.{slc_of}
 use Rattle.tokens.specs.Words.{word_if}
+use Rattle.tokens.specs.declared.marked.Format.{Format}
+use Rattle.tokens.specs.declared.marked.Format.TheVariants.{One, Two}
 
 -- whether the word stands at the front of the text
 abbrev pub starts_with : List ℕ → List ℕ → Bool
@@ -50,23 +52,23 @@ abbrev pub marked_by : (List ℕ → Option Marks) → List ℕ → Option Link
 marked_by marks_in text =
     option_and_then (λ slc. option_map (λ m. record { slc = slc; marks = m }) (marks_in (drop (digits_len text) text))) (slc_of (take (digits_len text) text))
 
--- the link that a token is, in format 1 (true) or in format 2 (false)
-abbrev pub marked_of : Bool → List ℕ → Option Link
-marked_of true text = marked_by marks_in_one text
-marked_of false text = marked_by marks_in_two text
+-- the link that a token is, in a format
+abbrev pub marked_of : Format → List ℕ → Option Link
+marked_of One text = marked_by marks_in_one text
+marked_of Two text = marked_by marks_in_two text
 
--- how marks are written in format 1 (true) and in format 2 (false)
-abbrev pub marks_text : Bool → Marks → List ℕ
-marks_text true m = word_if m.failed (codes "f") ++ (word_if m.blocked_a (codes "b") ++ word_if m.inhibited_a (codes "i"))
-marks_text false m =
+-- how marks are written in a format
+abbrev pub marks_text : Format → Marks → List ℕ
+marks_text One m = word_if m.failed (codes "f") ++ (word_if m.blocked_a (codes "b") ++ word_if m.inhibited_a (codes "i"))
+marks_text Two m =
     word_if m.failed (codes "f") ++ (word_if m.blocked_a (codes "ba") ++ (word_if m.blocked_b (codes "bb")
     ++ (word_if m.inhibited_a (codes "ia") ++ word_if m.inhibited_b (codes "ib"))))
 
--- how a link is written
-abbrev pub marked_text : Bool → Link → List ℕ
-marked_text one link = decimal link.slc ++ marks_text one link.marks
+-- how a link is written in a format
+abbrev pub marked_text : Format → Link → List ℕ
+marked_text format link = decimal link.slc ++ marks_text format link.marks
 
 -- what a format can say of a link: format 1 has no marks of the second end
-abbrev pub IsMarked : Bool → Link → Type 0
-IsMarked true link = (link.slc ≤ 255) × (link.marks.blocked_b ≡ false) × (link.marks.inhibited_b ≡ false)
-IsMarked false link = link.slc ≤ 255
+abbrev pub IsMarked : Format → Link → Type 0
+IsMarked One link = (link.slc ≤ 255) × (link.marks.blocked_b ≡ false) × (link.marks.inhibited_b ≡ false)
+IsMarked Two link = link.slc ≤ 255

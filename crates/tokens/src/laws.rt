@@ -1,6 +1,6 @@
 //! Laws: functions that do nothing when they run, and whose contracts are facts about the definitions.
 
-ghost use Rattle.std.specs.Prelude.{◌≡◌, ℕ, ◌≤◌, ◌↔◌, List, Some, Bool};
+ghost use Rattle.std.specs.Prelude.{◌≡◌, ℕ, ◌≤◌, ◌↔◌, List, Some};
 ghost use Rattle.std.specs.Fmt.{decimal};
 ghost use Rattle.tokens.specs.Numbers.{id_of, slc_of, rank_of};
 ghost use Rattle.net_items.specs.declared.lists.Row.{Row};
@@ -10,6 +10,7 @@ ghost use Rattle.tokens.specs.Words.{words_of, IsWord};
 ghost use Rattle.net_items.specs.declared.items.Kind.{Kind};
 ghost use Rattle.tokens.specs.Kinds.{kind_of, kind_text};
 ghost use Rattle.net_items.specs.declared.links.Link.{Link};
+ghost use Rattle.tokens.specs.declared.marked.Format.{Format};
 ghost use Rattle.tokens.specs.Marked.{marked_of, marked_text, IsMarked};
 
 /// The law: the ids' tokens are exactly what is written of the ids.
@@ -44,5 +45,5 @@ pub fn kind_law()
 
 /// The tokens of links with marks are exactly what is written of the links that the format can say.
 pub fn marked_law()
-    ensures { (one : Bool) (link : Link) (text : List ℕ) → (marked_of one text ≡ Some link) ↔ (IsMarked one link × (text ≡ marked_text one link)) }
+    ensures { (format : Format) (link : Link) (text : List ℕ) → (marked_of format text ≡ Some link) ↔ (IsMarked format link × (text ≡ marked_text format link)) }
 {}

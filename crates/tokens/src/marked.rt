@@ -9,6 +9,15 @@ use crate::numbers::read_slc;
 use link_state::Marks;
 use net_items::Link;
 
+/// The format of a network text.
+#[derive(Clone, Copy, Debug, PartialEq, Eq)]
+pub enum Format {
+    /// Format 1: its marks are of the first end alone.
+    One,
+    /// Format 2: its marks are of either end.
+    Two,
+}
+
 /// Whether a word stands at the front, and what comes after it.
 fn take_word<'a>(text: &'a [u8], word: &[u8]) -> (bool, &'a [u8])
     ensures stands { result.0 ≡ starts_with word.now text.entry.now }
@@ -81,16 +90,15 @@ fn count_digits(text: &[u8]) -> usize
     }
 }
 
-/// The link that a token is, in format 1 or else in format 2.
-pub fn read_marked(one: bool, text: &[u8]) -> Option<Link>
-    ensures { result ≡ marked_of one text.now }
+/// The link that a token is, in this format. `None` if the token is none.
+pub fn read_marked(format: Format, text: &[u8]) -> Option<Link>
+    ensures { result ≡ marked_of format text.now }
 {
     let n = count_digits(text);
     let slc = read_slc(&text[..n])?;
-    let marks = if one {
-        read_marks_one(&text[n..])?
-    } else {
-        read_marks_two(&text[n..])?
+    let marks = match format {
+        Format::One => read_marks_one(&text[n..])?,
+        Format::Two => read_marks_two(&text[n..])?,
     };
     Some(Link { slc, marks })
 }

@@ -10,11 +10,11 @@ use Rattle.route_choice.specs.declared.choices.Far.{Far}
 use Rattle.profile.specs.declared.tables.RowState.{RowState}
 use Rattle.profile.specs.declared.tables.Table.{Table}
 use Rattle.profile.specs.Status.{Source}
-use Rattle.profile.specs.Valid.{IsValid}
+use Rattle.profile.specs.Valid.{IsValidSource}
 use Rattle.profile.specs.Whole.{heard_in, heard_from, scratch, IsSettledTable}
 use Rattle.profile.proofs.CertificateLemmas.{scratch_table}
-use Rattle.transfer_state.specs.declared.certificate.Clause.{Clause}
-use Rattle.transfer_state.specs.declared.certificate.Complaint.{Complaint}
+use Rattle.transfer_state.specs.declared.complaints.Clause.{Clause}
+use Rattle.transfer_state.specs.declared.complaints.Complaint.{Complaint}
 use Rattle.transfer_state.specs.Complaints.{right_state, HasPoints, AreRightBefore, IsWrongIn, IsFirstComplaint}
 use Rattle.transfer_state.proofs.SweepLemmas.{at_index}
 
@@ -161,5 +161,5 @@ module _ (src : Source) (table : Table) where
   ]
 
   -- a table with a complaint isn't the definition's
-  pub complaint_wrong : IsValid src → (complaint : Complaint) → IsFirstComplaint src table complaint → table ≡ scratch src → ⊥
+  pub complaint_wrong : IsValidSource src → (complaint : Complaint) → IsFirstComplaint src table complaint → table ≡ scratch src → ⊥
   complaint_wrong valid complaint c e = complaint_unsettled complaint c (subst (IsSettledTable src) (sym e) (scratch_table src valid))

@@ -3,8 +3,8 @@ use Rattle.std.proofs.Common.{◌≡◌, ℕ, Bool, eqb, Option, Some, None, opt
 use Rattle.std.proofs.lemmas.Option.{same_Some}
 use Rattle.net_items.specs.declared.lists.Row.{Row}
 use Rattle.profile.specs.declared.tables.RowState.{RowState}
-use Rattle.profile.specs.Status.{Source, row_of, choice, status}
-use Rattle.profile.specs.Valid.{IsValid}
+use Rattle.profile.specs.Status.{Source, source_row, choice, status}
+use Rattle.profile.specs.Valid.{IsValidSource}
 use Rattle.profile.specs.Whole.{scratch, state_of}
 use Rattle.profile.proofs.CertificateLemmas.{find-map}
 use Rattle.profile.proofs.SettledLemmas.{mates_apart_by, planned_there}
@@ -12,16 +12,16 @@ use Rattle.profile.proofs.UnfoldingLemmas.{row_valid, status_is}
 use Rattle.profile.proofs.WalkLemmas.{reached_walk, walk_reached}
 use Rattle.transfer_state.specs.Promises.{state_in, status_in, TellsWalks, KeepsMatesApart}
 
-module _ (src : Source) (valid : IsValid src) where
+module _ (src : Source) (valid : IsValidSource src) where
   -- the state of a point is that of its row
-  state_is : (y : ℕ) → state_in (scratch src) y ≡ option_map (λ (row : Row). state_of src row (choice src row)) (row_of src y)
+  state_is : (y : ℕ) → state_in (scratch src) y ≡ option_map (λ (row : Row). state_of src row (choice src row)) (source_row src y)
   state_is y = find-map (λ (s : RowState). eqb s.point y) (λ (r : Row). eqb r.point y) (λ (row : Row). state_of src row (choice src row)) (λ r. refl) src.rows
 
   -- the status in the table is the status
   status_is_in : (y : ℕ) → status_in (scratch src) y ≡ status src y
-  status_is_in y = at (eqb y src.dest) refl (row_of src y) refl
+  status_is_in y = at (eqb y src.dest) refl (source_row src y) refl
     where
-      at : (b : Bool) → eqb y src.dest ≡ b → (o : Option Row) → row_of src y ≡ o → status_in (scratch src) y ≡ status src y
+      at : (b : Bool) → eqb y src.dest ≡ b → (o : Option Row) → source_row src y ≡ o → status_in (scratch src) y ≡ status src y
       at b e None none = rw (state_is y, none) (sym (status_is src valid y ∙ rw none refl))
       at b e (Some row) some = rw (state_is y, some) (sym (status_is src valid y ∙ rw some refl))
 
@@ -32,10 +32,10 @@ module _ (src : Source) (valid : IsValid src) where
   )
 
   -- a state in the table is that of a row
-  made_of : (y : ℕ) (s : RowState) → state_in (scratch src) y ≡ Some s → (row : Row) × (row_of src y ≡ Some row) × (state_of src row (choice src row) ≡ s)
-  made_of y s there = at (row_of src y) refl (sym (state_is y) ∙ there)
+  made_of : (y : ℕ) (s : RowState) → state_in (scratch src) y ≡ Some s → (row : Row) × (source_row src y ≡ Some row) × (state_of src row (choice src row) ≡ s)
+  made_of y s there = at (source_row src y) refl (sym (state_is y) ∙ there)
     where
-      at : (o : Option Row) → row_of src y ≡ o → option_map (λ (row : Row). state_of src row (choice src row)) o ≡ Some s → (row : Row) × (row_of src y ≡ Some row) × (state_of src row (choice src row) ≡ s)
+      at : (o : Option Row) → source_row src y ≡ o → option_map (λ (row : Row). state_of src row (choice src row)) o ≡ Some s → (row : Row) × (source_row src y ≡ Some row) × (state_of src row (choice src row) ≡ s)
       at None none is = absurd (cc)
       at (Some row) some is = (row, some, same_Some (state_of src row (choice src row)) s is)
 

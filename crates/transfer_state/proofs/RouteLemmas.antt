@@ -14,7 +14,7 @@ use Rattle.profile.specs.declared.hops.Hop.{Hop}
 use Rattle.profile.specs.Traces.{hop_of}
 use Rattle.profile.specs.Whole.{state_of, carrier, link_of}
 use Rattle.profile.proofs.CertificateLemmas.{find-map}
-use Rattle.excerpts.specs.Excerpts.{ExcerptValue, source_of, content_of, IsRight}
+use Rattle.excerpts.specs.Excerpt.{ExcerptValue, source_of, content_of, IsRight}
 use Rattle.excerpts.proofs.ExcerptLemmas.{table_equal}
 use Rattle.excerpts.proofs.SourceLemmas.{row_point_is}
 use Rattle.transfer_state.specs.Routing.{state_at, hop_by, IsChosen, IsFoundRow}

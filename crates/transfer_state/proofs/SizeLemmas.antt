@@ -11,7 +11,7 @@ use Rattle.profile.specs.Status.{Source, offer, offers, mate_offer, choice, stat
 use Rattle.profile.specs.Valid.{IsSmall}
 use Rattle.profile.specs.Whole.{size_of, member}
 use Rattle.profile.proofs.HopLemmas.{size_is}
-use Rattle.excerpts.specs.Excerpts.{ExcerptValue, source_of}
+use Rattle.excerpts.specs.Excerpt.{ExcerptValue, source_of}
 use Rattle.transfer_state.specs.Routing.{IsFoundRow}
 
 two_of : (b : Far) (class : List Offer) → length class ≤ 2 → is_some (member_at b class 1) ≡ true → length class ≡ 2

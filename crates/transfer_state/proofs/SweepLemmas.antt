@@ -10,9 +10,9 @@ use Rattle.route_choice.specs.Routes.{Offer, offered_in, offered}
 use Rattle.route_choice.specs.declared.choices.Choice.{Choice}
 use Rattle.std.specs.Prelude.{find, slice_get}
 use Rattle.std.proofs.lemmas.Option.{same_Some, slice_get_within}
-use Rattle.profile.specs.Status.{Source, row_of, rank_of, choice_by, choice, status}
+use Rattle.profile.specs.Status.{Source, source_row, source_rank, choice_by, choice, status}
 use Rattle.transfer_state.specs.Told.{far_at, KnowsBelow, TellsBelow}
-use Rattle.profile.specs.Valid.{IsValid, IsValidRow, IsSmall}
+use Rattle.profile.specs.Valid.{IsValidSource, IsValidRow, IsSmall}
 use Rattle.link_sets.proofs.ListLemmas.{find_gives}
 use Rattle.profile.proofs.UnfoldingLemmas.{row_valid, rank_is, choice_same, status_is}
 use Rattle.profile.proofs.PlacingLemmas.{row_at_place}
@@ -94,7 +94,7 @@ slice_get-set_same [] i y l = absurd (omega arith)
 slice_get-set_same (x ∷ xs) zero y l = refl
 slice_get-set_same (x ∷ xs) (suc i) y l = slice_get-set_same xs i y (omega arith)
 
-module _ (src : Source) (valid : IsValid src) where
+module _ (src : Source) (valid : IsValidSource src) where
   -- a row's choice by a table that tells the lower ranks is the definition's
   pub choice_in_place : (fars : List Far) (i : ℕ) (row : Row) → slice_get src.rows i ≡ Some row → TellsBelow src fars row.rank → choice_by src (far_at fars) row ≡ choice src row
   choice_in_place fars i row at tells =
@@ -106,10 +106,10 @@ module _ (src : Source) (valid : IsValid src) where
   status_in_place i row at = status_of_row src valid row.point row (row_at_place src valid i row at)
 
   -- before any row is looked at, what has no row is told
-  first_told : (z : ℕ) → rank_of src z < 1 → cond (eqb z src.dest) Allowed Prohibited ≡ status src z
-  first_told z low = go (row_of src z) refl
+  first_told : (z : ℕ) → source_rank src z < 1 → cond (eqb z src.dest) Allowed Prohibited ≡ status src z
+  first_told z low = go (source_row src z) refl
     where
-      go : (o : Option Row) → row_of src z ≡ o → cond (eqb z src.dest) Allowed Prohibited ≡ status src z
+      go : (o : Option Row) → source_row src z ≡ o → cond (eqb z src.dest) Allowed Prohibited ≡ status src z
       go None e = sym (status_is src valid z ∙ rw e refl)
       go (Some row) e = let ranked = (row_valid src valid z row e).1.ranked in absurd (omega (arith, low, ranked, rank_is src valid z row e))
 
@@ -140,7 +140,7 @@ pub record IsSwept (src : Source) (choices : List Choice) (fars : List Far) (n i
   pub told : TellsBelow src fars n
   pub told_here : (k : ℕ) (row : Row) → k < i → slice_get src.rows k ≡ Some row → row.rank ≡ n → far_at fars row.point ≡ status src row.point
 
-module _ (src : Source) (valid : IsValid src) where
+module _ (src : Source) (valid : IsValidSource src) where
   -- a row of this rank gets its choice, and its status is told
   pub swept_more : (choices : List Choice) (fars : List Far) (n i : ℕ) (row : Row) (c : Choice) → slice_get src.rows i ≡ Some row → row.rank ≡ n → IsSwept src choices fars n i
       → c ≡ choice_by src (far_at fars) row → IsSwept src (set choices i c) (set fars row.point c.status) n (i + 1)
@@ -217,14 +217,14 @@ module _ (src : Source) (valid : IsValid src) where
 
   -- and told
   pub told_all : (choices : List Choice) (fars : List Far) (n i : ℕ) → 1 ≤ n → IsSwept src choices fars n i → length src.rows ≤ i → TellsBelow src fars (n + 1)
-  told_all choices fars n i ranked swept all z low = go (row_of src z) refl
+  told_all choices fars n i ranked swept all z low = go (source_row src z) refl
     where
-      go : (o : Option Row) → row_of src z ≡ o → far_at fars z ≡ status src z
-      go None e = let none : rank_of src z ≡ 0 = rw e refl in swept.told z (omega (arith, none, ranked))
+      go : (o : Option Row) → source_row src z ≡ o → far_at fars z ≡ status src z
+      go None e = let none : source_rank src z ≡ 0 = rw e refl in swept.told z (omega (arith, none, ranked))
       go (Some row) e =
           let position = found_place src.rows z row e in
           let point : row.point ≡ z = (row_valid src valid z row e).0 in
-          let rank : rank_of src z ≡ row.rank = rank_is src valid z row e in
+          let rank : source_rank src z ≡ row.rank = rank_is src valid z row e in
           elim (cases_eq row.rank n) [
             | inl same ↦ subst (λ y. far_at fars y ≡ status src y) point (swept.told_here position.0 row (omega (arith, slice_get_within src.rows position.0 row position.1, all)) position.1 same)
             | inr ne ↦ swept.told z (omega (arith, low, rank, ne))

@@ -9,9 +9,9 @@ use Rattle.profile.specs.declared.tables.RowState.{RowState}
 use Rattle.profile.specs.declared.tables.Table.{Table}
 use Rattle.profile.specs.Status.{Source, mate_row, over_mate}
 use Rattle.profile.specs.Whole.{heard_from, choice_heard, state_of}
-use Rattle.transfer_state.specs.declared.certificate.Clause.{Clause}
-use Rattle.transfer_state.specs.declared.certificate.Clause.TheVariants.{Points, Route, Status, Links, Messages}
-use Rattle.transfer_state.specs.declared.certificate.Complaint.{Complaint}
+use Rattle.transfer_state.specs.declared.complaints.Clause.{Clause}
+use Rattle.transfer_state.specs.declared.complaints.Clause.TheVariants.{Points, Route, Status, Links, Messages}
+use Rattle.transfer_state.specs.declared.complaints.Complaint.{Complaint}
 
 -- what a point y hears of its vias from a table: the destination is allowed
 abbrev pub far_from : Source → Table → ℕ → ℕ → Far

@@ -9,7 +9,7 @@ use Rattle.net_items.specs.Lookups.{row_at}
 use Rattle.profile.specs.Valid.{IsSmall}
 use Rattle.profile.specs.Status.{Source, choice}
 use Rattle.profile.specs.Whole.{scratch, carrier, link_of, state_of}
-use Rattle.excerpts.specs.Excerpts.{ExcerptValue, source_of}
+use Rattle.excerpts.specs.Excerpt.{ExcerptValue, source_of}
 use Rattle.transfer_state.specs.Promises.{state_in}
 
 -- what the settled table of an excerpt, from scratch, has for a point

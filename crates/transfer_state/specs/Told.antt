@@ -4,7 +4,7 @@ use Rattle.route_choice.specs.declared.choices.Far.{Far}
 use Rattle.route_choice.specs.declared.choices.Far.TheVariants.{Prohibited}
 use Rattle.route_choice.specs.declared.choices.Choice.{Choice}
 use Rattle.net_items.specs.declared.lists.Row.{Row}
-use Rattle.profile.specs.Status.{Source, rank_of, choice, status}
+use Rattle.profile.specs.Status.{Source, source_rank, choice, status}
 
 -- the far status of a code in a table
 abbrev pub far_at : List Far → ℕ → Far
@@ -12,7 +12,7 @@ far_at fars z = slice_index_or fars z Prohibited
 
 -- a table tells the statuses of the points of rank below n
 abbrev pub TellsBelow : Source → List Far → ℕ → Type 0
-TellsBelow src fars n = (z : ℕ) → rank_of src z < n → far_at fars z ≡ status src z
+TellsBelow src fars n = (z : ℕ) → source_rank src z < n → far_at fars z ≡ status src z
 
 -- the choices of the rows, in their places
 abbrev pub AreChoices : Source → List Choice → Type 0

@@ -9,7 +9,7 @@ ghost use Rattle.profile.specs.Local.{reading as reading_of};
 ghost use Rattle.profile.specs.Status.{offers, offer};
 ghost use Rattle.profile.specs.Valid.{IsSmall};
 ghost use Rattle.profile.specs.Whole.{heard_in as heard_in_of, heard_from as heard_from_of, choice_heard as choice_heard_of};
-ghost use Rattle.excerpts.specs.Excerpts.{source_of};
+ghost use Rattle.excerpts.specs.Excerpt.{source_of};
 ghost use Rattle.transfer_state.specs.Complaints.{far_from, mate_from, HasPoints};
 
 use crate::sweep::rows_of;
@@ -32,53 +32,53 @@ fn reading(kind: MsgKind) -> Far
 }
 
 /// What a point hears from messages: prohibited where none goes to it.
-fn heard_in(messages: &Messages, y: PointCode) -> Far
-    ensures { result ≡ heard_in_of messages.now y }
+fn heard_in(messages: &Messages, point: PointCode) -> Far
+    ensures { result ≡ heard_in_of messages.now point }
 {
-    match messages.to(y) {
+    match messages.to(point) {
         Some(m) => reading(m.kind),
         None => Far::Prohibited,
     }
 }
 
-/// What `y` hears of `z` from a table: prohibited where `z` has no row.
-fn heard_from(e: &Excerpt, table: &Table, y: PointCode, z: PointCode) -> Far
+/// What a point hears of a neighbour from a table: prohibited if the neighbour has no row.
+fn heard_from(e: &Excerpt, table: &Table, point: PointCode, neighbour: PointCode) -> Far
     requires { HasPoints (source_of e.now) table.now }
-    ensures { result ≡ heard_from_of table.now y z }
+    ensures { result ≡ heard_from_of table.now point neighbour }
 {
     e.validity();
-    match position_of_row(rows_of(e), z) {
-        Ok(at) => heard_in(&table.rows.as_slice()[at].messages, y),
+    match position_of_row(rows_of(e), neighbour) {
+        Ok(at) => heard_in(&table.rows.as_slice()[at].messages, point),
         Err(_) => Far::Prohibited,
     }
 }
 
 /// What a point hears over a via: prohibited if no available set joins them, allowed of the destination.
-fn offer_heard(e: &Excerpt, table: &Table, y: PointCode, via: PointCode) -> Far
+fn offer_heard(e: &Excerpt, table: &Table, point: PointCode, via: PointCode) -> Far
     requires { HasPoints (source_of e.now) table.now }
-    ensures { result ≡ (offer (source_of e.now) (far_from (source_of e.now) table.now y) y via).far }
+    ensures { result ≡ (offer (source_of e.now) (far_from (source_of e.now) table.now point) point via).far }
 {
-    if !e.is_connected(y, via) {
+    if !e.is_connected(point, via) {
         Far::Prohibited
     } else if via == e.dest() {
         Far::Allowed
     } else {
-        heard_from(e, table, y, via)
+        heard_from(e, table, point, via)
     }
 }
 
 /// What a point hears over the vias of a class, in their places.
-fn fars_heard_in(e: &Excerpt, table: &Table, y: PointCode, vias: &[PointCode]) -> [Far; 2]
+fn fars_heard_in(e: &Excerpt, table: &Table, point: PointCode, vias: &[PointCode]) -> [Far; 2]
     requires points { HasPoints (source_of e.now) table.now }
     requires small { length vias.now ≤ 2 }
-    ensures { offered_in vias.now result ≡ map (offer (source_of e.now) (far_from (source_of e.now) table.now y) y) vias.now }
+    ensures { offered_in vias.now result ≡ map (offer (source_of e.now) (far_from (source_of e.now) table.now point) point) vias.now }
 {
     match vias {
         [] => [Far::Prohibited, Far::Prohibited],
-        [only] => [offer_heard(e, table, y, *only), Far::Prohibited],
+        [only] => [offer_heard(e, table, point, *only), Far::Prohibited],
         [first, second, ..] => [
-            offer_heard(e, table, y, *first),
-            offer_heard(e, table, y, *second),
+            offer_heard(e, table, point, *first),
+            offer_heard(e, table, point, *second),
         ],
     }
 }

@@ -17,7 +17,7 @@
 //! must-fail/.
 #![tactic(auto)]
 
-pub mod certificate;
+pub mod complaints;
 mod hearing;
 mod routes;
 pub mod routing;
@@ -25,7 +25,7 @@ mod states;
 mod sweep;
 pub mod table;
 
-pub use certificate::{Clause, Complaint, check};
+pub use complaints::{Clause, Complaint, check};
 pub use profile::tables::{LinkRef, Message, Messages, RowLinks, RowState, RowStates, Table};
 pub use routing::{Routing, RoutingSlot};
 pub use table::table_of;

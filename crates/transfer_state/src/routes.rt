@@ -7,7 +7,7 @@ ghost use Rattle.profile.specs.Status.{choice};
 ghost use Rattle.profile.specs.Traces.{hop_of};
 ghost use Rattle.profile.specs.Valid.{IsSmall};
 ghost use Rattle.profile.specs.Whole.{state_of, size_of as size_by, member as member_of};
-ghost use Rattle.excerpts.specs.Excerpts.{source_of};
+ghost use Rattle.excerpts.specs.Excerpt.{source_of};
 ghost use Rattle.transfer_state.specs.Routing.{state_at, hop_by, IsChosen, IsFoundRow};
 
 use crate::states::{links_of, member, messages_of, used_size};

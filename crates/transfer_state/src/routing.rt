@@ -4,7 +4,7 @@ ghost use Rattle.std.specs.Prelude.{◌≡◌, ◌<◌, true, false, None, Some,
 ghost use Rattle.std.specs.Option.{option_map};
 ghost use Rattle.profile.specs.Traces.{hop_of};
 ghost use Rattle.profile.specs.Whole.{scratch};
-ghost use Rattle.excerpts.specs.Excerpts.{content_of, source_of};
+ghost use Rattle.excerpts.specs.Excerpt.{content_of, source_of};
 ghost use Rattle.transfer_state.specs.Routing.{state_at};
 
 use crate::routes::{choice_at, hop_at, links_at, messages_at};
@@ -32,7 +32,7 @@ pub struct Routing {
 impl Model for Routing {
     ghost use Rattle.std.specs.Prelude.{◌≡◌};
     ghost use Rattle.std.specs.Arc.{arc_value};
-    ghost use Rattle.excerpts.specs.Excerpts.{ExcerptValue};
+    ghost use Rattle.excerpts.specs.Excerpt.{ExcerptValue};
     ghost use Rattle.transfer_state.specs.Routing.{IsChosen};
 
     ghost Value = { ExcerptValue };

@@ -4,7 +4,7 @@ ghost use Rattle.std.specs.Prelude.{◌≡◌, ◌<◌, All, IfOk, is_some, true
 ghost use Rattle.profile.specs.Local.{is_member as is_member_of, message as message_of, is_at as is_at_of};
 ghost use Rattle.profile.specs.Valid.{IsSmall, HasFewLinks, HasLinksInOrder};
 ghost use Rattle.profile.specs.Whole.{size_of as size_by, member as member_of, messages_of as messages_by, state_of as state_by};
-ghost use Rattle.excerpts.specs.Excerpts.{source_of};
+ghost use Rattle.excerpts.specs.Excerpt.{source_of};
 ghost use Rattle.transfer_state.specs.Members.{set_to};
 
 use excerpts::Excerpt;
@@ -55,12 +55,12 @@ pub(crate) fn member(choice: &Choice, position: usize) -> Option<PointCode>
 }
 
 /// The set to a member, with the links that carry its share numbers.
-fn set_over(e: &Excerpt, y: PointCode, member: Option<PointCode>) -> Option<SetLinks>
-    ensures { result ≡ set_to e.now.network.sets y member }
+fn set_over(e: &Excerpt, point: PointCode, member: Option<PointCode>) -> Option<SetLinks>
+    ensures { result ≡ set_to e.now.network.sets point member }
 {
     e.validity();
     let z = member?;
-    let set = e.set_between(y, z)?;
+    let set = e.set_between(point, z)?;
     Some(SetLinks {
         id: set.id,
         carried: Carried::of(set),
@@ -83,27 +83,27 @@ pub(crate) fn links_of(e: &Excerpt, row: &Row, choice: &Choice, size: u8) -> Row
     RowLinks::new(size, used, [first_set, second_set])
 }
 
-fn is_at(member: Option<PointCode>, z: PointCode) -> bool
-    ensures { result ≡ is_at_of z member }
+fn is_at(member: Option<PointCode>, neighbour: PointCode) -> bool
+    ensures { result ≡ is_at_of neighbour member }
 {
     match member {
-        Some(v) => v == z,
+        Some(v) => v == neighbour,
         None => false,
     }
 }
 
-fn is_member(z: PointCode, choice: &Choice) -> bool
-    ensures { result ≡ is_member_of z choice.now }
+fn is_member(neighbour: PointCode, choice: &Choice) -> bool
+    ensures { result ≡ is_member_of neighbour choice.now }
 {
-    is_at(choice.members[0], z) || is_at(choice.members[1], z)
+    is_at(choice.members[0], neighbour) || is_at(choice.members[1], neighbour)
 }
 
 /// The message in force from a point with this choice to a point: prohibited if that point is used, and else the
 /// status (Q.704 clauses 13.2 to 13.4).
-pub(crate) fn message(choice: &Choice, z: PointCode) -> MsgKind
-    ensures { result ≡ message_of choice.now z }
+pub(crate) fn message(choice: &Choice, neighbour: PointCode) -> MsgKind
+    ensures { result ≡ message_of choice.now neighbour }
 {
-    if is_member(z, choice) {
+    if is_member(neighbour, choice) {
         return MsgKind::Tfp;
     }
     match choice.status {

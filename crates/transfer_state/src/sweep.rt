@@ -5,7 +5,7 @@ ghost use Rattle.net_items.specs.declared.lists.Row.{Row};
 ghost use Rattle.route_choice.specs.Routes.{offered, offered_in, mate_of_pair};
 ghost use Rattle.profile.specs.Status.{offers, offer, choice_by, mate_offer as mate_offer_by};
 ghost use Rattle.profile.specs.Valid.{IsSmall};
-ghost use Rattle.excerpts.specs.Excerpts.{source_of};
+ghost use Rattle.excerpts.specs.Excerpt.{source_of};
 ghost use Rattle.transfer_state.specs.Told.{far_at, AreChoices, KnowsBelow, TellsBelow};
 
 use excerpts::Excerpt;

@@ -2,7 +2,7 @@
 
 ghost use Rattle.std.specs.Prelude.{◌≡◌, IfOk};
 ghost use Rattle.profile.specs.Whole.{scratch, IsSettledTable};
-ghost use Rattle.excerpts.specs.Excerpts.{source_of};
+ghost use Rattle.excerpts.specs.Excerpt.{source_of};
 ghost use Rattle.transfer_state.specs.Promises.{TellsWalks, KeepsMatesApart};
 ghost use Rattle.transfer_state.specs.Routing.{IsChosen};
 

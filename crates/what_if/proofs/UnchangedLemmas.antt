@@ -12,7 +12,7 @@ use Rattle.route_choice.specs.declared.choices.Far.{Far}
 use Rattle.route_choice.specs.declared.choices.Far.TheVariants.{Allowed, Restricted, Prohibited}
 use Rattle.profile.specs.declared.tables.RowState.{RowState}
 use Rattle.profile.specs.declared.tables.Table.{Table}
-use Rattle.excerpts.specs.Excerpts.{ExcerptValue, IsRight, content_in, content_of, content_at, excerpt_in, excerpt_at}
+use Rattle.excerpts.specs.Excerpt.{ExcerptValue, IsRight, content_in, content_of, content_at, excerpt_in, excerpt_at}
 use Rattle.excerpts.proofs.ExcerptLemmas.{extract_right, table_equal}
 use Rattle.what_if.specs.declared.changes.Change.{Change}
 use Rattle.what_if.specs.Reports.{both, points, status_of, is_same, change_between, changes_between}

@@ -16,7 +16,7 @@ use Rattle.route_choice.specs.declared.choices.Far.{Far}
 use Rattle.route_choice.specs.declared.choices.Far.TheVariants.{Prohibited}
 use Rattle.route_choice.specs.Routes.{same_far}
 use Rattle.profile.specs.Status.{choice}
-use Rattle.excerpts.specs.Excerpts.{ExcerptValue, excerpt_at, source_of}
+use Rattle.excerpts.specs.Excerpt.{ExcerptValue, excerpt_at, source_of}
 use Rattle.what_if.specs.declared.changes.Change.{Change}
 use Rattle.what_if.specs.declared.reports.Refused.{Refused}
 use Rattle.what_if.specs.declared.reports.Report.{Report}
@@ -83,11 +83,11 @@ abbrev pub is_inhibit : Event → Bool
 is_inhibit (on.Link id slc change) = inhibits change
 is_inhibit event = false
 
--- the network after the events, one after the other from this place; or the first that is refused, with its place
-abbrev pub after : ℕ → Network → List Event → Result Network Refused
-after place net [] = Ok net
-after place net (event ∷ events) =
-    option_map_or (λ refusal. Err (record { place = place; refusal = refusal })) (refusal_of net event) (after (place + 1) (changed net event) events)
+-- the network after the events, one after the other from this place on (`apply_all`); the first that is refused, with its place
+abbrev pub apply_from : ℕ → Network → List Event → Result Network Refused
+apply_from place net [] = Ok net
+apply_from place net (event ∷ events) =
+    option_map_or (λ refusal. Err (record { place = place; refusal = refusal })) (refusal_of net event) (apply_from (place + 1) (changed net event) events)
 
 -- what changes from a network to another; denied where an event inhibits a link and something is lost
 abbrev pub report_between : Network → Network → List Event → Report
@@ -100,7 +100,7 @@ report_after old events (Err refused) = Err refused
 
 -- what is reported of the events, made one after the other on the network
 abbrev pub report_of : Network → List Event → Result Report Refused
-report_of net events = report_after net events (after 1 net events)
+report_of net events = report_after net events (apply_from 1 net events)
 
 -- the answer: the report or the refusal; out of memory may be told in the place of either
 abbrev pub IsReported : Network → List Event → Result Report Refused → Type 0

@@ -2,7 +2,7 @@
 
 ghost use Rattle.std.specs.Prelude.{◌≡◌, ◌++◌, [], true, IfOk, OnOk, map};
 ghost use Rattle.std.specs.Option.{option_copied};
-ghost use Rattle.excerpts.specs.Excerpts.{excerpt_at};
+ghost use Rattle.excerpts.specs.Excerpt.{excerpt_at};
 ghost use Rattle.what_if.specs.Reports.{changes as the_changes, change_between, changes_between, status_of as the_status};
 
 use crate::changes::{Change, is_same};

@@ -2,7 +2,7 @@
 
 ghost use Rattle.std.specs.Prelude.{◌≡◌, IfOk};
 ghost use Rattle.std.specs.List.{list_any};
-ghost use Rattle.what_if.specs.Reports.{after as the_network_after, inhibits as is_inhibition, is_inhibit as inhibited_by, report_between, report_of, IsReported};
+ghost use Rattle.what_if.specs.Reports.{apply_from, inhibits as is_inhibition, is_inhibit as inhibited_by, report_between, report_of, IsReported};
 
 use crate::changes::{Changes, any_loss};
 use crate::comparing::changes_of;
@@ -63,7 +63,7 @@ fn after_events(
     mut net: Net,
     events: &[Event],
 ) -> Result<Result<Net, Refused>, AllocError>
-    ensures { IfOk result (λ r. r ≡ the_network_after 1 net events.now) }
+    ensures { IfOk result (λ r. r ≡ apply_from 1 net events.now) }
 {
     let mut place = 0;
     for event in events {

@@ -1,6 +1,6 @@
 -- A piece of work: the table of one destination of a numbered network, from what that table reads (own).
 use Rattle.std.specs.Prelude.{◌≡◌, ℕ, Option, Some, None, Result, Err, MatchResult}
-use Rattle.excerpts.specs.Excerpts.{ExcerptValue}
+use Rattle.excerpts.specs.Excerpt.{ExcerptValue}
 use Rattle.excerpts.specs.declared.faults.ExcerptFault.{ExcerptFault}
 use Rattle.excerpts.specs.declared.faults.ExcerptFault.TheVariants.{NoPlan, OutOfMemory}
 

@@ -1,7 +1,7 @@
 //! Jobs.
 
 ghost use Rattle.std.specs.Prelude.{◌≡◌, IfOk};
-ghost use Rattle.excerpts.specs.Excerpts.{excerpt_at};
+ghost use Rattle.excerpts.specs.Excerpt.{excerpt_at};
 ghost use Rattle.work_units.specs.Work.{IsJob};
 
 use excerpts::{Excerpt, ExcerptFault, Frozen};
@@ -54,10 +54,8 @@ impl Job {
     pub fn of(version: u64, net: &Frozen, dest: PointCode) -> Result<Job, ExcerptFault>
         ensures { IsJob version (excerpt_at net.now dest) result }
     {
-        match Excerpt::of(net, dest) {
-            Ok(excerpt) => Ok(Job { version, excerpt }),
-            Err(fault) => Err(fault),
-        }
+        let excerpt = Excerpt::of(net, dest)?;
+        Ok(Job { version, excerpt })
     }
 
     /// A job for an excerpt.

@@ -6,7 +6,7 @@ ghost use Rattle.net_data.specs.Edits.{refusal_of as the_refusal};
 use crate::events::{Event, Refusal};
 use crate::nets::Net;
 use link_state::LinkChange;
-use net_items::lookups::{find_set_between, is_point, is_stp, mate_of};
+use net_items::lookups::{is_point, is_stp, mate_of, set_between};
 use net_items::{Kind, Plan, Slcs};
 use net_sets::set_questions::{
     are_good_links, find_set, is_any_end, is_set, set_has_last_link, set_has_link,
@@ -97,7 +97,7 @@ impl Net {
             return Some(Refusal::SetThere);
         }
         if self.sets.is_adjacent(a, b) {
-            if let Some(set) = find_set_between(self.sets.as_slice(), a, b) {
+            if let Some(set) = set_between(self.sets.as_slice(), a, b) {
                 return Some(Refusal::Joined(set.id));
             }
         }

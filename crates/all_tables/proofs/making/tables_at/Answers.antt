@@ -2,7 +2,7 @@ use Rattle.std.proofs.Common.{◌≡◌, ap, ◌∙◌}
 use Rattle.std.specs.Prelude.{IfOk}
 use Rattle.rayon.proofs.ListFacts.{IfOk-then}
 use Rattle.rayon.proofs.ToStd.{slice-AllZip}
-use Rattle.excerpts.specs.Excerpts.{table_at}
+use Rattle.excerpts.specs.Excerpt.{table_at}
 use Rattle.all_tables.proofs.CheckingLemmas.{collected, each_is}
 use Rattle.all_tables.proofs.making.tables_at.Goals as goal
 

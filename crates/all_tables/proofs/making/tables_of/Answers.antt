@@ -1,7 +1,7 @@
 use Rattle.std.proofs.Common.{map, ap, sym, ◌∙◌, subst}
 use Rattle.std.specs.Prelude.{All}
 use Rattle.rayon.proofs.ListFacts.{IfOk-then}
-use Rattle.excerpts.specs.Excerpts.{table_at}
+use Rattle.excerpts.specs.Excerpt.{table_at}
 use Rattle.all_tables.specs.Tables.{those_there, IsSettledIn}
 use Rattle.all_tables.proofs.MakingLemmas.{all_there, all_settled}
 use Rattle.all_tables.proofs.making.tables_of.Goals as goal

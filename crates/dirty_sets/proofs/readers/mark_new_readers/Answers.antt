@@ -2,7 +2,7 @@ use Rattle.std.proofs.Common.{ap, ◌∙◌, ◌&&◌, ◌||◌, eqb}
 use Rattle.std.specs.List.{list_any}
 use Rattle.std.proofs.lemmas.List.{take_all}
 use Rattle.net_items.specs.declared.items.Plan.{Plan}
-use Rattle.excerpts.specs.Excerpts.{is_read_by}
+use Rattle.excerpts.specs.Excerpt.{is_read_by}
 use Rattle.dirty_sets.specs.declared.readers.Reader.{Reader}
 use Rattle.dirty_sets.specs.Bits.{is_marked}
 use Rattle.dirty_sets.specs.Index.{would_read}

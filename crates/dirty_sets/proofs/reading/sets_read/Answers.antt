@@ -1,5 +1,5 @@
 use Rattle.std.proofs.Common.{ap, sym, ◌∙◌, eqb, cond}
-use Rattle.excerpts.specs.Excerpts.{is_read_by}
+use Rattle.excerpts.specs.Excerpt.{is_read_by}
 use Rattle.dirty_sets.specs.Bits.{is_marked}
 use Rattle.dirty_sets.proofs.ReaderLemmas.{one_more_set}
 use Rattle.dirty_sets.proofs.reading.sets_read.Goals as goal

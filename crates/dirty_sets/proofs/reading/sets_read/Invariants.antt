@@ -1,7 +1,7 @@
 use Rattle.std.proofs.Common.{◌≡◌, ℕ, false, take}
 use Rattle.std.specs.Option.{option_map_or}
 use Rattle.net_items.specs.Lookups.{set_at}
-use Rattle.excerpts.specs.Excerpts.{is_read_by}
+use Rattle.excerpts.specs.Excerpt.{is_read_by}
 use Rattle.dirty_sets.specs.Bits.{is_marked}
 use Rattle.dirty_sets.proofs.reading.sets_read.Given as goal
 

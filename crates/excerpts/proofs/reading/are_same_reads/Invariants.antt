@@ -1,6 +1,6 @@
 use Rattle.std.proofs.Common.{◌≡◌, length}
 use Rattle.std.specs.Prelude.{filter}
-use Rattle.excerpts.specs.Excerpts.{is_read_by}
+use Rattle.excerpts.specs.Excerpt.{is_read_by}
 use Rattle.excerpts.proofs.reading.are_same_reads.Given as goal
 
 -- what is left of both is the same exactly if both are

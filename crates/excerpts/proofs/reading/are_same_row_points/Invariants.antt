@@ -1,5 +1,5 @@
 use Rattle.std.proofs.Common.{◌≡◌, map, length}
-use Rattle.excerpts.specs.Excerpts.{row_point}
+use Rattle.excerpts.specs.Excerpt.{row_point}
 use Rattle.excerpts.proofs.reading.are_same_row_points.Given as goal
 
 abbrev pub invariant-loop-row : goal.invariant-loop-row

@@ -1,6 +1,6 @@
 use Rattle.std.proofs.Common.{◌≡◌, ◌≤◌, length}
 use Rattle.std.specs.Prelude.{filter}
-use Rattle.excerpts.specs.Excerpts.{is_read_by}
+use Rattle.excerpts.specs.Excerpt.{is_read_by}
 use Rattle.excerpts.proofs.reading.next_read.Given as goal
 
 -- no set before the rest is read

@@ -17,12 +17,12 @@ loop-i-preserved c =
           elim (cases_eq k c.loop-i.i) [
             | inl e ↦
                 let same : c.index-sets-i.result ≡ set = same_Some c.index-sets-i.result set (sym at ∙ ap (slice_get c.args.sets.now) (sym e) ∙ there) in
-                c.earlier-least.ensures.here w (subst (λ (s : LinkSet). joins c.args.y w s ≡ true) (sym same) j) late joined
+                c.earlier-least.ensures.here w (subst (λ (s : LinkSet). joins c.args.point w s ≡ true) (sym same) j) late joined
             | inr ne ↦ c.earlier-least.ensures.kept w (c.loop-i.invariant.before k w set (omega arith) there j late joined)
           ];
     }
 
 pub returns-clause-value : goal.returns-clause-value
 returns-clause-value c =
-    next_is c.args.sets.now c.args.y c.args.from c.loop-i.least c.loop-i.invariant.near
+    next_is c.args.sets.now c.args.point c.args.from c.loop-i.least c.loop-i.invariant.near
     (λ k w set there j late joined. c.loop-i.invariant.before k w set (omega (arith, slice_get_within c.args.sets.now k set there, c.loop-i-test.false)) there j late joined)

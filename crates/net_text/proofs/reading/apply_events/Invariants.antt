@@ -1,6 +1,6 @@
 use Rattle.std.proofs.Common.{◌≡◌}
 use Rattle.std.specs.Vec.Iter.{into_iter_items}
-use Rattle.net_text.specs.Reading.{apply_all}
+use Rattle.net_data.specs.Edits.{apply_all}
 use Rattle.net_text.proofs.reading.apply_events.Given as goal
 
 -- what is left to apply gives what all gives

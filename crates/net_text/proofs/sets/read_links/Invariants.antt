@@ -7,4 +7,4 @@ use Rattle.net_text.proofs.sets.read_links.Given as goal
 
 -- what was read and what is left to read give what all gives
 abbrev pub invariant-loop-word : goal.invariant-loop-word
-invariant-loop-word l = onto l.links.items (all_of (marked_of l.one) (nows (drop l.word-index l.words))) ≡ all_of (marked_of l.one) (nows l.words)
+invariant-loop-word l = onto l.links.items (all_of (marked_of l.format) (nows (drop l.word-index l.words))) ≡ all_of (marked_of l.format) (nows l.words)

@@ -1,6 +1,6 @@
 use Rattle.std.proofs.Common.{subst, sym, suc, arith}
 use Rattle.profile.specs.Whole.{IsSettledTable}
-use Rattle.profile.specs.Status.{rank_of}
+use Rattle.profile.specs.Status.{source_rank}
 use Rattle.profile.proofs.UnfoldingLemmas.{status_is, status_alone}
 use Rattle.profile.proofs.WalkLemmas.{reached_walk, walk_reached}
 use Rattle.profile.proofs.SettledLemmas.{mates_apart_by}
@@ -14,7 +14,7 @@ pub returns-clause-statuses : goal.returns-clause-statuses
 returns-clause-statuses c src valid y = status_is src valid y
 
 pub returns-clause-alone : goal.returns-clause-alone
-returns-clause-alone c src valid far obeys y = status_alone src valid far (suc (rank_of src y)) (λ z low. obeys z) y (omega arith)
+returns-clause-alone c src valid far obeys y = status_alone src valid far (suc (source_rank src y)) (λ z low. obeys z) y (omega arith)
 
 pub returns-clause-walks : goal.returns-clause-walks
 returns-clause-walks c src valid y = (reached_walk src valid y, walk_reached src valid y)

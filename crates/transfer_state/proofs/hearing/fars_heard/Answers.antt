@@ -1,6 +1,6 @@
 use Rattle.std.proofs.Common.{◌∙◌, ap, arith, map, length-set, length, List, ℕ, ◌≡◌, []}
 use Rattle.profile.specs.Status.{offer}
-use Rattle.excerpts.specs.Excerpts.{source_of}
+use Rattle.excerpts.specs.Excerpt.{source_of}
 use Rattle.transfer_state.specs.Complaints.{far_from}
 use Rattle.transfer_state.proofs.SweepLemmas.{offered_at_more, offered_from_each}
 use Rattle.transfer_state.proofs.hearing.fars_heard.Goals as goal

@@ -7,7 +7,7 @@ use Rattle.net_items.specs.Keyed.{IsFoundAt}
 use Rattle.net_items.specs.Lookups.{row_at}
 use Rattle.route_choice.specs.declared.choices.Choice.{Choice}
 use Rattle.profile.specs.Status.{choice}
-use Rattle.excerpts.specs.Excerpts.{source_of}
+use Rattle.excerpts.specs.Excerpt.{source_of}
 use Rattle.transfer_state.proofs.MatchLemmas.{element_read}
 use Rattle.transfer_state.proofs.RouteLemmas.{found_row}
 use Rattle.transfer_state.proofs.routes.found.Goals as goal

@@ -7,9 +7,9 @@ use Rattle.transfer_state.proofs.TableLemmas.{filter_past, messages_from}
 use Rattle.profile.proofs.ReceiverLemmas.{messages_never}
 use Rattle.std.proofs.lemmas.Iterator.Consumers.{YieldsList-from_first, YieldsList-end}
 use Rattle.link_sets.specs.Neighbours.{neighbours}
-use Rattle.excerpts.specs.Around.{left_of}
+use Rattle.excerpts.specs.Around.{neighbours_left}
 use Rattle.profile.specs.Status.{Source}
-use Rattle.excerpts.specs.Excerpts.{source_of}
+use Rattle.excerpts.specs.Excerpt.{source_of}
 use Rattle.transfer_state.proofs.states.messages_of.Goals as goal
 use Rattle.transfer_state.proofs.states.messages_of.Goals.{then-is_stp+in-None, else-is_stp}
 
@@ -22,10 +22,10 @@ pub returns : goal.returns
 returns c = elim c.if-is_stp.branch [
   | then-is_stp+in-None w ↦
       let src : Source = source_of c.args.e.now in
-      let around : left_of w.into_iter-z-iterator.result ≡ neighbours src.sets c.args.row.now.point
-      = ap left_of w.into_iter-z-iterator.ensures.into_iter_gives ∙ w.neighbours-z-items.ensures in
+      let around : neighbours_left w.into_iter-z-iterator.result ≡ neighbours src.sets c.args.row.now.point
+      = ap neighbours_left w.into_iter-z-iterator.ensures.into_iter_gives ∙ w.neighbours-z-items.ensures in
       let all : map (λ x. x) w.loop-z.yielded ≡ neighbours src.sets c.args.row.now.point
-      = (YieldsList-end (YieldsList-from_first (λ x. x) left_of (neighbours src.sets c.args.row.now.point) around) w.loop-z.yielded _ w.loop-z.yielded_by w.next.result w.next.new.self w.in-None.is w.next.ensures.steps).0 in
+      = (YieldsList-end (YieldsList-from_first (λ x. x) neighbours_left (neighbours src.sets c.args.row.now.point) around) w.loop-z.yielded _ w.loop-z.yielded_by w.next.result w.next.new.self w.in-None.is w.next.ensures.steps).0 in
       c.from_vec.ensures ∙ ap (λ (v : Vec Message Global). v.items) w.list-is ∙ w.loop-z.invariant
       ∙ ap (λ (zs : List ℕ). map (λ z. record { kind = message c.args.choice.now z; to = z }) (filter (λ z. not (eqb z src.dest)) zs)) (sym (map-id w.loop-z.yielded) ∙ all)
       ∙ messages_from src c.args.row.now c.args.choice.now (sym c.is_stp.ensures ∙ w.if-is_stp.true)

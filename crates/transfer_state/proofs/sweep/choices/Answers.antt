@@ -1,4 +1,4 @@
-use Rattle.excerpts.specs.Excerpts.{source_of}
+use Rattle.excerpts.specs.Excerpt.{source_of}
 use Rattle.profile.proofs.UnfoldingLemmas.{row_valid}
 use Rattle.profile.proofs.PlacingLemmas.{row_at_place}
 use Rattle.transfer_state.proofs.SweepLemmas.{first_swept}

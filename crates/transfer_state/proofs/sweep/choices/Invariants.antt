@@ -1,5 +1,5 @@
 use Rattle.std.proofs.Common.{◌≡◌, ◌≤◌, length}
-use Rattle.excerpts.specs.Excerpts.{source_of}
+use Rattle.excerpts.specs.Excerpt.{source_of}
 use Rattle.transfer_state.specs.Told.{KnowsBelow, TellsBelow}
 use Rattle.transfer_state.proofs.sweep.choices.Given as goal
 

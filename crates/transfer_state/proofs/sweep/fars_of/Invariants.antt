@@ -1,7 +1,7 @@
 use Rattle.std.proofs.Common.{◌≡◌, ◌<◌, ℕ, get_or, map, [], length}
 use Rattle.route_choice.specs.Routes.{offered_in}
 use Rattle.profile.specs.Status.{offer}
-use Rattle.excerpts.specs.Excerpts.{source_of}
+use Rattle.excerpts.specs.Excerpt.{source_of}
 use Rattle.transfer_state.specs.Told.{far_at}
 use Rattle.transfer_state.proofs.sweep.fars_of.Given as goal
 

@@ -1,5 +1,5 @@
 use Rattle.std.proofs.Common.{sym}
-use Rattle.excerpts.specs.Excerpts.{source_of}
+use Rattle.excerpts.specs.Excerpt.{source_of}
 use Rattle.transfer_state.proofs.SweepLemmas.{found_small, rows_small}
 use Rattle.transfer_state.proofs.sweep.mate_offer.Goals as goal
 

@@ -4,7 +4,7 @@ use Rattle.std.proofs.lemmas.Option.{slice_get_read}
 use Rattle.net_items.specs.declared.lists.Row.{Row}
 use Rattle.route_choice.specs.declared.choices.Far.{Far}
 use Rattle.route_choice.specs.declared.choices.Choice.{Choice}
-use Rattle.excerpts.specs.Excerpts.{source_of}
+use Rattle.excerpts.specs.Excerpt.{source_of}
 use Rattle.transfer_state.proofs.SweepLemmas.{IsSwept, swept_more, swept_past, swept_all, told_all, nothing_swept}
 use Rattle.transfer_state.proofs.sweep.sweep_rank.Goals as goal
 use Rattle.transfer_state.proofs.sweep.sweep_rank.Goals.{then-from-rank, else-from-rank}

@@ -1,4 +1,4 @@
-use Rattle.excerpts.specs.Excerpts.{source_of}
+use Rattle.excerpts.specs.Excerpt.{source_of}
 use Rattle.transfer_state.proofs.SweepLemmas.{IsSwept}
 use Rattle.transfer_state.proofs.sweep.sweep_rank.Given as goal
 

@@ -6,7 +6,7 @@ use Rattle.net_items.specs.declared.lists.Row.{Row}
 use Rattle.route_choice.specs.declared.choices.Choice.{Choice}
 use Rattle.profile.specs.declared.tables.RowState.{RowState}
 use Rattle.profile.specs.Status.{Source, choice}
-use Rattle.excerpts.specs.Excerpts.{source_of}
+use Rattle.excerpts.specs.Excerpt.{source_of}
 use Rattle.profile.specs.Whole.{state_of, scratch}
 use Rattle.transfer_state.proofs.TableLemmas.{made_more, made_all, state_made}
 use Rattle.transfer_state.proofs.MatchLemmas.{element_read, map_at}

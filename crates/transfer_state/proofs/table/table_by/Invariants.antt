@@ -1,6 +1,6 @@
 use Rattle.std.proofs.Common.{◌≡◌, ◌++◌, map, drop}
 use Rattle.profile.specs.Status.{choice}
-use Rattle.excerpts.specs.Excerpts.{source_of}
+use Rattle.excerpts.specs.Excerpt.{source_of}
 use Rattle.profile.specs.Whole.{state_of}
 use Rattle.transfer_state.proofs.table.table_by.Given as goal
 

@@ -3,7 +3,7 @@ use Rattle.profile.specs.Status.{Source}
 use Rattle.profile.specs.Whole.{IsSettledTable}
 use Rattle.profile.specs.declared.tables.Table.{Table}
 use Rattle.profile.proofs.CertificateLemmas.{scratch_table}
-use Rattle.excerpts.specs.Excerpts.{source_of}
+use Rattle.excerpts.specs.Excerpt.{source_of}
 use Rattle.transfer_state.specs.Promises.{TellsWalks, KeepsMatesApart}
 use Rattle.transfer_state.proofs.PromiseLemmas.{tells_walks, keeps_apart}
 use Rattle.transfer_state.proofs.RouteLemmas.{chosen}

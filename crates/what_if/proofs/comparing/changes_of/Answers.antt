@@ -1,6 +1,6 @@
 use Rattle.std.proofs.Common.{◌≡◌, ◌+◌, ◌++◌, List, ℕ, ap, ◌∙◌, drop, arith}
 use Rattle.std.specs.List.{flat_map}
-use Rattle.excerpts.specs.Excerpts.{excerpt_at}
+use Rattle.excerpts.specs.Excerpt.{excerpt_at}
 use Rattle.what_if.specs.declared.changes.Change.{Change}
 use Rattle.what_if.specs.Reports.{both, dests, changes_between}
 use Rattle.what_if.proofs.GatheringLemmas.{each_more, each_all, both_are}

@@ -1,6 +1,6 @@
 use Rattle.std.proofs.Common.{◌≡◌, ◌++◌, drop}
 use Rattle.std.specs.List.{flat_map}
-use Rattle.excerpts.specs.Excerpts.{excerpt_at}
+use Rattle.excerpts.specs.Excerpt.{excerpt_at}
 use Rattle.what_if.specs.Reports.{changes, changes_between}
 use Rattle.what_if.proofs.comparing.changes_of.Given as goal
 

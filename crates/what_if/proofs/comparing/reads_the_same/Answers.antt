@@ -1,7 +1,7 @@
 use Rattle.std.proofs.Common.{◌≡◌, Some, sym, ap, subst, ◌∙◌}
 use Rattle.net_data.specs.Valid.{IsValid as IsValidNet}
 use Rattle.net_data.specs.Network.{Network}
-use Rattle.excerpts.specs.Excerpts.{ExcerptValue, content_of, content_at, excerpt_at}
+use Rattle.excerpts.specs.Excerpt.{ExcerptValue, content_of, content_at, excerpt_at}
 use Rattle.what_if.specs.Reports.{changes_between}
 use Rattle.what_if.proofs.UnchangedLemmas.{unchanged_at}
 use Rattle.what_if.proofs.comparing.reads_the_same.Goals as goal

@@ -2,7 +2,7 @@ use Rattle.std.proofs.Common.{◌≡◌, ℕ, ◌+◌, ◌<◌, ◌≤◌, ◌^�
 use Rattle.std.proofs.Math.ListN.{length-set}
 use Rattle.net_data.specs.declared.events.Event.{Event}
 use Rattle.net_data.specs.Edits.{refusal_of}
-use Rattle.dirty_sets.specs.Touched.{marked_of}
+use Rattle.dirty_sets.specs.Touched.{marks_of}
 use Rattle.desk_core.specs.declared.replies.Last.{Last}
 use Rattle.desk_core.specs.Desk.{DeskValue, accepted, net_now}
 use Rattle.desk_core.specs.Steps.{with_post}
@@ -13,8 +13,8 @@ pub invariant_of-self : goal.invariant_of-self
 invariant_of-self c =
     let i = c.self.invariant.inside in
     record {
-      inside = rw c.in_err-copy.ensures.kept (inside_alike _ _ c.self.inside.latest (marked_of c.follow_with_copy.new.touched) c.self.inside.target refl c.follow_with_copy.ensures.items i.collectors
-          (inside_same _ c.self.inside.latest (marked_of c.self.inside.touched) c.self.inside.target i (marked_of c.follow_with_copy.new.touched) c.in_err-copy.ensures.same));
+      inside = rw c.in_err-copy.ensures.kept (inside_alike _ _ c.self.inside.latest (marks_of c.follow_with_copy.new.touched) c.self.inside.target refl c.follow_with_copy.ensures.items i.collectors
+          (inside_same _ c.self.inside.latest (marks_of c.self.inside.touched) c.self.inside.target i (marks_of c.follow_with_copy.new.touched) c.in_err-copy.ensures.same));
       room = c.follow_with_copy.ensures.room_kept;
     }
 
@@ -26,9 +26,9 @@ invariant_of-self-2 c =
     let edit : refusal_of c.self.inside.latest c.args.event ≡ None = ap (λ n. refusal_of n c.args.event) i.is_now ∙ ap (λ (s : DeskValue). refusal_of (net_now s) c.args.event) c.self.view_is ∙ c.requires.edit in
     let counted = subst (λ (s : DeskValue). accepted s + 1 < 2 ^ 64) (sym c.self.view_is) c.requires.counted in
     record {
-      inside = inside_alike (with_post _ c.args.collector c.args.seq c.args.event) _ c.follow_with_copy.new.latest (marked_of c.follow_with_copy.new.touched) c.self.inside.target refl pushed
+      inside = inside_alike (with_post _ c.args.collector c.args.seq c.args.event) _ c.follow_with_copy.new.latest (marks_of c.follow_with_copy.new.touched) c.self.inside.target refl pushed
           (ap (length {A = Last}) c.note_last.ensures ∙ length-set c.self.inside.lasts.items _ _ ∙ i.collectors)
-          (inside_post _ c.self.inside.latest (marked_of c.self.inside.touched) c.self.inside.target i c.args.collector c.args.seq c.args.event (marked_of c.follow_with_copy.new.touched) c.follow_with_copy.new.latest
+          (inside_post _ c.self.inside.latest (marks_of c.self.inside.touched) c.self.inside.target i c.args.collector c.args.seq c.args.event (marks_of c.follow_with_copy.new.touched) c.follow_with_copy.new.latest
           c.validity.ensures edit few counted c.in_ok-copy.ensures.latest c.in_ok-copy.ensures.noted);
       room = omega (arith, c.push_reserved.ensures.len, c.push_reserved.ensures.capacity, c.follow_with_copy.ensures.room_kept, c.saturating_sub-self-inside.ensures);
     }

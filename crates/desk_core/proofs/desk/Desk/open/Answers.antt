@@ -1,7 +1,7 @@
 use Rattle.std.proofs.Common.{◌≡◌, ℕ, Option, None, Some, Ok, false, eqb, List, length, map, ap, sym, ◌∙◌, subst, refl}
 use Rattle.std.specs.Arc.{arc_value}
 use Rattle.std.specs.Option.{option_map}
-use Rattle.dirty_sets.specs.Touched.{marked_of}
+use Rattle.dirty_sets.specs.Touched.{marks_of}
 use Rattle.dirty_sets.specs.Waiting.{Task, all_waiting, waiting}
 use Rattle.desk_core.specs.declared.replies.Opened.{Opened}
 use Rattle.desk_core.specs.Desk.{DeskValue, OpenTarget, accepted, to_settle}
@@ -22,8 +22,8 @@ returns-in-Ok c =
     } in
     let none : c.self.inside.target ≡ None = is_none c.self.inside.target (sym c.is_some.ensures ∙ c.if-is_some.false) in
     let nothing : s.target ≡ None = ap (option_map (λ (t : TargetValue). record { number = t.number; tasks = t.tasks })) none in
-    let inside : IsInside s c.self.inside.latest (marked_of c.self.inside.touched) None = subst (λ o. IsInside s c.self.inside.latest (marked_of c.self.inside.touched) o) none c.self.invariant.inside in
-    let settle = to_settle_is s c.self.inside.latest (marked_of c.self.inside.touched) inside c.validity.ensures in
+    let inside : IsInside s c.self.inside.latest (marks_of c.self.inside.touched) None = subst (λ o. IsInside s c.self.inside.latest (marks_of c.self.inside.touched) o) none c.self.invariant.inside in
+    let settle = to_settle_is s c.self.inside.latest (marks_of c.self.inside.touched) inside c.validity.ensures in
     let some : eqb (length s.pending) 0 ≡ false = ap (λ n. eqb n 0) (sym c.self.inside.pending.ok.0) ∙ sym c.is_empty.ensures ∙ c.if-is_empty.false in
     let number : c.accepted-number.result ≡ accepted s = c.accepted-number.ensures ∙ ap accepted (sym c.self.view_is) in
     let tasks : c.in-Ok.target.tasks ≡ all_waiting (to_settle s) = ap (λ (t : TargetValue). t.tasks) c.in-Ok.ensures ∙ ap all_waiting settle in

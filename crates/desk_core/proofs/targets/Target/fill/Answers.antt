@@ -1,6 +1,6 @@
 use Rattle.std.proofs.Common.{◌≡◌, ap, sym, ◌∙◌, subst, Some, List}
 use Rattle.net_items.specs.Keyed.{IsFoundAt, IsGapAt}
-use Rattle.excerpts.specs.Excerpts.{content_at, content_of}
+use Rattle.excerpts.specs.Excerpt.{content_at, content_of}
 use Rattle.transfer_state.specs.Routing.{RoutingSlotValue}
 use Rattle.desk_core.specs.Targets.{TargetValue}
 use Rattle.desk_core.proofs.TargetLemmas.{slots_rise, found_content, nowhere_content, filled-done}

@@ -1,5 +1,5 @@
 use Rattle.std.proofs.Common.{◌≡◌, ap, sym, ◌∙◌, subst, Some, Err}
-use Rattle.excerpts.specs.Excerpts.{excerpt_at}
+use Rattle.excerpts.specs.Excerpt.{excerpt_at}
 use Rattle.excerpts.specs.declared.faults.ExcerptFault.{ExcerptFault}
 use Rattle.work_units.specs.Work.{IsJob}
 use Rattle.desk_core.proofs.TargetLemmas.{filled-taken, first_planned, planned_job}

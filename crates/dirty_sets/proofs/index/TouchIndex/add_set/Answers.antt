@@ -8,7 +8,7 @@ use Rattle.net_items.specs.Keyed.{IsRising}
 use Rattle.net_data.specs.declared.events.Event.TheVariants as on
 use Rattle.net_data.specs.Edits.{changed}
 use Rattle.dirty_sets.specs.declared.readers.Reader.{Reader}
-use Rattle.dirty_sets.specs.Touch.{IsIndex}
+use Rattle.dirty_sets.specs.Touch.{IsTouchIndex}
 use Rattle.dirty_sets.specs.Index.{TouchIndexValue, IsWithId, bare_set, reads_of, would_read}
 use Rattle.dirty_sets.proofs.ReaderLemmas.{rising_keys, with_id-planned}
 use Rattle.dirty_sets.proofs.IndexLemmas.{index-AddSet}
@@ -33,5 +33,5 @@ returns c = λ slcs.
     let all : AllZip (IsWithId c.args.id (would_read net (bare_set c.args.id c.args.a c.args.b))) held.readers news =
     subst (λ (s : LinkSet). AllZip (IsWithId s.id (would_read net s)) held.readers news) c.bare_set-set.ensures
     (subst (λ rs. AllZip (IsWithId c.bare_set-set.result.id (would_read net c.bare_set-set.result)) rs news) same c.add_set.ensures) in
-    subst (λ (rs : List Reader). IsIndex (changed net (on.AddSet c.args.id c.args.a c.args.b slcs)) (reads_of (record { readers = rs; room = vec_capacity v - vec_len v }))) (sym items)
+    subst (λ (rs : List Reader). IsTouchIndex (changed net (on.AddSet c.args.id c.args.a c.args.b slcs)) (reads_of (record { readers = rs; room = vec_capacity v - vec_len v }))) (sym items)
     (index-AddSet net held.readers held.room c.requires.index c.args.id c.args.a c.args.b news (vec_capacity v - vec_len v) all slcs)

@@ -7,7 +7,7 @@ use Rattle.net_items.specs.Keyed.{IsRising}
 use Rattle.net_data.specs.declared.events.Event.TheVariants as on
 use Rattle.net_data.specs.Edits.{changed}
 use Rattle.dirty_sets.specs.declared.readers.Reader.{Reader}
-use Rattle.dirty_sets.specs.Touch.{IsIndex}
+use Rattle.dirty_sets.specs.Touch.{IsTouchIndex}
 use Rattle.dirty_sets.specs.Index.{TouchIndexValue, IsWithId, reads_of}
 use Rattle.dirty_sets.proofs.ReaderLemmas.{rising_keys, with_id-planned}
 use Rattle.dirty_sets.proofs.IndexLemmas.{index-RemoveSet}
@@ -30,5 +30,5 @@ returns c =
     let items : v.items ≡ news = with_items_is c.self.inside.readers news (c.remove_set.auto.readers ∙ c.deref_mut.ensures.len) in
     let same : c.deref_mut.result.now ≡ held.readers = c.deref_mut.ensures.value ∙ ap (λ (h : TouchIndexValue). h.readers) c.self.view_is in
     let all : AllZip (IsWithId c.args.id (λ (x : ℕ). false)) held.readers news = subst (λ rs. AllZip (IsWithId c.args.id (λ (x : ℕ). false)) rs news) same c.remove_set.ensures in
-    subst (λ (rs : List Reader). IsIndex (changed net (on.RemoveSet c.args.id)) (reads_of (record { readers = rs; room = vec_capacity v - vec_len v }))) (sym items)
+    subst (λ (rs : List Reader). IsTouchIndex (changed net (on.RemoveSet c.args.id)) (reads_of (record { readers = rs; room = vec_capacity v - vec_len v }))) (sym items)
     (index-RemoveSet net held.readers held.room c.requires.index c.validity.ensures c.args.id news (vec_capacity v - vec_len v) all)

@@ -3,7 +3,7 @@ use Rattle.std.specs.Prelude.{◌-◌}
 use Rattle.std.specs.Vec.{vec_len, vec_capacity}
 use Rattle.std.specs.Option.{option_map_or}
 use Rattle.net_items.specs.Lookups.{set_at}
-use Rattle.excerpts.specs.Excerpts.{is_read_by}
+use Rattle.excerpts.specs.Excerpt.{is_read_by}
 use Rattle.net_items.specs.Keyed.{IsRising, put}
 use Rattle.net_items.proofs.KeyedLemmas.{IsRising-put}
 use Rattle.dirty_sets.specs.declared.readers.Reader.{Reader}

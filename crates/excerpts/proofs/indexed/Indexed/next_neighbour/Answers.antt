@@ -8,7 +8,7 @@ use Rattle.excerpts.proofs.indexed.Indexed.next_neighbour.Goals as goal
 -- the joints of the point tell of each other point whether it is joined
 pub returns-clause-value : goal.returns-clause-value
 returns-clause-value c =
-    let y_small : c.args.y < 16384 = omega arith in
+    let y_small : c.args.point < 16384 = omega arith in
     c.next_up.ensures.value
-    ∙ next_agreed c.of_point.result.now c.self.inside.joints c.self.inside.net.sets c.args.y c.args.from y_small c.self.invariant c.of_point.ensures.tells
-    ∙ ap (λ (net : Network). next_from (connected net.sets c.args.y) c.args.from) c.self.view_is
+    ∙ next_agreed c.of_point.result.now c.self.inside.joints c.self.inside.net.sets c.args.point c.args.from y_small c.self.invariant c.of_point.ensures.tells
+    ∙ ap (λ (net : Network). next_from (connected net.sets c.args.point) c.args.from) c.self.view_is

@@ -7,11 +7,11 @@ use Rattle.excerpts.proofs.joints.Joints.of_point.Goals as goal
 
 pub slice_bounds-result-count : goal.slice_bounds-result-count
 slice_bounds-result-count c =
-    (around c.self.inside.list.items c.self.inside.firsts.items c.args.y c.from-point.result c.index-from.result.now c.index-to.result.now (omega arith) c.self.invariant.1 (omega arith) c.index-from.ensures c.index-to.ensures).ordered
+    (around c.self.inside.list.items c.self.inside.firsts.items c.args.point c.from-at.result c.index-from.result.now c.index-to.result.now (omega arith) c.self.invariant.1 (omega arith) c.index-from.ensures c.index-to.ensures).ordered
 
 pub slice_bounds-result-start : goal.slice_bounds-result-start
 slice_bounds-result-start c =
-    let range = around c.self.inside.list.items c.self.inside.firsts.items c.args.y c.from-point.result c.index-from.result.now c.index-to.result.now (omega arith) c.self.invariant.1 (omega arith) c.index-from.ensures c.index-to.ensures in
+    let range = around c.self.inside.list.items c.self.inside.firsts.items c.args.point c.from-at.result c.index-from.result.now c.index-to.result.now (omega arith) c.self.invariant.1 (omega arith) c.index-from.ensures c.index-to.ensures in
     let ordered : c.index-from.result.now ≤ c.index-to.result.now = range.ordered in
     search (rules, ordered)
 
@@ -21,8 +21,8 @@ returns-clause-rise c =
 
 pub returns-clause-tells : goal.returns-clause-tells
 returns-clause-tells c =
-    let range = around c.self.inside.list.items c.self.inside.firsts.items c.args.y c.from-point.result c.index-from.result.now c.index-to.result.now (omega arith) c.self.invariant.1 (omega arith) c.index-from.ensures c.index-to.ensures in
+    let range = around c.self.inside.list.items c.self.inside.firsts.items c.args.point c.from-at.result c.index-from.result.now c.index-to.result.now (omega arith) c.self.invariant.1 (omega arith) c.index-from.ensures c.index-to.ensures in
     λ z small.
-    ap (λ (js : List Joint). at_key (λ (j : Joint). j.pair) (joint_of c.args.y z) (slice_range js c.index-from.result.now c.index-to.result.now)) c.deref.ensures.value
-    ∙ found_around c.self.inside.list.items c.args.y z c.index-from.result.now c.index-to.result.now small range
-    ∙ ap (λ (js : List Joint). at_key (λ (j : Joint). j.pair) (joint_of c.args.y z) js) c.self.view_is
+    ap (λ (js : List Joint). at_key (λ (j : Joint). j.pair) (joint_of c.args.point z) (slice_range js c.index-from.result.now c.index-to.result.now)) c.deref.ensures.value
+    ∙ found_around c.self.inside.list.items c.args.point z c.index-from.result.now c.index-to.result.now small range
+    ∙ ap (λ (js : List Joint). at_key (λ (j : Joint). j.pair) (joint_of c.args.point z) js) c.self.view_is

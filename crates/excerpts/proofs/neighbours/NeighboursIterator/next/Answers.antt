@@ -4,14 +4,14 @@ use Rattle.std.specs.List.{range_with_len}
 use Rattle.std.specs.Iterator.{YieldsFirst}
 use Rattle.link_sets.specs.Availability.{connected}
 use Rattle.link_sets.specs.Neighbours.{code_count}
-use Rattle.excerpts.specs.Around.{left_of}
+use Rattle.excerpts.specs.Around.{neighbours_left}
 use Rattle.link_sets.proofs.NeighbourLemmas.{rest_none, rest_some}
 use Rattle.excerpts.proofs.neighbours.NeighboursIterator.next.Goals as goal
 
 pub returns-in_err-z-clause-steps : goal.returns-in_err-z-clause-steps
 returns-in_err-z-clause-steps c =
     let none = rest_none (connected c.args.self.now.net.now.sets c.args.self.now.point) c.args.self.now.from (sym c.next_neighbour.ensures.value ∙ c.in_err-z.was) in
-    subst (λ (o : Option ℕ). YieldsFirst left_of c.args.self.now o c.args.self.now) (sym c.from_residual.ensures) (none, none)
+    subst (λ (o : Option ℕ). YieldsFirst neighbours_left c.args.self.now o c.args.self.now) (sym c.from_residual.ensures) (none, none)
 
 pub returns-clause-steps : goal.returns-clause-steps
 returns-clause-steps c =

@@ -1,5 +1,5 @@
 use Rattle.std.proofs.Common.{ap, sym, ◌∙◌}
-use Rattle.excerpts.specs.Excerpts.{content_of}
+use Rattle.excerpts.specs.Excerpt.{content_of}
 use Rattle.transfer_state.proofs.RouteLemmas.{chosen_same}
 use Rattle.transfer_state.proofs.routing.Routing.of_same.Goals as goal
 

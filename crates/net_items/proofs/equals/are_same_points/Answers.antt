@@ -1,0 +1,7 @@
+-- `==` of points decides if they are equal
+use Rattle.std.proofs.Common.{rules}
+use Rattle.std.proofs.lemmas.Slice.Eq.{slice_eq-Decides}
+use Rattle.net_items.proofs.equals.are_same_points.Goals as goal
+
+pub returns : goal.returns
+returns c = slice_eq-Decides (λ x y. search rules) _ _ _ c.eq.ensures

@@ -1,0 +1,142 @@
+//! The version.
+
+ghost use Rattle.std.specs.Prelude.{◌≡◌, ◌<◌, [], IfOk, IfErr, length, slice_index_or};
+ghost use Rattle.std.specs.Option.{option_copied};
+ghost use Rattle.net_items.specs.declared.items.Plan.{Plan};
+ghost use Rattle.net_items.specs.Keyed.{IsRising, IsFoundAt, IsGapAt};
+ghost use Rattle.excerpts.specs.Excerpt.{excerpt_at, excerpt_in};
+ghost use Rattle.net_versions.specs.Versions.{excerpts as all_excerpts};
+
+use excerpts::{Excerpt, Frozen};
+use net_data::{Event, Net};
+use point_codes::PointCode;
+use std::alloc::{AllocError, Global};
+use std::marker::Model;
+use transfer_state::Routing;
+
+/// A published version.
+#[derive(Drop)]
+pub struct Version {
+    number: u64,
+    batch: Vec<Event>,
+    net: Frozen,
+    routings: Vec<Routing>,
+}
+
+impl Model for Version {
+    ghost use Rattle.std.specs.Prelude.{◌≡◌};
+    ghost use Rattle.net_versions.specs.Versions.{VersionValue, excerpts};
+
+    ghost Value = { VersionValue };
+
+    ghost view = { λ v. record { number = v.number; batch = v.batch.items; network = v.net } };
+
+    ghost invariant = { λ v. v.routings.items ≡ excerpts v.net };
+}
+
+/// The place of the routing towards a destination, or where it would go.
+fn position_of_routing(routings: &[Routing], dest: PointCode) -> Result<usize, usize>
+    requires { IsRising (λ x. x.plan.dest) routings.now }
+    ensures found { IfOk result (IsFoundAt (λ x. x.plan.dest) dest routings.now) }
+    ensures absent { IfErr result (IsGapAt (λ x. x.plan.dest) dest routings.now) }
+{
+    routings.binary_search_by_key(&dest, |r| r.dest())
+}
+
+/// The settled routing of the plan in a place of a network's plans.
+fn routing_in(alloc: Global, net: &Frozen, position: usize) -> Result<Routing, AllocError>
+    requires { position < length net.now.plans }
+    ensures { IfOk result (λ r. (d : Plan) → r ≡ excerpt_in net.now (slice_index_or net.now.plans position d)) }
+{
+    net.validity();
+    let dest = net.net().plans().at(position).dest;
+    let excerpt = match Excerpt::of(net, dest) {
+        Ok(excerpt) => excerpt,
+        Err(_) => return Err(AllocError),
+    };
+    match Routing::of(alloc, excerpt) {
+        Ok(routing) => Ok(routing),
+        Err((_, refused)) => Err(refused),
+    }
+}
+
+/// The settled routing of each planned destination of a network, in rising code.
+fn all_routings(alloc: Global, net: &Frozen) -> Result<Vec<Routing>, AllocError>
+    ensures { IfOk result (λ v. v.items ≡ all_excerpts net.now) }
+{
+    let plans = net.net().plans();
+    let mut routings = Vec::with_capacity(alloc, plans.len())?;
+    for position in 0..plans.len() {
+        routings.push(routing_in(alloc, net, position)?)?;
+    }
+    Ok(routings)
+}
+
+impl Version {
+    /// Version 0 of a network, with no events.
+    pub fn opening(alloc: Global, net: Net) -> Result<Version, AllocError>
+        ensures { IfOk result (λ v. v ≡ record { number = 0; batch = []; network = net }) }
+    {
+        let net = Frozen::new(alloc, net)?;
+        let routings = all_routings(alloc, &net)?;
+        Ok(Version {
+            number: 0,
+            batch: Vec::new(alloc),
+            net,
+            routings,
+        })
+    }
+
+    /// The version of that number, with the events since the one before, the network, and the settled routing of each
+    /// planned destination.
+    pub fn new(number: u64, batch: Vec<Event>, net: Frozen, routings: Vec<Routing>) -> Version
+        requires { routings.items ≡ all_excerpts net }
+        ensures { result ≡ record { number = number; batch = batch.items; network = net } }
+    {
+        Version {
+            number,
+            batch,
+            net,
+            routings,
+        }
+    }
+
+    /// Its number.
+    pub fn number(&self) -> u64
+        ensures { result ≡ self.now.number }
+    {
+        self.number
+    }
+
+    /// The events since the version before.
+    pub fn batch(&self) -> &[Event]
+        ensures { result.now ≡ self.now.batch }
+    {
+        self.batch.as_slice()
+    }
+
+    /// Its network.
+    pub fn net(&self) -> &Frozen
+        ensures { result.now ≡ self.now.network }
+    {
+        &self.net
+    }
+
+    /// The settled routing of each planned destination, in rising code.
+    pub fn routings(&self) -> &[Routing]
+        ensures { result.now ≡ all_excerpts self.now.network }
+    {
+        self.routings.as_slice()
+    }
+
+    /// The settled routing towards a destination, if it is planned.
+    pub fn routing(&self, dest: PointCode) -> Option<&Routing>
+        ensures { option_copied result ≡ excerpt_at self.now.network dest }
+    {
+        self.net.validity();
+        match position_of_routing(self.routings.as_slice(), dest) {
+            Ok(at) => Some(&self.routings[at]),
+            Err(_) => None,
+        }
+    }
+}

@@ -1,0 +1,74 @@
+//! The first word of a command that is no event.
+
+ghost use Rattle.std.specs.Prelude.{◌≡◌};
+ghost use Rattle.script_words.specs.Commands.{desk_word_of, command_word_of};
+
+use crate::words::is_word;
+
+/// What a command that is no event begins with.
+#[derive(Clone, Copy, Debug, PartialEq, Eq)]
+pub enum CommandWord {
+    /// `status`.
+    Status,
+    /// `sls`.
+    Sls,
+    /// `messages`.
+    Messages,
+    /// `octets`.
+    Octets,
+    /// `trace`.
+    Trace,
+    /// `sync`.
+    Sync,
+    /// `whatif`.
+    WhatIf,
+    /// `post`.
+    Post,
+    /// `open`.
+    Open,
+    /// `take`.
+    Take,
+    /// `give`.
+    Give,
+    /// `abandon`.
+    Abandon,
+    /// `publish`.
+    Publish,
+    /// `version`.
+    Version,
+    /// `audit`.
+    Audit,
+}
+
+/// The first word of a command that is neither an event nor a question about a row.
+fn read_desk_word(word: &[u8]) -> Option<CommandWord>
+    ensures { result ≡ desk_word_of word.now }
+{
+    match word {
+        _ if is_word(word, "sync") => Some(CommandWord::Sync),
+        _ if is_word(word, "whatif") => Some(CommandWord::WhatIf),
+        _ if is_word(word, "post") => Some(CommandWord::Post),
+        _ if is_word(word, "open") => Some(CommandWord::Open),
+        _ if is_word(word, "take") => Some(CommandWord::Take),
+        _ if is_word(word, "give") => Some(CommandWord::Give),
+        _ if is_word(word, "abandon") => Some(CommandWord::Abandon),
+        _ if is_word(word, "publish") => Some(CommandWord::Publish),
+        _ if is_word(word, "version") => Some(CommandWord::Version),
+        _ if is_word(word, "audit") => Some(CommandWord::Audit),
+        _ => None,
+    }
+}
+
+/// The first word of a command that is no event.
+pub fn read_command_word(word: &[u8]) -> Option<CommandWord>
+    ensures { result ≡ command_word_of word.now }
+{
+    match word {
+        _ if is_word(word, "status") => Some(CommandWord::Status),
+        _ if is_word(word, "sls") => Some(CommandWord::Sls),
+        _ if is_word(word, "messages") => Some(CommandWord::Messages),
+        _ if is_word(word, "octets") => Some(CommandWord::Octets),
+        _ if is_word(word, "trace") => Some(CommandWord::Trace),
+        _ => read_desk_word(word),
+    }
+}
