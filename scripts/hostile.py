@@ -5,8 +5,8 @@ scripts/refuse.c, which is compiled with `cc` and loaded before the C library, r
 all after it), stops reading or writing after k bytes, lets one byte through a call, and interrupts the k-th call. Each k has a run of
 its own, until none is reached. What such a run may do is said at `memory`, `reads`, `writes`, `saves` and `calls`; nothing else may
 happen. The inputs are a script that uses every word, networks that aren't loaded, command lines, and the worked examples, of
-which --short leaves out most; for the few long ones k grows by a tenth at a time. What isn't yet as it should be stands in KNOWN,
-and has to happen still. The last line is 'N cases, M failed': a case is an input and a way of breaking, or an entry of KNOWN."""
+which --short leaves out most; for the few long ones k grows by a tenth at a time. The last line is
+'N cases, M failed': a case is an input and a way of breaking."""
 import os
 import subprocess
 import sys
@@ -19,17 +19,8 @@ from worked import HERE, examples_of
 MEMORY, READ, WRITE = (b"route_desk: " + fault + b"\n" for fault in (b"1 OutOfMemory", b"63 Read", b"64 Write"))
 # what `clap` says if the words of the command line can't be read for want of memory
 CLAP = (b"", b"error: out of memory\n", 2)
-
-# Not yet as it should be: what happens, in which way of breaking, and how the run ends. Take an entry out if it is mended.
-KNOWN = {
-    "want of memory while the words are fetched ends with a text of the kit":
-        lambda case, way, got: way == "memory" and got == (b"", b"Error: Kind(OutOfMemory)\n", 1),
-    "a word that isn't UTF-8 ends with a text of the kit":
-        lambda case, way, got: way == "plain" and got == (b"", b"Error: Kind(InvalidData)\n", 1),
-    "an interrupted write isn't tried again":
-        lambda case, way, got: way == "interrupt" and case.is_prefix(got, WRITE),
-}
-SEEN = set()
+# what is said of a word that isn't UTF-8
+UNREAD = (b"", b"route_desk: an argument isn't UTF-8\n", 2)
 
 
 class Case:
@@ -87,11 +78,9 @@ class Case:
             yield k, got
             k += 1 + (k // 10 if self.large else 0)
 
-    def want(self, right, way, what, got):
-        """Wants that a run went right, or is known."""
-        known = [text for text, holds in KNOWN.items() if not right and holds(self, way, got)]
-        SEEN.update(known)
-        if not right and not known:
+    def want(self, right, what, got):
+        """Wants that a run went right."""
+        if not right:
             raise Wrong(self, what, got, {})
 
 
@@ -108,7 +97,7 @@ def memory(case):
     for every in 0, 1:
         for k, got in case.each("memory", all=every):
             right = got in (case.wanted, CLAP) or case.is_prefix(got, MEMORY)
-            case.want(right, "memory", f"request {k} refused, all after it: {every}", got)
+            case.want(right, f"request {k} refused, all after it: {every}", got)
 
 
 def reads(case):
@@ -118,21 +107,21 @@ def reads(case):
         wanted = (b"".join(case.wanted[0].splitlines(True)[:answers]), READ, 1)
         if case.wanted[2] == 1 and k >= case.head:
             wanted = case.wanted
-        case.want(got == wanted, "read", f"no more than {k} bytes read", got)
+        case.want(got == wanted, f"no more than {k} bytes read", got)
 
 
 def writes(case):
     """The run ends with 64 after exactly the bytes that went out."""
     for zero in 0, 1:
         for k, got in case.each("write", 0, zero=zero):
-            case.want(got == (case.wanted[0][:k], WRITE, 1), "write", f"no more than {k} bytes written, with {zero}", got)
+            case.want(got == (case.wanted[0][:k], WRITE, 1), f"no more than {k} bytes written, with {zero}", got)
 
 
 def saves(case):
     """All is answered, the run ends with 64, and the file stays as it was."""
     for zero in 0, 1:
         for k, got in case.each("write", 0, zero=zero, files=1):
-            case.want(got == (case.wanted[0], WRITE, 1), "save", f"no more than {k} bytes saved, with {zero}", got)
+            case.want(got == (case.wanted[0], WRITE, 1), f"no more than {k} bytes saved, with {zero}", got)
 
 
 def calls(case):
@@ -140,15 +129,15 @@ def calls(case):
     got, left, _ = case.run(single=1)
     if left != case.written:
         raise Wrong(case, "a byte a call", got, left)
-    case.want(got == case.wanted, "single", "a byte a call", got)
+    case.want(got == case.wanted, "a byte a call", got)
     for k, got in case.each("interrupt"):
-        case.want(got == case.wanted, "interrupt", f"call {k} interrupted", got)
+        case.want(got == case.wanted, f"call {k} interrupted", got)
 
 
 def plain(case):
-    """A command line that can't be read is told so by `clap`, with 2."""
+    """A command line that can't be read is told so by `clap`, with 2, and a word that isn't UTF-8 in a line of its own."""
     got = case.wanted
-    case.want(got[2] == 2 and got[1].startswith(b"error: "), "plain", "nothing broken", got)
+    case.want(got == UNREAD if b"\xff" in case.words else got[2] == 2 and got[1].startswith(b"error: "), "nothing broken", got)
 
 
 def case_of(example, form):
@@ -180,7 +169,7 @@ def cases(short):
         yield Case(" ".join(words), words), (memory, calls)
     for words in ([], ["fly"], ["run", "network", "--fast"]):
         yield Case(" ".join(words) or "no word", words), (plain, memory, calls)
-    yield Case("a word that isn't UTF-8", [b"\xff"]), (plain,)
+    yield Case("a word that isn't UTF-8", [b"\xff"]), (plain, memory, calls)
     for name in sorted(os.listdir(HERE)):
         if not name.endswith(".txt") or name in ("every-word.txt", "command-lines.txt"):
             continue
@@ -208,11 +197,10 @@ def main():
         tried = [(case, way) for case, ways in cases(short) for way in ways]
         with ThreadPoolExecutor(2) as pool:
             failures = [text for text in pool.map(lambda pair: failure_of(*pair), tried) if text]
-    failures += [f"known, and no longer so: {text}" for text in KNOWN if text not in SEEN]
     for text in failures:
         print(text)
     print(f"{Case.runs} runs")
-    print(f"{len(tried) + len(KNOWN)} cases, {len(failures)} failed")
+    print(f"{len(tried)} cases, {len(failures)} failed")
     return 1 if failures else 0
 
 

@@ -1,6 +1,6 @@
 //! The answer to `audit`.
 
-ghost use Rattle.std.specs.Prelude.{◌≡◌, ◌≢◌, ◌++◌, IfOk, OnOk, length, string_bytes};
+ghost use Rattle.std.specs.Prelude.{◌≡◌, ◌≢◌, ◌++◌, IfOk, OnErr, OnOk, length, string_bytes};
 ghost use Rattle.std.specs.Option.{IfSome, MatchOption};
 ghost use Rattle.profile.specs.Whole.{scratch, IsSettledTable};
 ghost use Rattle.excerpts.specs.Excerpt.{source_of};
@@ -28,7 +28,8 @@ pub fn clause_word(clause: Clause) -> &'static str
     }
 }
 
-/// Adds the destination of a wrong table, and the point and the letter of the first complaint about it.
+/// Adds the destination of a wrong table, and the point and the letter of the first complaint about it. If memory is refused
+/// the text stays as it was.
 pub fn put_complaint(
     alloc: Global,
     text: &mut String,
@@ -36,6 +37,7 @@ pub fn put_complaint(
     complaint: Complaint,
 ) -> Result<(), AllocError>
     ensures text { OnOk result (string_bytes text.new ≡ string_bytes text.old ++ complaint_text dest complaint) }
+    ensures kept { OnErr result (string_bytes text.new ≡ string_bytes text.old) }
     ensures plain { line_count (complaint_text dest complaint) ≡ 0 }
 {
     let point = complaint.point;

@@ -1,6 +1,6 @@
 //! How refusals are printed.
 
-ghost use Rattle.std.specs.Prelude.{◌≡◌, ◌++◌, OnOk, string_bytes};
+ghost use Rattle.std.specs.Prelude.{◌≡◌, ◌++◌, OnErr, OnOk, string_bytes};
 ghost use Rattle.answers.specs.Refusals.{refusal_name, refusal_values, refusal_text, cause_letter};
 ghost use Rattle.answers.specs.Text.{line_count};
 
@@ -97,12 +97,14 @@ fn values_are_plain(refusal: &Refusal)
     }
 }
 
-/// Adds a refusal: its number, its name and its values.
+/// Adds a refusal: its number, its name and its values. If memory is refused the text stays as it was.
 pub fn put_refusal(alloc: Global, text: &mut String, refusal: &Refusal) -> Result<(), AllocError>
     ensures text { OnOk result (string_bytes text.new ≡ string_bytes text.old ++ refusal_text refusal.now) }
+    ensures kept { OnErr result (string_bytes text.new ≡ string_bytes text.old) }
     ensures plain { line_count (refusal_text refusal.now) ≡ 0 }
 {
     values_are_plain(refusal);
-    text.push_str(refusal_words(refusal))?;
-    put_values(alloc, text, refusal)
+    let mut words = String::from_str(alloc, refusal_words(refusal))?;
+    put_values(alloc, &mut words, refusal)?;
+    text.push_str(words.as_str())
 }

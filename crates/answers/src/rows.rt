@@ -25,7 +25,7 @@ use transfer_state::Routing;
 /// What a point uses by a routing.
 fn answer_status(alloc: Global, routing: &Routing, point: PointCode) -> Result<String, AllocError>
     ensures text { IfOk result (λ text. string_bytes text ≡
-        option_map_or (λ state. status_text state.choice) (state_at routing.now point) no_row) }
+        option_map_or (λ state. status_text state.choice) (state_at routing.now.excerpt point) no_row) }
     ensures plain { IfOk result (λ text. line_count (string_bytes text) ≡ 0) }
 {
     match routing.choice(point) {
@@ -37,7 +37,7 @@ fn answer_status(alloc: Global, routing: &Routing, point: PointCode) -> Result<S
 /// The links of a point by a routing.
 fn answer_links(alloc: Global, routing: &Routing, point: PointCode) -> Result<String, AllocError>
     ensures text { IfOk result (λ text. string_bytes text ≡
-        option_map_or links_text (state_at routing.now point) no_row) }
+        option_map_or links_text (state_at routing.now.excerpt point) no_row) }
     ensures plain { IfOk result (λ text. line_count (string_bytes text) ≡ 0) }
 {
     match (routing.choice(point), routing.links(point)) {
@@ -49,7 +49,7 @@ fn answer_links(alloc: Global, routing: &Routing, point: PointCode) -> Result<St
 /// The messages in force from a point by a routing.
 fn answer_messages(alloc: Global, routing: &Routing, point: PointCode) -> Result<String, AllocError>
     ensures text { IfOk result (λ text. string_bytes text ≡
-        option_map_or (λ state. messages_text state.messages) (state_at routing.now point) no_row) }
+        option_map_or (λ state. messages_text state.messages) (state_at routing.now.excerpt point) no_row) }
     ensures plain { IfOk result (λ text. line_count (string_bytes text) ≡ 0) }
 {
     match routing.messages(alloc, point)? {
@@ -68,8 +68,8 @@ fn answer_octets(
 ) -> Result<String, AllocError>
     requires { ni < 4 }
     ensures text { IfOk result (λ text. string_bytes text ≡
-        option_map_or (λ state. octets_text (octets_to ni routing.now.plan.dest state neighbour))
-        (state_at routing.now point) no_row) }
+        option_map_or (λ state. octets_text (octets_to ni routing.now.excerpt.plan.dest state neighbour))
+        (state_at routing.now.excerpt point) no_row) }
     ensures plain { IfOk result (λ text. line_count (string_bytes text) ≡ 0) }
 {
     match routing.messages(alloc, point)? {
@@ -88,7 +88,7 @@ fn answer_row(
 ) -> Result<String, AllocError>
     requires { ni < 4 }
     ensures text { IfOk result (λ text. string_bytes text ≡
-        row_answer asked ni routing.now.plan.dest (row_in (scratch (source_of routing.now)) point)) }
+        row_answer asked ni routing.now.excerpt.plan.dest (row_in (scratch (source_of routing.now.excerpt)) point)) }
     ensures plain { IfOk result (λ text. line_count (string_bytes text) ≡ 0) }
 {
     match asked {

@@ -1,6 +1,7 @@
 -- The command line of the desk.
-use Rattle.std.specs.Prelude.{◌≡◌, ◌⊎◌, [], ◌∷◌, List, Option, Some, true, codes, option_map}
-use Rattle.clap.specs.Words.{App, Rule, Row, Text, new_app, new_rule, with_rule, with_subcommand, first_of, Kinds, HasKind}
+use Rattle.std.specs.Prelude.{◌≡◌, ◌⊎◌, ◌&&◌, ◌||◌, [], List, Bool, Option, Some, None, true, is_some, codes, option_map}
+use Rattle.std.specs.Str.{bytes_eq}
+use Rattle.clap.specs.Words.{App, Rule, Row, Text, new_app, new_rule, with_rule, with_subcommand, first_of, Kinds, HasKind, kind_of}
 use Rattle.clap.specs.declared.error.kind.ErrorKind.TheVariants.{MissingSubcommand}
 use Rattle.command_line.specs.declared.words.Order.{Order}
 use Rattle.command_line.specs.declared.words.Order.TheVariants.{Run, Play, Check}
@@ -60,6 +61,16 @@ IsOrder (Play net steps save) found =
     × (first_of (codes "steps") rows ≡ Some steps.now) × (first_of (codes "save") rows ≡ option_map (λ s. s.now) save)
 IsOrder (Check net) found = (rows : List Row) × (found ≡ Some (codes "check", rows)) × (first_of (codes "net") rows ≡ Some net.now)
 
--- memory was wanting, the words have one of these faults, or a subcommand is missing
-abbrev pub IsWordFault : Kinds → WordFault → Type 0
-IsWordFault kinds (Clap e) = HasKind kinds e ⊎ HasKind (MissingSubcommand ∷ []) e
+-- whether the argument has a value
+abbrev pub has_value : Text → List Row → Bool
+has_value id rows = is_some (first_of id rows)
+
+-- whether the subcommand is one of the desk's, with each file that it needs
+abbrev pub is_whole : Text × List Row → Bool
+is_whole (name, rows) =
+    ((bytes_eq name (codes "run") || bytes_eq name (codes "check")) && has_value (codes "net") rows)
+    || (bytes_eq name (codes "play") && (has_value (codes "net") rows && has_value (codes "steps") rows))
+
+-- memory was wanting, or the words have one of these faults, or they have none and name no subcommand
+abbrev pub IsWordFault : Kinds → Option (Text × List Row) → WordFault → Type 0
+IsWordFault kinds found (Clap e) = HasKind kinds e ⊎ ((kinds ≡ []) × (found ≡ None) × (kind_of e ≡ MissingSubcommand))

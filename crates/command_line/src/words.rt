@@ -4,7 +4,7 @@ ghost use Rattle.std.specs.Prelude.{◌≡◌, List, Option, Some, ◌∷◌, co
 ghost use Rattle.clap.specs.declared.builder.command.Command.TheViews.{out-Command};
 ghost use Rattle.clap.specs.Words.{app_of, first_of, FailsBy, HasKind, fault_of, found_of, rows_of, rule_of, subcommand_of, subcommand_rows_of};
 ghost use Rattle.clap.specs.declared.error.kind.ErrorKind.TheVariants.{MissingSubcommand};
-ghost use Rattle.command_line.specs.Words.{net_rule, steps_rule, save_rule, net_app, run_app, files_app, play_app, check_app, desk_app_of_run, desk_app_of_scripts, desk_app, IsOrder, IsWordFault};
+ghost use Rattle.command_line.specs.Words.{net_rule, steps_rule, save_rule, net_app, run_app, files_app, play_app, check_app, desk_app_of_run, desk_app_of_scripts, desk_app, IsOrder, is_whole, IsWordFault};
 
 use clap::error::ErrorKind;
 use clap::{Arg, ArgMatches, Command, Error};
@@ -192,7 +192,8 @@ fn value_at<'a>(matches: &ArgMatches<'a>, id: &str) -> Option<&'a str>
 
 /// What the matches of `run` order.
 fn run_order<'a>(matches: &ArgMatches<'a>) -> Option<Order<'a>>
-    ensures { IfSome result (λ order. IsOrder order (Some (codes "run", rows_of (found_of matches.now)))) }
+    ensures some { IfSome result (λ order. IsOrder order (Some (codes "run", rows_of (found_of matches.now)))) }
+    ensures none { result ≡ None → is_whole (codes "run", rows_of (found_of matches.now)) ≡ false }
 {
     let net = value_at(matches, "net")?;
     let save = value_at(matches, "save");
@@ -201,7 +202,8 @@ fn run_order<'a>(matches: &ArgMatches<'a>) -> Option<Order<'a>>
 
 /// What the matches of `play` order.
 fn play_order<'a>(matches: &ArgMatches<'a>) -> Option<Order<'a>>
-    ensures { IfSome result (λ order. IsOrder order (Some (codes "play", rows_of (found_of matches.now)))) }
+    ensures some { IfSome result (λ order. IsOrder order (Some (codes "play", rows_of (found_of matches.now)))) }
+    ensures none { result ≡ None → is_whole (codes "play", rows_of (found_of matches.now)) ≡ false }
 {
     let net = value_at(matches, "net")?;
     let steps = value_at(matches, "steps")?;
@@ -211,7 +213,8 @@ fn play_order<'a>(matches: &ArgMatches<'a>) -> Option<Order<'a>>
 
 /// What the matches of `check` order.
 fn check_order<'a>(matches: &ArgMatches<'a>) -> Option<Order<'a>>
-    ensures { IfSome result (λ order. IsOrder order (Some (codes "check", rows_of (found_of matches.now)))) }
+    ensures some { IfSome result (λ order. IsOrder order (Some (codes "check", rows_of (found_of matches.now)))) }
+    ensures none { result ≡ None → is_whole (codes "check", rows_of (found_of matches.now)) ≡ false }
 {
     let net = value_at(matches, "net")?;
     Some(Order::Check { net })
@@ -219,7 +222,8 @@ fn check_order<'a>(matches: &ArgMatches<'a>) -> Option<Order<'a>>
 
 /// What the matches order.
 fn order_of<'a>(matches: &ArgMatches<'a>) -> Option<Order<'a>>
-    ensures { IfSome result (λ order. IsOrder order (subcommand_rows_of matches.now)) }
+    ensures some { IfSome result (λ order. IsOrder order (subcommand_rows_of matches.now)) }
+    ensures none { result ≡ None → IfSome (subcommand_rows_of matches.now) (λ found. is_whole found ≡ false) }
 {
     let (name, inner) = entered(matches)?;
     match name {
@@ -245,11 +249,12 @@ fn missing(alloc: Global) -> Error
     }
 }
 
-/// Reads the words of a command line, the program's name first.
+/// Reads the words of a command line, the program's name first. Words are refused for a fault of theirs that `clap` tells, for
+/// a missing subcommand where they have no fault and name none, or for want of memory.
 pub fn read_words<'a>(alloc: Global, words: &'a [&'a str]) -> Result<Order<'a>, WordFault>
     ensures order { IfOk result (λ order. IsOrder order (subcommand_of desk_app (map (λ w. w.now) words.entry.now))) }
     ensures accepted { OnOk result (fault_of desk_app (map (λ w. w.now) words.entry.now) ≡ []) }
-    ensures fault { IfErr result (IsWordFault (fault_of desk_app (map (λ w. w.now) words.entry.now))) }
+    ensures fault { IfErr result (IsWordFault (fault_of desk_app (map (λ w. w.now) words.entry.now)) (subcommand_of desk_app (map (λ w. w.now) words.entry.now))) }
 {
     let matches = match desk_matches(alloc, words) {
         Ok(matches) => matches,

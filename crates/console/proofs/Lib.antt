@@ -1,4 +1,5 @@
-pub mod LineLemmas
 pub mod AnswerLemmas
-pub mod RunLemmas
+pub mod HeadlineLemmas
 pub mod InputLemmas
+pub mod LineLemmas
+pub mod RunLemmas

@@ -140,12 +140,19 @@ pub record HasReadAll (unread left : Option (List ℕ)) (text : List ℕ) : Type
   pub at_end : IsAtEnd left
   pub within : IsWithinLimit text
 
--- not all bytes were read
-abbrev pub HasNotReadAll : Fault → Type 0
-HasNotReadAll OutOfMemory = Unit {0}
-HasNotReadAll Read = Unit {0}
-HasNotReadAll Write = ⊥
-HasNotReadAll (Load e) = ⊥
+-- which faults end the reading of a network text after these bytes: memory only within the limit, and reading after at most
+-- one read, of 65,536 bytes, beyond it
+abbrev pub EndsReading : List ℕ → Fault → Type 0
+EndsReading read OutOfMemory = IsWithinLimit read
+EndsReading read Read = length read ≤ 134217728 + 65536
+EndsReading read Write = ⊥
+EndsReading read (Load e) = ⊥
+
+-- not all bytes were read, but these
+pub record HasNotReadAll (unread left : Option (List ℕ)) (fault : Fault) : Type 0 where
+  pub read : List ℕ
+  pub consumed : Consumes unread left read
+  pub cause : EndsReading read fault
 
 -- all bytes were read, and say this network
 pub record HasLoaded (unread left : Option (List ℕ)) (net : Network) : Type 0 where
@@ -155,4 +162,4 @@ pub record HasLoaded (unread left : Option (List ℕ)) (net : Network) : Type 0 
 
 -- all bytes were read, and no network came of them
 pub record HasNotLoaded (unread left : Option (List ℕ)) (fault : Fault) : Type 0 where
-  pub cause : HasNotReadAll fault ⊎ ((text : List ℕ) × HasReadAll unread left text × IsLoadFault text fault)
+  pub cause : HasNotReadAll unread left fault ⊎ ((text : List ℕ) × HasReadAll unread left text × IsLoadFault text fault)

@@ -4,3 +4,4 @@ pub mod Run
 pub mod Input
 pub mod Faults
 pub mod Checking
+pub mod Headline

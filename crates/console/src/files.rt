@@ -12,7 +12,8 @@ use std::io::{ErrorKind, Read};
 
 /// Reads all bytes, of which there are at most as many as a network text may have.
 fn read_all<R: Read>(alloc: Global, reader: &mut R) -> Result<Vec<u8>, Fault>
-    ensures { MatchResult result (λ bytes. HasReadAll (R.remaining reader.old) (R.remaining reader.new) bytes.items) HasNotReadAll }
+    ensures { MatchResult result (λ bytes. HasReadAll (R.remaining reader.old) (R.remaining reader.new) bytes.items)
+        (HasNotReadAll (R.remaining reader.old) (R.remaining reader.new)) }
 {
     let mut bytes: Vec<u8> = Vec::new(alloc);
     let mut chunk = [0u8; CHUNK];

@@ -4,6 +4,7 @@ ghost use Rattle.std.specs.Prelude.{◌≡◌, ℕ, ◌-◌, ◌*◌, ◌≤◌,
 ghost use Rattle.std.specs.Io.KnownBytes.{Consumes, IsAtEnd};
 ghost use Rattle.net_text.specs.Reading.{Says};
 ghost use Rattle.desk_console.specs.Console.{opening};
+ghost use Rattle.console.specs.Headline.{RanInputRight};
 ghost use Rattle.console.specs.Input.{is_mark, IsOpenAt, IsMarkAt, IsOpening, IsUnopened, IsLoadFault, IsOpened, RanInput, text_part, script_part};
 
 use crate::faults::Fault;
@@ -235,9 +236,13 @@ impl Opening {
 /// Reads a network text up to the line `%%`, and then a script to its end, whose lines are answered from a new desk over
 /// that network before more is read. Without that line the whole input is the network text. Nothing is written unless the network
 /// text was read and loaded.
+///
+/// - `ran`: what is read, what is written, how it ends, and by which fault.
+/// - `right`: at each line the published version is the one of its number, as `run_script` says it.
 pub fn run_input<R: Read, W: Write>(alloc: Global, reader: &mut R, writer: &mut W) -> ScriptEnd
-    ensures { RanInput (R.remaining reader.old) (R.remaining reader.new)
+    ensures ran { RanInput (R.remaining reader.old) (R.remaining reader.new)
         (W.contents writer.old) (W.contents writer.new) result.fault result.lines result.net }
+    ensures right { RanInputRight (R.remaining reader.old) (R.remaining reader.new) (W.contents writer.old) (W.contents writer.new) }
 {
     let opening = match read_text(alloc, reader) {
         Ok(opening) => opening,

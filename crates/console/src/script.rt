@@ -4,6 +4,7 @@ ghost use Rattle.std.specs.Prelude.{◌≡◌, ℕ, ◌+◌, ◌*◌, ◌^◌, �
 ghost use Rattle.std.specs.Io.KnownBytes.{IsAtEnd};
 ghost use Rattle.desk_console.specs.Console.{ConsoleValue, net_of, opening};
 ghost use Rattle.answers.specs.Text.{line_count};
+ghost use Rattle.console.specs.Headline.{RanRight};
 ghost use Rattle.console.specs.Run.{HasAnswered, Ran};
 
 use crate::faults::Fault;
@@ -117,14 +118,21 @@ impl Session {
 
 /// Reads a script to its end, and answers each line from a new desk over a network before more is read. The network that
 /// comes back is the one after all accepted events.
+///
+/// - `ran`: what is read, what is written, how it ends, and by which fault.
+/// - `right`: at each line the published version is the one of its number: its events are the accepted ones since the
+///   version before, its network is that after the accepted events up to it, and what it keeps of each planned destination
+///   is what the profile gives for that network from scratch. Accepted are the events of the lines that are answered
+///   `taken`.
 pub fn run_script<R: Read, W: Write>(
     alloc: Global,
     reader: &mut R,
     writer: &mut W,
     net: Net,
 ) -> ScriptEnd
-    ensures { Ran (opening net) (R.remaining reader.old) (R.remaining reader.new)
+    ensures ran { Ran (opening net) (R.remaining reader.old) (R.remaining reader.new)
         (W.contents writer.old) (W.contents writer.new) result.fault result.lines result.net }
+    ensures right { RanRight net (R.remaining reader.old) (R.remaining reader.new) (W.contents writer.old) (W.contents writer.new) }
 {
     match Console::start(alloc, net) {
         Ok(console) => Session::new(alloc, console).read_on(alloc, reader, writer, 0),

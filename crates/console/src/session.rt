@@ -13,7 +13,7 @@ use crate::lines::{LINE_LIMIT, Line, is_quiet, without_return};
 use desk_console::Console;
 use point_codes::split_at_byte;
 use std::alloc::{AllocError, Global};
-use std::io::Write;
+use std::io::{ErrorKind, Write};
 
 /// What stands at the console, the line that is being read, the answers that wait to be written, and how many lines were
 /// written.
@@ -25,17 +25,28 @@ pub struct Session {
     pub lines: u64,
 }
 
-/// Writes a text, and tells how many of its bytes were written: fewer than all where the writer refuses.
+/// The number of writes after which a text is given up.
+const WRITE_LIMIT: u64 = 4294967296;
+
+/// Writes a text, and tells how many of its bytes were written: fewer than all if the writer refuses. An interrupted write
+/// is tried again.
 fn write_all<W: Write>(writer: &mut W, text: &[u8]) -> usize
     ensures within { result ≤ length text.now }
     ensures written { Appends (W.contents writer.old) (W.contents writer.new) (take result text.now) }
 {
     let mut at = 0;
-    while at < text.len() {
+    for _turn in 0..WRITE_LIMIT {
+        if at == text.len() {
+            return at;
+        }
         match writer.write(&text[at..]) {
             Ok(0) => return at,
             Ok(n) => at += n,
-            Err(_) => return at,
+            Err(e) => {
+                if e.kind() != ErrorKind::Interrupted {
+                    return at;
+                }
+            }
         }
     }
     at

@@ -1,4 +1,4 @@
-//! A reader that is slow and may fail, and a writer with little room.
+//! A reader that is slow and may fail, one without end, and a writer with little room.
 
 use std::alloc::Global;
 use std::io;
@@ -45,6 +45,16 @@ impl<'a> Read for Slow<'a> {
                 Ok(0)
             }
         }
+    }
+}
+
+/// Gives as many bytes as are asked for, without end: those that stand in the buffer.
+#[derive(Drop)]
+pub(crate) struct Endless;
+
+impl Read for Endless {
+    fn read(&mut self, buf: &mut [u8]) -> io::Result<usize> {
+        Ok(buf.len())
     }
 }
 

@@ -3,7 +3,7 @@ use Rattle.std.proofs.Common.{◌≡◌, ℕ, ◌-◌, ◌≤◌, Option, Some, 
 use Rattle.std.proofs.lemmas.List.{take-append-drop}
 use Rattle.net_data.specs.Edits.{replay}
 use Rattle.desk_core.specs.Desk.{DeskValue, OpenTarget, accepted}
-use Rattle.desk_core.specs.Runs.{IsSteadyDesk}
+use Rattle.desk_core.specs.Runs.{IsSteadyDesk, IsTargetAhead}
 use Rattle.desk_core.proofs.ReplayLemmas.{replay-append}
 use Rattle.desk_console.specs.Syncing.{HasKept, published_to, without_target}
 
@@ -30,9 +30,9 @@ kept_published s number after within =
 
 -- where the open target is published
 kept_without : (s : DeskValue) → IsSteadyDesk s → HasKept s (without_target s)
-kept_without s = go s.target
+kept_without s steady = go s.target steady.ahead
   where
-    go : (o : Option OpenTarget) → IsSteadyDesk (record s { target = o }) → HasKept s (without_target (record s { target = o }))
+    go : (o : Option OpenTarget) → IsTargetAhead (record s { target = o }) → HasKept s (without_target (record s { target = o }))
     go None steady = record { accepted = refl; net = refl; lasts = refl; spare = refl }
     go (Some t) steady = kept_published s t.number steady.0 steady.1
 

@@ -1,4 +1,6 @@
-pub mod SlotLemmas
-pub mod TaskLemmas
-pub mod StepLemmas
 pub mod KeptLemmas
+pub mod RightLemmas
+pub mod RunLemmas
+pub mod SlotLemmas
+pub mod StepLemmas
+pub mod TaskLemmas

@@ -45,6 +45,17 @@ waits_open d = go d.target
     go None some = absurd (let wrong : 0 < 0 = some in omega arith)
     go (Some t) some = refl
 
+-- nothing has changed
+pub only_none : (d : DeskValue) → HasOnlyTasks d d
+only_none d = record { same = refl; number = refl }
+
+-- only tasks changed, and then only tasks
+pub only_then : (old mid new : DeskValue) → HasOnlyTasks old mid → HasOnlyTasks mid new → HasOnlyTasks old new
+only_then old mid new one other = record {
+  same = other.same ∙ ap (λ (d : DeskValue). record d { target = new.target }) one.same;
+  number = other.number ∙ one.number;
+}
+
 -- ---- abandonment
 
 -- the destination waits again, and fewer are out

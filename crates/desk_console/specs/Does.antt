@@ -1,5 +1,5 @@
 -- What a command does at a console, and the text of its answer (own).
-use Rattle.std.specs.Prelude.{◌≡◌, ◌≢◌, ℕ, ◌+◌, ◌-◌, ◌^◌, ◌==◌, Bool, true, false, List, Option, Some, None, Result, Ok, Err, length, slice_set, codes}
+use Rattle.std.specs.Prelude.{◌≡◌, ◌≢◌, ℕ, ◌+◌, ◌-◌, ◌^◌, ◌==◌, Bool, true, false, List, [], Option, Some, None, Result, Ok, Err, length, slice_set, codes}
 use Rattle.net_data.specs.declared.events.Event.{Event}
 use Rattle.work_units.specs.Work.{Work}
 use Rattle.desk_core.specs.declared.replies.Posted.{Posted}
@@ -7,6 +7,7 @@ use Rattle.desk_core.specs.declared.replies.Refusal.{Refusal}
 use Rattle.desk_core.specs.declared.replies.Refusal.TheVariants.{OutOfMemory, EndOfNumbers}
 use Rattle.desk_core.specs.Desk.{DeskValue, accepted}
 use Rattle.desk_core.specs.Steps.{last_of, Posts, Opens, Takes, Gives, Abandons, Publishes}
+use Rattle.desk_core.specs.Runs.{IsRunOf}
 use Rattle.desk_console.specs.Syncing.{synced}
 use Rattle.answers.specs.Replies.{refused_text, posted_text, opened_text, job_text, given_text, abandoned_text, published_text, synced_text, version_text}
 use Rattle.path_trace.specs.Traces.{trace_at}
@@ -80,9 +81,9 @@ AbandonsOf (Some work) c = Calls (λ s. Abandons s work.version work.excerpt.pla
 
 -- ---- all commands
 
--- all that is accepted is published
+-- all that is accepted is published, by steps of the desk that accept nothing
 abbrev pub Syncs : ConsoleValue → List ℕ → ConsoleValue → Type 0
-Syncs c text new = (text ≡ synced_text (accepted c.desk)) × (new ≡ record c { desk = synced c.desk })
+Syncs c text new = (text ≡ synced_text (accepted c.desk)) × (new ≡ record c { desk = synced c.desk }) × IsRunOf c.desk [] new.desk
 
 -- what a command does; what is asked is answered from the published version
 abbrev pub Does : Command → ConsoleValue → List ℕ → ConsoleValue → Type 0

@@ -3,3 +3,5 @@ pub mod Does
 pub mod Commands
 pub mod Syncing
 pub mod Settling
+pub mod Taken
+pub mod Right

@@ -1,8 +1,9 @@
 //! Bringing a desk up to date.
 
-ghost use Rattle.std.specs.Prelude.{◌≡◌, ◌<◌, None, Some, IfOk, OnOk, OnErr};
+ghost use Rattle.std.specs.Prelude.{◌≡◌, ◌<◌, [], None, Some, IfOk, OnOk, OnErr};
 ghost use Rattle.desk_core.specs.Desk.{accepted};
 ghost use Rattle.desk_core.specs.Steps.{tasks_left, target_number};
+ghost use Rattle.desk_core.specs.Runs.{IsRunOf};
 ghost use Rattle.desk_console.specs.Settling.{HasOnlyTasks, out_count, waiting_count};
 ghost use Rattle.desk_console.specs.Syncing.{caught_up, synced, without_target, HasKept};
 
@@ -11,11 +12,13 @@ use std::alloc::{AllocError, Global};
 use work_units::settle;
 
 /// Brings a desk up to date, by the calls that any worker makes, and tells the number of the published version then:
-/// that of the last accepted event. It fails if memory is refused; nothing that was accepted is lost then.
+/// that of the last accepted event. It fails if memory is refused; nothing that was accepted is lost then. Either way what
+/// it did is a run of the desk's steps, which accepts nothing.
 pub fn sync(alloc: Global, desk: &mut Desk) -> Result<u64, AllocError>
     ensures ok { IfOk result (λ number. (number ≡ accepted desk.old) × (desk.new ≡ synced desk.old)) }
     ensures published { IfOk result (λ number. desk.new.published.number ≡ number) }
     ensures err { OnErr result (HasKept desk.old desk.new) }
+    ensures run { IsRunOf desk.old [] desk.new }
 {
     desk.steady();
     close(alloc, desk)?;
@@ -27,6 +30,7 @@ pub fn sync(alloc: Global, desk: &mut Desk) -> Result<u64, AllocError>
 fn close(alloc: Global, desk: &mut Desk) -> Result<(), AllocError>
     ensures ok { OnOk result (desk.new ≡ without_target desk.old) }
     ensures err { OnErr result (HasOnlyTasks desk.old desk.new) }
+    ensures run { IsRunOf desk.old [] desk.new }
 {
     let Some(number) = desk.target() else {
         return Ok(());
@@ -44,6 +48,7 @@ fn catch_up(alloc: Global, desk: &mut Desk) -> Result<(), AllocError>
     requires { desk.old.target ≡ None }
     ensures ok { OnOk result (desk.new ≡ caught_up desk.old) }
     ensures err { OnErr result (HasKept desk.old desk.new) }
+    ensures run { IsRunOf desk.old [] desk.new }
 {
     if desk.accepted() == desk.published().number() {
         return Ok(());
@@ -59,6 +64,7 @@ fn call_back(desk: &mut Desk, number: u64)
     requires { target_number desk.old ≡ Some number }
     ensures only { HasOnlyTasks desk.old desk.new }
     ensures none { out_count desk.new ≡ 0 }
+    ensures run { IsRunOf desk.old [] desk.new }
 {
     while let Some(dest) = desk.first_out() {
         match desk.abandon(number, dest) {
@@ -73,6 +79,7 @@ fn settle_all(alloc: Global, desk: &mut Desk) -> Result<(), AllocError>
     requires { out_count desk.old ≡ 0 }
     ensures only { HasOnlyTasks desk.old desk.new }
     ensures done { OnOk result (tasks_left desk.new ≡ 0) }
+    ensures run { IsRunOf desk.old [] desk.new }
 {
     while desk.waiting() > 0 {
         settle_next(alloc, desk)?;
@@ -87,6 +94,7 @@ fn settle_next(alloc: Global, desk: &mut Desk) -> Result<(), AllocError>
     ensures only { HasOnlyTasks desk.old desk.new }
     ensures none { OnOk result (out_count desk.new ≡ 0) }
     ensures fewer { OnOk result (waiting_count desk.new < waiting_count desk.old) }
+    ensures run { IsRunOf desk.old [] desk.new }
 {
     let job = match desk.take() {
         Ok(job) => job,

@@ -6,12 +6,9 @@ use Rattle.net_data.specs.declared.events.Event.{Event}
 use Rattle.net_data.specs.Network.{Network}
 use Rattle.dirty_sets.specs.Waiting.{Task, taken, put_last, without_task}
 use Rattle.work_units.specs.Work.{Work}
-use Rattle.net_items.specs.declared.items.Plan.{Plan}
-use Rattle.net_items.specs.Lookups.{plan_at}
-use Rattle.profile.specs.Whole.{scratch}
-use Rattle.excerpts.specs.Excerpt.{excerpt_in, network_source, source_of, table_at}
-use Rattle.net_versions.specs.Versions.{VersionValue, table_told}
+use Rattle.net_versions.specs.Versions.{VersionValue, IsSettledVersion, settled_tables}
 use Rattle.path_trace.specs.Traces.{trace_at}
+use Rattle.path_trace.proofs.KeptLemmas.{kept_is}
 use Rattle.desk_core.specs.declared.replies.Last.{Last}
 use Rattle.desk_core.specs.declared.replies.Opened.{Opened}
 use Rattle.desk_core.specs.declared.replies.Posted.{Posted}
@@ -25,7 +22,7 @@ use Rattle.desk_core.specs.declared.steps.Reply.TheVariants as reply
 use Rattle.net_data.specs.Edits.{replay}
 use Rattle.desk_core.specs.Desk.{DeskValue, OpenTarget, accepted, next_version}
 use Rattle.desk_core.specs.Steps.{IsReply, IsPost, IsJobOf, IsGiven, IsGiveReply, IsAbandonReply, IsNext, Posts, Opens, Takes, Gives, Abandons, Publishes, is_last, last_of, post_refusal, open_refusal, out_refusal, publish_refusal, repeated, first_of, with_post, with_target, with_tasks, with_version}
-use Rattle.desk_core.specs.Runs.{Steps, Runs, event_taken, accepted_by, accepted_in, events_up_to, network_at, Numbers, numbers_by, numbers_after, first_numbers, batch_of, IsRightVersion, IsRightThroughout, IsSteadyDesk}
+use Rattle.desk_core.specs.Runs.{Steps, Runs, event_taken, accepted_by, accepted_in, events_up_to, network_at, Numbers, numbers_by, numbers_after, first_numbers, batch_of, IsRightVersion, IsRightAfter, GoesOnRight, IsRightThroughout, IsRunOf, IsTargetAhead, IsSteadyDesk}
 use Rattle.desk_core.proofs.ReplayLemmas.{replay-append}
 
 -- a desk after steps from another: what it has published and what is pending are the accepted events
@@ -36,7 +33,8 @@ record Tracks (start : DeskValue) (more : List Event) (numbers : Numbers) (s : D
   within : s.published.number - start.published.number ≤ length (start.pending ++ more)
   pending : s.pending ≡ drop (s.published.number - start.published.number) (start.pending ++ more)
   network : s.published.network ≡ replay start.published.network (take (s.published.number - start.published.number) (start.pending ++ more))
-  steady : IsSteadyDesk s
+  tables : IsSettledVersion s.published
+  ahead : IsTargetAhead s
 
 drop-add : {X : Type 0} (a b : ℕ) (xs : List X) → drop b (drop a xs) ≡ drop (a + b) xs
 drop-add zero b xs = let e : 0 + b ≡ b = omega arith in sym (rw e refl)
@@ -85,8 +83,8 @@ module _ (start : DeskValue) (more : List Event) (numbers : Numbers) (old : Desk
   batch_after es = t.batch ∙ batch_grown start more es numbers (let w = t.within in let n = t.number in omega arith)
 
   -- nothing is accepted, and what is published and pending stays
-  stays : (new : DeskValue) → new.published ≡ old.published → new.pending ≡ old.pending → IsSteadyDesk new → Tracks start (more ++ []) numbers new
-  stays new published pending steady =
+  stays : (new : DeskValue) → new.published ≡ old.published → new.pending ≡ old.pending → IsTargetAhead new → Tracks start (more ++ []) numbers new
+  stays new published pending ahead =
       let number : new.published.number ≡ old.published.number = ap (λ (v : VersionValue). v.number) published in
       let back : more ++ [] ≡ more = append-nil more in
       record {
@@ -96,11 +94,12 @@ module _ (start : DeskValue) (more : List Event) (numbers : Numbers) (old : Desk
         within = let w = t.within in rw back (omega arith);
         pending = rw (back, number) (pending ∙ t.pending);
         network = rw (back, number) (ap (λ (v : VersionValue). v.network) published ∙ t.network);
-        steady = steady;
+        tables = subst IsSettledVersion (sym published) t.tables;
+        ahead = ahead;
       }
 
   unchanged : (new : DeskValue) → new ≡ old → Tracks start (more ++ []) numbers new
-  unchanged new same = subst (λ s. Tracks start (more ++ []) numbers s) (sym same) (stays old refl refl t.steady)
+  unchanged new same = subst (λ s. Tracks start (more ++ []) numbers s) (sym same) (stays old refl refl t.ahead)
 
   -- one event more
   grown : (collector seq : ℕ) (event : Event) → Tracks start (more ++ event ∷ []) numbers (with_post old collector seq event)
@@ -115,24 +114,25 @@ module _ (start : DeskValue) (more : List Event) (numbers : Numbers) (old : Desk
         within = let w = t.within in rw all (omega arith);
         pending = rw all (ap (λ es. es ++ event ∷ []) t.pending ∙ sym (drop-append-le k (start.pending ++ more) (event ∷ []) t.within));
         network = rw all (t.network ∙ ap (replay start.published.network) (sym (take-append-le k (start.pending ++ more) (event ∷ []) t.within)));
-        steady = steady_grown old.target t.steady;
+        tables = t.tables;
+        ahead = ahead_grown old.target t.ahead;
       }
     where
-      steady_grown : (o : Option OpenTarget) → MatchOption o (Unit {0}) (λ t. (old.published.number ≤ t.number) × (t.number ≤ accepted old))
+      ahead_grown : (o : Option OpenTarget) → MatchOption o (Unit {0}) (λ t. (old.published.number ≤ t.number) × (t.number ≤ accepted old))
           → MatchOption o (Unit {0}) (λ t. (old.published.number ≤ t.number) × (t.number ≤ old.published.number + length (old.pending ++ event ∷ [])))
-      steady_grown None is = tt
-      steady_grown (Some target) is =
+      ahead_grown None is = tt
+      ahead_grown (Some target) is =
           let longer : length (old.pending ++ event ∷ []) ≡ length old.pending + 1 = length-append old.pending (event ∷ []) in
           let within = is.1 in (is.0, omega arith)
 
   -- a change of tasks
   tasked : (change : List Task → List Task) → Tracks start (more ++ []) numbers (with_tasks old change)
-  tasked change = stays (with_tasks old change) refl refl (steady_tasked old.target t.steady)
+  tasked change = stays (with_tasks old change) refl refl (ahead_tasked old.target t.ahead)
     where
-      steady_tasked : (o : Option OpenTarget) → MatchOption o (Unit {0}) (λ t. (old.published.number ≤ t.number) × (t.number ≤ accepted old))
+      ahead_tasked : (o : Option OpenTarget) → MatchOption o (Unit {0}) (λ t. (old.published.number ≤ t.number) × (t.number ≤ accepted old))
           → MatchOption (option_map (λ (t : OpenTarget). record t { tasks = change t.tasks }) o) (Unit {0}) (λ t. (old.published.number ≤ t.number) × (t.number ≤ accepted old))
-      steady_tasked None is = tt
-      steady_tasked (Some target) is = is
+      ahead_tasked None is = tt
+      ahead_tasked (Some target) is = is
 
   -- a publication
   published : (o : Option OpenTarget) → MatchOption o (Unit {0}) (λ t. (old.published.number ≤ t.number) × (t.number ≤ accepted old)) → (version : VersionValue)
@@ -167,7 +167,8 @@ module _ (start : DeskValue) (more : List Event) (numbers : Numbers) (old : Desk
             ∙ ap (λ es. replay (replay start.published.network (take a (start.pending ++ more))) (take b es)) t.pending
             ∙ sym (replay-append start.published.network (take a (start.pending ++ more)) (take b (drop a (start.pending ++ more))))
             ∙ ap (replay start.published.network) (take-add a b (start.pending ++ more) ∙ ap (λ n. take n (start.pending ++ more)) sum));
-        steady = tt;
+        tables = ap (λ (v : VersionValue). v.tables) next ∙ ap settled_tables (sym network);
+        ahead = tt;
       }
 
   -- ---- the steps
@@ -235,7 +236,7 @@ module _ (start : DeskValue) (more : List Event) (numbers : Numbers) (old : Desk
       go (Some refusal) result is = subst (λ r. Tracks start (more ++ []) (numbers_by numbers (reply.Publish r)) new) (sym is.0) (unchanged new is.1)
       go None (Ok number) is =
           subst (λ n. Tracks start (more ++ []) (record { now = n; before = Some numbers.now }) new) (sym is.2)
-          (subst (λ s. Tracks start (more ++ []) (record { now = is.0.number; before = Some numbers.now }) s) (sym is.3) (published old.target t.steady is.0 is.1))
+          (subst (λ s. Tracks start (more ++ []) (record { now = is.0.number; before = Some numbers.now }) s) (sym is.3) (published old.target t.ahead is.0 is.1))
       go None (Err e) is = unchanged new is.1
 
   track_step : (one : Step) (answer : Reply) (new : DeskValue) → Steps old one answer new → Tracks start (more ++ accepted_by one answer) (numbers_by numbers answer) new
@@ -268,7 +269,8 @@ begins start steady =
       within = omega arith;
       pending = sym (ap (λ k. drop k (start.pending ++ [])) none ∙ append-nil start.pending);
       network = sym (ap (λ k. replay start.published.network (take k (start.pending ++ []))) none);
-      steady = steady;
+      tables = steady.version;
+      ahead = steady.ahead;
     }
 
 -- what is tracked is right
@@ -279,22 +281,15 @@ right_version start more numbers s t =
       number = t.number;
       batch = t.batch;
       network = network;
-      tables = λ x. table_is s.published x ∙ ap (λ net. table_at net x) network;
-      traces = λ y x k. ap (λ net. trace_at net y x k) network;
+      tables = t.tables ∙ ap settled_tables network;
+      traces = λ y x k. kept_is s.published t.tables y x k ∙ ap (λ net. trace_at net y x k) network;
     }
-  where
-    table_is : (v : VersionValue) (x : ℕ) → table_told v x ≡ table_at v.network x
-    table_is v x = go (plan_at v.network.plans x)
-      where
-        go : (o : Option Plan) → option_map (λ e. scratch (source_of e)) (option_map (excerpt_in v.network) o) ≡ option_map (λ plan. scratch (network_source v.network plan)) o
-        go None = refl
-        go (Some plan) = refl
 
--- at every point of a run the published version is the one of its number
-pub right_throughout : (start : DeskValue) → IsSteadyDesk start → (steps : List Step) (replies : List Reply) → IsRightThroughout start steps replies
-right_throughout start steady steps replies = λ k mid run.
-    right_version start (accepted_in (take k steps) (take k replies)) (numbers_after (first_numbers start) (take k replies)) mid
-    (track_run start (take k steps) (take k replies) [] (first_numbers start) start mid (begins start steady) run)
+-- after every run the published version is the one of its number
+pub right_after : (start : DeskValue) → IsSteadyDesk start → (steps : List Step) (replies : List Reply) (new : DeskValue) → Runs start steps replies new → IsRightAfter start steps replies new
+right_after start steady steps replies new run =
+    right_version start (accepted_in steps replies) (numbers_after (first_numbers start) replies) new
+    (track_run start steps replies [] (first_numbers start) start new (begins start steady) run)
 
 -- a run goes on by one step
 pub runs-push : (old mid new : DeskValue) (steps : List Step) (replies : List Reply) (one : Step) (answer : Reply) → Runs old steps replies mid → Steps mid one answer new → Runs old (steps ++ one ∷ []) (replies ++ answer ∷ []) new
@@ -302,3 +297,50 @@ runs-push old mid new [] [] one answer run last = (new, subst (λ s. Steps s one
 runs-push old mid new (s ∷ ss) (r ∷ rs) one answer run last = (run.0, run.1, runs-push run.0 mid new ss rs one answer run.2 last)
 runs-push old mid new [] (r ∷ rs) one answer run last = absurd run
 runs-push old mid new (s ∷ ss) [] one answer run last = absurd run
+
+goes_on_right : (start : DeskValue) → IsSteadyDesk start → (done : List Step) (told : List Reply) (old : DeskValue) → Runs start done told old → (steps : List Step) (replies : List Reply) (new : DeskValue) → Runs old steps replies new
+    → GoesOnRight start done told old steps replies new
+goes_on_right start steady done told old so_far [] [] new run = run
+goes_on_right start steady done told old so_far [] (r ∷ rs) new run = absurd run
+goes_on_right start steady done told old so_far (s ∷ ss) [] new run = absurd run
+goes_on_right start steady done told old so_far (s ∷ ss) (r ∷ rs) new run =
+    let more : Runs start (done ++ s ∷ []) (told ++ r ∷ []) run.0 = runs-push start old run.0 done told s r so_far run.1 in
+    (run.0, run.1, right_after start steady (done ++ s ∷ []) (told ++ r ∷ []) run.0 more, goes_on_right start steady (done ++ s ∷ []) (told ++ r ∷ []) run.0 more ss rs new run.2)
+
+-- at every point of a run the published version is the one of its number
+pub right_throughout : (start : DeskValue) → IsSteadyDesk start → (steps : List Step) (replies : List Reply) (new : DeskValue) → Runs start steps replies new → IsRightThroughout start steps replies new
+right_throughout start steady steps replies new run = record {
+  first = right_after start steady [] [] start refl;
+  rest = goes_on_right start steady [] [] start refl steps replies new run;
+}
+
+-- ---- runs that accept some events
+
+runs-append : (old mid new : DeskValue) (steps more : List Step) (replies others : List Reply) → Runs old steps replies mid → Runs mid more others new → Runs old (steps ++ more) (replies ++ others) new
+runs-append old mid new [] more [] others one other = subst (λ s. Runs s more others new) one other
+runs-append old mid new (s ∷ ss) more (r ∷ rs) others one other = (one.0, one.1, runs-append one.0 mid new ss more rs others one.2 other)
+runs-append old mid new [] more (r ∷ rs) others one other = absurd one
+runs-append old mid new (s ∷ ss) more [] others one other = absurd one
+
+accepted-append : (old mid : DeskValue) (steps more : List Step) (replies others : List Reply) → Runs old steps replies mid → accepted_in (steps ++ more) (replies ++ others) ≡ accepted_in steps replies ++ accepted_in more others
+accepted-append old mid [] more [] others one = refl
+accepted-append old mid (s ∷ ss) more (r ∷ rs) others one = ap (λ es. accepted_by s r ++ es) (accepted-append one.0 mid ss more rs others one.2) ∙ sym (append_assoc (accepted_by s r) (accepted_in ss rs) (accepted_in more others))
+accepted-append old mid [] more (r ∷ rs) others one = absurd one
+accepted-append old mid (s ∷ ss) more [] others one = absurd one
+
+-- a run of no step
+pub run_none : (s : DeskValue) → IsRunOf s [] s
+run_none s = record { steps = []; replies = []; runs = refl; accepts = refl }
+
+-- a run of one step
+pub run_one : (old new : DeskValue) (one : Step) (answer : Reply) → Steps old one answer new → IsRunOf old (accepted_by one answer) new
+run_one old new one answer is = record { steps = one ∷ []; replies = answer ∷ []; runs = (new, is, refl); accepts = append-nil (accepted_by one answer) }
+
+-- a run after another
+pub run_then : (old mid new : DeskValue) (es fs : List Event) → IsRunOf old es mid → IsRunOf mid fs new → IsRunOf old (es ++ fs) new
+run_then old mid new es fs one other = record {
+  steps = one.steps ++ other.steps;
+  replies = one.replies ++ other.replies;
+  runs = runs-append old mid new one.steps other.steps one.replies other.replies one.runs other.runs;
+  accepts = accepted-append old mid one.steps other.steps one.replies other.replies one.runs ∙ ap (λ xs. xs ++ accepted_in other.steps other.replies) one.accepts ∙ ap (λ ys. es ++ ys) other.accepts;
+}

@@ -6,7 +6,7 @@ use Rattle.net_data.specs.Network.{Network}
 use Rattle.net_data.specs.Edits.{changed, replay}
 use Rattle.dirty_sets.specs.Touch.{touches}
 use Rattle.dirty_sets.specs.Waiting.{Task}
-use Rattle.net_versions.specs.Versions.{VersionValue}
+use Rattle.net_versions.specs.Versions.{VersionValue, settled_version}
 use Rattle.desk_core.specs.declared.replies.Last.{Last}
 
 -- an open target: the number of the next version, and the destinations that wait for a result or are out
@@ -47,9 +47,9 @@ touched_by net (e ∷ es) x = touches net e x || touched_by (changed net e) es x
 abbrev pub to_settle : DeskValue → List ℕ
 to_settle s = filter (touched_by s.published.network s.pending) (map (λ (p : Plan). p.dest) (net_now s).plans)
 
--- the version that an open target becomes
+-- the version that an open target becomes: its tables are those of its network from scratch
 abbrev pub next_version : DeskValue → ℕ → VersionValue
-next_version s number = record { number = number; batch = events_to s number; network = net_at s number }
+next_version s number = settled_version number (events_to s number) (net_at s number)
 
 -- nobody's post
 abbrev pub no_post : Last
@@ -58,7 +58,7 @@ no_post = record { seq = 0; number = 0; event = None }
 -- a desk over a network: version 0, with nothing accepted
 abbrev pub new_desk : Network → DeskValue
 new_desk net = record {
-  published = record { number = 0; batch = []; network = net };
+  published = settled_version 0 [] net;
   pending = [];
   lasts = replicate 256 no_post;
   target = None;

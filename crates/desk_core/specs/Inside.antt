@@ -1,19 +1,13 @@
 -- What a desk keeps beside its state.
-use Rattle.std.specs.Prelude.{◌≡◌, ℕ, ◌<◌, ◌≤◌, ◌-◌, ◌^◌, Bool, true, false, List, Option, Some, None, drop, length}
+use Rattle.std.specs.Prelude.{◌≡◌, ℕ, ◌<◌, ◌≤◌, ◌-◌, ◌^◌, false, List, Option, Some, None, drop, length}
 use Rattle.std.specs.Option.{option_map_or}
 use Rattle.net_data.specs.declared.events.Event.{Event}
-use Rattle.net_data.specs.declared.events.Event.TheVariants as on
 use Rattle.net_data.specs.Network.{Network}
 use Rattle.excerpts.specs.Excerpt.{content_at}
 use Rattle.dirty_sets.specs.Touch.{IsTouchIndex}
 use Rattle.dirty_sets.specs.Marks.{Marked}
 use Rattle.desk_core.specs.Desk.{DeskValue, accepted, net_at, net_now, touched_by}
 use Rattle.desk_core.specs.Targets.{TargetValue}
-
--- a change of a link's marks
-abbrev pub is_link : Event → Bool
-is_link (on.Link id slc change) = true
-is_link _ = false
 
 -- the same index and marks, with other room
 pub record IsSameMarked (old new : Marked) : Type 0 where

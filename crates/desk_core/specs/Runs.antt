@@ -3,10 +3,9 @@ use Rattle.std.specs.Prelude.{◌≡◌, ℕ, ◌-◌, ◌≤◌, List, [], ◌�
 use Rattle.std.specs.Option.{MatchOption, option_map_or}
 use Rattle.net_data.specs.declared.events.Event.{Event}
 use Rattle.net_data.specs.Network.{Network}
-use Rattle.excerpts.specs.Excerpt.{table_at}
 use Rattle.work_units.specs.Work.{Work}
-use Rattle.net_versions.specs.Versions.{VersionValue, table_told}
-use Rattle.path_trace.specs.Traces.{trace_at}
+use Rattle.net_versions.specs.Versions.{VersionValue, IsSettledVersion, settled_tables}
+use Rattle.path_trace.specs.Traces.{trace_at, trace_kept}
 use Rattle.desk_core.specs.declared.replies.Posted.{Posted}
 use Rattle.desk_core.specs.declared.replies.Posted.TheVariants.{Taken}
 use Rattle.desk_core.specs.declared.replies.Opened.{Opened}
@@ -87,25 +86,51 @@ abbrev pub batch_of : DeskValue → List Event → Numbers → List Event
 batch_of start more numbers =
     option_map_or (λ before. drop (before - start.published.number) (events_up_to start more numbers.now)) numbers.before start.published.batch
 
--- a published version is the one of its number: its events are those since the version before, its network is that after the accepted events up to it, and
--- the table of each destination (statuses, choices, the link of each SLS, messages in force) and each trace are from scratch those of that network
+-- a published version is the one of its number: its events are those since the version before, its network is that after the accepted events up to it,
+-- what it keeps for each planned destination are the choices (class, members, status) of the table from scratch for that network, and the traces that these
+-- choices give are those from scratch
 pub record IsRightVersion (start : DeskValue) (more : List Event) (numbers : Numbers) (version : VersionValue) : Type 0 where
   pub number : version.number ≡ numbers.now
   pub batch : version.batch ≡ batch_of start more numbers
   pub network : version.network ≡ network_at start more numbers.now
-  pub tables : (x : ℕ) → table_told version x ≡ table_at (network_at start more numbers.now) x
-  pub traces : (y x s : ℕ) → trace_at version.network y x s ≡ trace_at (network_at start more numbers.now) y x s
+  pub tables : version.tables ≡ settled_tables (network_at start more numbers.now)
+  pub traces : (y x s : ℕ) → trace_kept version y x s ≡ trace_at (network_at start more numbers.now) y x s
 
 -- the numbers before a run
 abbrev pub first_numbers : DeskValue → Numbers
 first_numbers start = record { now = start.published.number; before = None }
 
--- at every point of a run the published version is the one of its number
-abbrev pub IsRightThroughout : DeskValue → List Step → List Reply → Type 0
-IsRightThroughout start steps replies =
-    (k : ℕ) (mid : DeskValue) → Runs start (take k steps) (take k replies) mid
-    → IsRightVersion start (accepted_in (take k steps) (take k replies)) (numbers_after (first_numbers start) (take k replies)) mid.published
+-- after steps with these replies the published version of a desk is the one of its number
+abbrev pub IsRightAfter : DeskValue → List Step → List Reply → DeskValue → Type 0
+IsRightAfter start steps replies s =
+    IsRightVersion start (accepted_in steps replies) (numbers_after (first_numbers start) replies) s.published
+
+-- a run goes on after steps that were done: each step gives its reply, and then the published version is the one of its number
+abbrev pub GoesOnRight : DeskValue → List Step → List Reply → DeskValue → List Step → List Reply → DeskValue → Type 0
+GoesOnRight start done told old [] [] new = new ≡ old
+GoesOnRight start done told old (step ∷ steps) (reply ∷ replies) new =
+    (mid : DeskValue) × Steps old step reply mid × IsRightAfter start (done ++ step ∷ []) (told ++ reply ∷ []) mid
+    × GoesOnRight start (done ++ step ∷ []) (told ++ reply ∷ []) mid steps replies new
+GoesOnRight start done told old [] (reply ∷ replies) new = ⊥
+GoesOnRight start done told old (step ∷ steps) [] new = ⊥
+
+-- the steps give these replies, and at every point of the run the published version is the one of its number
+pub record IsRightThroughout (start : DeskValue) (steps : List Step) (replies : List Reply) (end : DeskValue) : Type 0 where
+  pub first : IsRightAfter start [] [] start
+  pub rest : GoesOnRight start [] [] start steps replies end
+
+-- some steps lead from a desk to another, and accept these events
+pub record IsRunOf (old : DeskValue) (events : List Event) (new : DeskValue) : Type 0 where
+  pub steps : List Step
+  pub replies : List Reply
+  pub runs : Runs old steps replies new
+  pub accepts : accepted_in steps replies ≡ events
 
 -- an open target is not behind the published version, and not ahead of the accepted events
-abbrev pub IsSteadyDesk : DeskValue → Type 0
-IsSteadyDesk s = MatchOption s.target (Unit {0}) (λ t. (s.published.number ≤ t.number) × (t.number ≤ accepted s))
+abbrev pub IsTargetAhead : DeskValue → Type 0
+IsTargetAhead s = MatchOption s.target (Unit {0}) (λ t. (s.published.number ≤ t.number) × (t.number ≤ accepted s))
+
+-- what every desk keeps: its target is ahead, and what the published version keeps is what its network gives
+pub record IsSteadyDesk (s : DeskValue) : Type 0 where
+  pub ahead : IsTargetAhead s
+  pub version : IsSettledVersion s.published

@@ -2,14 +2,15 @@
 
 ghost use Rattle.std.specs.Prelude.{◌≡◌, ◌≢◌, ◌↔◌, IsTrue, ◌<◌, ◌≤◌, ◌+◌, ◌-◌, ◌^◌, [], true, None, Some, Err, OnOk, OnErr, IfOk, IfErr, IsOk, length, replicate, slice_set, take};
 ghost use Rattle.std.specs.Arc.{arc_value};
+ghost use Rattle.net_data.specs.Kinds.{is_link};
 ghost use Rattle.net_data.specs.Edits.{refusal_of};
+ghost use Rattle.net_versions.specs.Versions.{settled_version};
 ghost use Rattle.desk_core.specs.Desk.{accepted, net_now, new_desk, no_post};
 ghost use Rattle.desk_core.specs.Steps.{Abandons, Gives, IsNext, IsUnready, Opens, Posts, Publishes, Repeats, Takes, tasks_left, out_refusal, post_refusal, publish_refusal, with_post, with_version};
-ghost use Rattle.desk_core.specs.Inside.{is_link};
 
 mod reading;
 
-use crate::following::{copy_of, drop_front, follow_with_copy};
+use crate::following::{drop_front, follow_with_copy};
 use crate::opening::new_target;
 use crate::replies::{Last, Opened, Posted, Refusal};
 use crate::targets::Target;
@@ -95,7 +96,7 @@ fn copies(alloc: Global, events: &[Event]) -> Result<Vec<Event>, AllocError>
 {
     let mut list = Vec::with_capacity(alloc, events.len())?;
     for event in events {
-        list.push(copy_of(alloc, event)?)?;
+        list.push(event.copy(alloc)?)?;
     }
     Ok(list)
 }
@@ -110,7 +111,7 @@ fn new_version(
     requires none { target.now.tasks ≡ [] }
     requires after { published.now.number ≤ target.now.number }
     requires within { target.now.number - published.now.number ≤ length pending.now }
-    ensures { IfOk result (λ v. arc_value v ≡ record { number = target.now.number; batch = take (target.now.number - published.now.number) pending.now; network = target.now.network }) }
+    ensures { IfOk result (λ v. arc_value v ≡ settled_version target.now.number (take (target.now.number - published.now.number) pending.now) target.now.network) }
 {
     let count = (target.number() - published.number()) as usize;
     let batch = copies(alloc, &pending[..count])?;
@@ -121,7 +122,7 @@ fn new_version(
 
 /// The first version of a network.
 fn opening_version(alloc: Global, net: Net) -> Result<Arc<Version>, AllocError>
-    ensures { IfOk result (λ v. arc_value v ≡ record { number = 0; batch = []; network = net }) }
+    ensures { IfOk result (λ v. arc_value v ≡ settled_version 0 [] net) }
 {
     let version = Version::opening(alloc, net)?;
     Ok(Arc::new(alloc, version)?)
@@ -139,7 +140,7 @@ impl Desk {
 
     /// A desk over version 0 of a network, with nothing accepted.
     fn fresh(alloc: Global, published: Arc<Version>, latest: Net) -> Result<Desk, AllocError>
-        requires { arc_value published ≡ record { number = 0; batch = []; network = latest } }
+        requires { arc_value published ≡ settled_version 0 [] latest }
         ensures { IfOk result (λ desk. desk ≡ new_desk latest) }
     {
         let touched = Touched::new(alloc, &latest)?;
@@ -159,6 +160,7 @@ impl Desk {
     pub fn reserve(&mut self, n: u32) -> Result<(), AllocError>
         requires { n ≤ 65536 }
         ensures ok { OnOk result ((n ≤ self.new.spare) × (self.new ≡ record self.old { spare = self.new.spare })) }
+        ensures more { self.old.spare ≤ self.new.spare }
         ensures err { OnErr result (self.new ≡ self.old) }
     {
         if n > self.spare {

@@ -2,27 +2,17 @@
 
 ghost use Rattle.std.specs.Prelude.{◌≡◌, ◌<◌, ◌≤◌, ◌+◌, true, None, IfOk, IsOk, OnOk, OnErr, length, drop};
 ghost use Rattle.std.specs.Vec.{vec_len, vec_capacity};
+ghost use Rattle.net_data.specs.Kinds.{is_link};
 ghost use Rattle.net_data.specs.Edits.{changed, refusal_of};
 ghost use Rattle.dirty_sets.specs.Touch.{IsTouchIndex};
 ghost use Rattle.dirty_sets.specs.Marks.{IsNoted};
 ghost use Rattle.dirty_sets.specs.Touched.{marks_of};
-ghost use Rattle.desk_core.specs.Inside.{is_link, IsSameMarked};
+ghost use Rattle.desk_core.specs.Inside.{IsSameMarked};
 
 use dirty_sets::Touched;
 use link_state::LinkChange;
 use net_data::{Event, Net};
 use std::alloc::{AllocError, Global};
-
-/// A copy of an event. It takes no memory for a change of a link.
-pub(crate) fn copy_of(alloc: Global, event: &Event) -> Result<Event, AllocError>
-    ensures copy { IfOk result (λ e. e ≡ event.now) }
-    ensures no_memory { is_link event.now ≡ true → IsOk result }
-{
-    match event {
-        Event::Link(id, slc, change) => Ok(Event::Link(*id, *slc, *change)),
-        other => other.copy(alloc),
-    }
-}
 
 /// Applies an accepted change of a link. It takes no memory.
 fn follow_link(
@@ -120,7 +110,7 @@ fn copy_with_room(
     ensures no_memory { is_link event.now ≡ true → 0 < spare → IsOk result }
 {
     make_room(pending, spare)?;
-    copy_of(alloc, event)
+    event.copy(alloc)
 }
 
 /// Applies an accepted event, and gives a copy of it and room for it among those that are pending. Memory first, so that a

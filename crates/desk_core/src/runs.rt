@@ -49,11 +49,11 @@ fn run_all(alloc: Global, desk: Desk, steps: Vec<Step>, replies: Vec<Reply>) -> 
 /// replies was refused: then none was done.
 ///
 /// At every point of the list the published version is the one of its number: its network is the one after the accepted
-/// events up to that number, and what it tells of each destination is what the profile gives for that network from scratch.
+/// events up to that number, and what it keeps of each destination is what the profile gives for that network from scratch.
 pub fn run(alloc: Global, desk: Desk, steps: Vec<Step>) -> (Desk, Vec<Reply>, Vec<Step>)
     ensures steps { steps.items ≡ take (length result.1.items) steps.items ++ result.2.items }
     ensures run { Runs desk (take (length result.1.items) steps.items) result.1.items result.0 }
-    ensures right { IsRightThroughout desk (take (length result.1.items) steps.items) result.1.items }
+    ensures right { IsRightThroughout desk (take (length result.1.items) steps.items) result.1.items result.0 }
 {
     desk.steady();
     match Vec::with_capacity(alloc, steps.len()) {

@@ -5,9 +5,9 @@ ghost use Rattle.std.specs.List.{AllByRecursion};
 ghost use Rattle.std.specs.Option.{MatchOption};
 ghost use Rattle.net_items.specs.Keyed.{IsRising, IsFoundAt, IsGapAt};
 ghost use Rattle.excerpts.specs.Excerpt.{content_at, content_of, excerpt_at};
-ghost use Rattle.transfer_state.specs.Routing.{RoutingSlotValue};
+ghost use Rattle.transfer_state.specs.Routing.{RoutingSlotValue, settled_routing};
 ghost use Rattle.dirty_sets.specs.Waiting.{first_waiting, taken, is_out as out_among, least, out, put_last, waiting, without_task};
-ghost use Rattle.net_versions.specs.Versions.{excerpts};
+ghost use Rattle.net_versions.specs.Versions.{settled_routings};
 ghost use Rattle.desk_core.specs.Targets.{AreFilled};
 
 use crate::replies::Refusal;
@@ -50,7 +50,7 @@ fn position_of_slot(slots: &[RoutingSlot], dest: PointCode) -> Result<usize, usi
 /// The routing that has come to a place, shared.
 fn routing_of(slot: &RoutingSlot) -> Result<Routing, AllocError>
     requires { slot.now.settled ≡ true }
-    ensures { IfOk result (λ r. r ≡ slot.now.excerpt) }
+    ensures { IfOk result (λ r. r ≡ settled_routing slot.now.excerpt) }
 {
     match slot.routing()? {
         Some(routing) => Ok(routing),
@@ -61,7 +61,7 @@ fn routing_of(slot: &RoutingSlot) -> Result<Routing, AllocError>
 /// The routings that have come to all places, shared.
 fn all_routings(alloc: Global, slots: &[RoutingSlot]) -> Result<Vec<Routing>, AllocError>
     requires { AllByRecursion (λ s. s.settled ≡ true) slots.now }
-    ensures { IfOk result (λ v. v.items ≡ map (λ s. s.excerpt) slots.now) }
+    ensures { IfOk result (λ v. v.items ≡ map (λ s. settled_routing s.excerpt) slots.now) }
 {
     let mut routings = Vec::with_capacity(alloc, slots.len())?;
     for i in 0..slots.len() {
@@ -179,7 +179,7 @@ impl Target {
     /// The settled routing of each planned destination, if all have come. It fails only if memory is refused.
     pub(crate) fn routings(&self, alloc: Global) -> Result<Vec<Routing>, AllocError>
         requires { self.now.tasks ≡ [] }
-        ensures { IfOk result (λ v. v.items ≡ excerpts self.now.network) }
+        ensures { IfOk result (λ v. v.items ≡ settled_routings self.now.network) }
     {
         all_routings(alloc, self.slots.as_slice())
     }

@@ -15,4 +15,6 @@ mod step_tests;
 #[cfg(test)]
 mod sync_tests;
 #[cfg(test)]
+mod table_tests;
+#[cfg(test)]
 mod texts;

@@ -3,6 +3,11 @@ use Rattle.std.specs.Prelude.{Bool, true, false}
 use Rattle.net_data.specs.declared.events.Event.{Event}
 use Rattle.net_data.specs.declared.events.Event.TheVariants as on
 
+-- a change of a link's marks
+abbrev pub is_link : Event → Bool
+is_link (on.Link id slc change) = true
+is_link _ = false
+
 -- links: their marks, new ones and those that go
 abbrev pub is_of_links : Event → Bool
 is_of_links (on.Link id slc change) = true

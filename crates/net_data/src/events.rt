@@ -1,7 +1,7 @@
 //! Edits and their refusals.
 
-ghost use Rattle.std.specs.Prelude.{◌≡◌, ◌↔◌, true, IsTrue, IfOk};
-ghost use Rattle.net_data.specs.Kinds.{is_of_links, is_of_points, is_of_sets, is_of_plans};
+ghost use Rattle.std.specs.Prelude.{◌≡◌, ◌↔◌, true, IsTrue, IfOk, IsOk};
+ghost use Rattle.net_data.specs.Kinds.{is_link, is_of_links, is_of_points, is_of_sets, is_of_plans};
 
 use link_state::LinkChange;
 use net_items::copies::{copy_plan, copy_slcs};
@@ -86,9 +86,10 @@ pub enum Refusal {
 }
 
 impl Event {
-    /// A copy. It takes no memory for an event without a list.
+    /// A copy. It takes no memory for an event without a list, a change of a link among them.
     pub fn copy(&self, alloc: Global) -> Result<Event, AllocError>
-        ensures { IfOk result (λ e. e ≡ self.now) }
+        ensures copy { IfOk result (λ e. e ≡ self.now) }
+        ensures no_memory { is_link self.now ≡ true → IsOk result }
     {
         Ok(match self {
             Event::Link(id, slc, change) => Event::Link(*id, *slc, *change),

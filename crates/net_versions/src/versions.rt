@@ -1,15 +1,17 @@
 //! The version.
 
-ghost use Rattle.std.specs.Prelude.{◌≡◌, ◌<◌, [], IfOk, IfErr, length, slice_index_or};
+ghost use Rattle.std.specs.Prelude.{◌≡◌, ◌<◌, [], IfOk, IfErr, length, map, slice_index_or};
 ghost use Rattle.std.specs.Option.{option_copied};
 ghost use Rattle.net_items.specs.declared.items.Plan.{Plan};
 ghost use Rattle.net_items.specs.Keyed.{IsRising, IsFoundAt, IsGapAt};
-ghost use Rattle.excerpts.specs.Excerpt.{excerpt_at, excerpt_in};
-ghost use Rattle.net_versions.specs.Versions.{excerpts as all_excerpts};
+ghost use Rattle.excerpts.specs.Excerpt.{excerpt_in, table_at};
+ghost use Rattle.transfer_state.specs.Routing.{settled_routing};
+ghost use Rattle.net_versions.specs.Versions.{IsSettledVersion, routing_at, settled_routings, settled_version};
 
 use excerpts::{Excerpt, Frozen};
 use net_data::{Event, Net};
 use point_codes::PointCode;
+use profile::Table;
 use std::alloc::{AllocError, Global};
 use std::marker::Model;
 use transfer_state::Routing;
@@ -24,29 +26,41 @@ pub struct Version {
 }
 
 impl Model for Version {
-    ghost use Rattle.std.specs.Prelude.{◌≡◌};
-    ghost use Rattle.net_versions.specs.Versions.{VersionValue, excerpts};
+    ghost use Rattle.std.specs.Prelude.{◌≡◌, map};
+    ghost use Rattle.transfer_state.specs.Routing.{kept_table};
+    ghost use Rattle.net_versions.specs.Versions.{VersionValue, settled_routings};
 
     ghost Value = { VersionValue };
 
-    ghost view = { λ v. record { number = v.number; batch = v.batch.items; network = v.net } };
+    ghost view = { λ v. record { number = v.number; batch = v.batch.items; network = v.net; tables = map kept_table v.routings.items } };
 
-    ghost invariant = { λ v. v.routings.items ≡ excerpts v.net };
+    ghost invariant = { λ v. v.routings.items ≡ settled_routings v.net };
 }
 
 /// The place of the routing towards a destination, or where it would go.
 fn position_of_routing(routings: &[Routing], dest: PointCode) -> Result<usize, usize>
-    requires { IsRising (λ x. x.plan.dest) routings.now }
-    ensures found { IfOk result (IsFoundAt (λ x. x.plan.dest) dest routings.now) }
-    ensures absent { IfErr result (IsGapAt (λ x. x.plan.dest) dest routings.now) }
+    requires { IsRising (λ r. r.excerpt.plan.dest) routings.now }
+    ensures found { IfOk result (IsFoundAt (λ r. r.excerpt.plan.dest) dest routings.now) }
+    ensures absent { IfErr result (IsGapAt (λ r. r.excerpt.plan.dest) dest routings.now) }
 {
     routings.binary_search_by_key(&dest, |r| r.dest())
+}
+
+/// The destinations of some routings.
+fn dests_of(alloc: Global, routings: &[Routing]) -> Result<Vec<PointCode>, AllocError>
+    ensures { IfOk result (λ dests. dests.items ≡ map (λ r. r.excerpt.plan.dest) routings.now) }
+{
+    let mut dests = Vec::with_capacity(alloc, routings.len())?;
+    for routing in routings {
+        dests.push(routing.dest())?;
+    }
+    Ok(dests)
 }
 
 /// The settled routing of the plan in a place of a network's plans.
 fn routing_in(alloc: Global, net: &Frozen, position: usize) -> Result<Routing, AllocError>
     requires { position < length net.now.plans }
-    ensures { IfOk result (λ r. (d : Plan) → r ≡ excerpt_in net.now (slice_index_or net.now.plans position d)) }
+    ensures { IfOk result (λ r. (d : Plan) → r ≡ settled_routing (excerpt_in net.now (slice_index_or net.now.plans position d))) }
 {
     net.validity();
     let dest = net.net().plans().at(position).dest;
@@ -62,7 +76,7 @@ fn routing_in(alloc: Global, net: &Frozen, position: usize) -> Result<Routing, A
 
 /// The settled routing of each planned destination of a network, in rising code.
 fn all_routings(alloc: Global, net: &Frozen) -> Result<Vec<Routing>, AllocError>
-    ensures { IfOk result (λ v. v.items ≡ all_excerpts net.now) }
+    ensures { IfOk result (λ v. v.items ≡ settled_routings net.now) }
 {
     let plans = net.net().plans();
     let mut routings = Vec::with_capacity(alloc, plans.len())?;
@@ -75,7 +89,7 @@ fn all_routings(alloc: Global, net: &Frozen) -> Result<Vec<Routing>, AllocError>
 impl Version {
     /// Version 0 of a network, with no events.
     pub fn opening(alloc: Global, net: Net) -> Result<Version, AllocError>
-        ensures { IfOk result (λ v. v ≡ record { number = 0; batch = []; network = net }) }
+        ensures { IfOk result (λ v. v ≡ settled_version 0 [] net) }
     {
         let net = Frozen::new(alloc, net)?;
         let routings = all_routings(alloc, &net)?;
@@ -90,8 +104,8 @@ impl Version {
     /// The version of that number, with the events since the one before, the network, and the settled routing of each
     /// planned destination.
     pub fn new(number: u64, batch: Vec<Event>, net: Frozen, routings: Vec<Routing>) -> Version
-        requires { routings.items ≡ all_excerpts net }
-        ensures { result ≡ record { number = number; batch = batch.items; network = net } }
+        requires { routings.items ≡ settled_routings net }
+        ensures { result ≡ settled_version number batch.items net }
     {
         Version {
             number,
@@ -122,21 +136,48 @@ impl Version {
         &self.net
     }
 
+    /// The fact that the type keeps: for each planned destination, and for no other, it keeps what its own network gives
+    /// from scratch. It does nothing when it runs.
+    pub fn validity(&self)
+        ensures { IsSettledVersion self.now }
+    {
+        // The proof reads the type's invariant from this.
+        let _number = self.number;
+    }
+
     /// The settled routing of each planned destination, in rising code.
     pub fn routings(&self) -> &[Routing]
-        ensures { result.now ≡ all_excerpts self.now.network }
+        ensures { result.now ≡ settled_routings self.now.network }
     {
         self.routings.as_slice()
     }
 
+    /// The destinations of which it keeps a routing, in rising code.
+    pub fn dests(&self, alloc: Global) -> Result<Vec<PointCode>, AllocError>
+        ensures { IfOk result (λ dests. dests.items ≡ map (λ t. t.dest) self.now.tables) }
+    {
+        dests_of(alloc, self.routings.as_slice())
+    }
+
     /// The settled routing towards a destination, if it is planned.
     pub fn routing(&self, dest: PointCode) -> Option<&Routing>
-        ensures { option_copied result ≡ excerpt_at self.now.network dest }
+        ensures { option_copied result ≡ routing_at self.now.network dest }
     {
         self.net.validity();
         match position_of_routing(self.routings.as_slice(), dest) {
             Ok(at) => Some(&self.routings[at]),
             Err(_) => None,
+        }
+    }
+
+    /// The whole table of a destination, made from what is kept of it, if it is planned (own, after Q.704 clauses 2.3 and
+    /// 13.2 to 13.4).
+    pub fn table(&self, alloc: Global, dest: PointCode) -> Result<Option<Table>, AllocError>
+        ensures { IfOk result (λ t. t ≡ table_at self.now.network dest) }
+    {
+        match self.routing(dest) {
+            Some(routing) => Ok(Some(routing.table(alloc)?)),
+            None => Ok(None),
         }
     }
 }

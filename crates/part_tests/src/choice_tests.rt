@@ -3,6 +3,7 @@
 ghost use Rattle.std.specs.Prelude.{◌≤◌, All, IfOk, length};
 
 use crate::parts::code;
+use net_items::lookups::find_row;
 use net_items::{Classes, Row, Vias};
 use point_codes::PointCode;
 use route_choice::{Choice, Far, choose, direct};
@@ -74,5 +75,13 @@ fn uses_the_mate(rt: HostRuntime) -> Result<(), Fail> {
     };
     let chosen = choose(&row, &fars, Some((mate, Far::Restricted)), true);
     assert_eq!(rt; chosen, wanted);
+    Ok(())
+}
+
+#[test]
+fn finds_the_row_of_a_point(rt: HostRuntime) -> Result<(), Fail> {
+    let rows = [new_row(rt.alloc())?];
+    assert!(rt; find_row(&rows, code("0-0-1")?).is_some());
+    assert!(rt; find_row(&rows, code("0-0-2")?).is_none());
     Ok(())
 }

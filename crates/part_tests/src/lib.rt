@@ -13,6 +13,8 @@ mod copy_tests;
 #[cfg(test)]
 mod link_set_tests;
 #[cfg(test)]
+mod mark_tests;
+#[cfg(test)]
 mod parts;
 #[cfg(test)]
 mod share_tests;

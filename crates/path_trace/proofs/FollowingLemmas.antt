@@ -6,7 +6,7 @@ use Rattle.profile.specs.declared.hops.Hop.{Hop}
 use Rattle.profile.specs.declared.tables.LinkRef.{LinkRef}
 use Rattle.profile.specs.Status.{Source, source_row, choice}
 use Rattle.profile.specs.Whole.{carrier, link_of}
-use Rattle.profile.specs.Traces.{hops_within, hop_of}
+use Rattle.profile.specs.Traces.{hops_along, hops_within, hop_of}
 use Rattle.profile.proofs.HopLemmas.{hops_end, hops_without_row, hops_without_via, hops_without_link, hops_more}
 
 -- those hops before others
@@ -34,7 +34,7 @@ module _ (src : Source) where
 
   -- the hops of a point that isn't the destination are its hop and those that follow
   hops_by : (n y s : ℕ) → eqb y src.dest ≡ false → hops_within src (suc n) y s ≡ next n s (hop_of src y s)
-  unfolding hops_within
+  unfolding hops_along
   hops_by n y s e = rw e refl
 
   -- with no hop there are none

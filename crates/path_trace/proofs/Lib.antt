@@ -1,2 +1,3 @@
 pub mod FollowingLemmas
+pub mod KeptLemmas
 pub mod TellingLemmas

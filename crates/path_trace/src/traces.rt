@@ -5,7 +5,7 @@ ghost use Rattle.net_items.specs.declared.items.Plan.{Plan};
 ghost use Rattle.net_items.specs.Lookups.{plan_at};
 ghost use Rattle.profile.specs.Traces.{hops_in, hops_within};
 ghost use Rattle.excerpts.specs.Excerpt.{network_source, source_of};
-ghost use Rattle.path_trace.specs.Traces.{trace_at, trace_by as trace_from, IsTraceAnswer, IsTold};
+ghost use Rattle.path_trace.specs.Traces.{trace_at, trace_by as trace_from, trace_kept, IsTraceAnswer, IsTold};
 
 use crate::faults::TraceFault;
 use net_versions::Version;
@@ -24,7 +24,7 @@ fn follow(
     rank: u8,
 ) -> Result<Trace, AllocError>
     requires { s < 16 }
-    ensures { IfOk result (λ trace. hops_in trace ≡ hops_within (source_of routing.now) (2 * rank) start s) }
+    ensures { IfOk result (λ trace. hops_in trace ≡ hops_within (source_of routing.now.excerpt) (2 * rank) start s) }
 {
     let dest = routing.dest();
     let mut hops = Vec::new(alloc);
@@ -48,7 +48,7 @@ fn follow(
 /// The trace of a signalling link selection from a point, by a routing.
 fn trace_by(alloc: Global, routing: &Routing, point: PointCode, s: u8) -> Result<Trace, TraceFault>
     requires { s < 16 }
-    ensures { IsTraceAnswer (trace_from routing.now point s) result }
+    ensures { IsTraceAnswer (trace_from routing.now.excerpt point s) result }
 {
     let rank = match routing.excerpt().row(point) {
         Some(row) => row.rank,
@@ -64,7 +64,8 @@ fn trace_by(alloc: Global, routing: &Routing, point: PointCode, s: u8) -> Result
 /// links that it follows, or that it stops (Q.704 clause 2.3). It is refused if the destination has no plan, and then
 /// if the point has no row; out of memory comes last.
 ///
-/// - `answer`: the trace is the profile's.
+/// - `answer`: the trace is the profile's, for the version's network.
+/// - `kept`: it is the one that the choices kept by the version give.
 /// - `law`: if it stops the status of the point is prohibited. Else its hops lead from the point to the destination,
 ///   and are at most twice the rank.
 pub fn trace(
@@ -76,8 +77,11 @@ pub fn trace(
 ) -> Result<Trace, TraceFault>
     requires { s < 16 }
     ensures answer { IsTraceAnswer (trace_at version.now.network point dest s) result }
+    ensures kept { IsTraceAnswer (trace_kept version.now point dest s) result }
     ensures law { IfOk result (IsTold version.now.network point dest) }
 {
+    // The proof reads from this that what is kept is right.
+    version.validity();
     let routing = match version.routing(dest) {
         Some(routing) => routing,
         None => return Err(TraceFault::NoPlan),

@@ -18,7 +18,7 @@ use Rattle.route_choice.specs.Routes.{Offer, goodness, same_far, best, has_via, 
 use Rattle.profile.specs.Status.{Source, source_row, source_rank, offer, offers, mate_offer, choice, status}
 use Rattle.profile.specs.Valid.{IsVia, IsValidRow, IsValidSource, HasMate, HasFewLinks}
 use Rattle.profile.specs.Whole.{size_of, carrier, link_of}
-use Rattle.profile.specs.Traces.{hops_within, trace_of, Leads, IsTrace}
+use Rattle.profile.specs.Traces.{hops_along, hops_within, trace_of, Leads, IsTrace}
 use Rattle.profile.proofs.UnfoldingLemmas.{row_valid, via_lower, status_is}
 use Rattle.profile.proofs.ChoiceLemmas.{best_offered, direct_cases, direct_reached, choose_cases}
 use Rattle.profile.proofs.SettledLemmas.{status_of_dest, status_of_row, planned_there, mate_offer_is, mates_apart}
@@ -69,29 +69,29 @@ size_is row position low =
 
 module _ (src : Source) where
   pub hops_at_dest : (n y s : ℕ) → eqb y src.dest ≡ true → hops_within src n y s ≡ Some []
-  unfolding hops_within
+  unfolding hops_along
   hops_at_dest zero y s e = rw e refl
   hops_at_dest (suc n) y s e = rw e refl
 
   pub hops_end : (y s : ℕ) → eqb y src.dest ≡ false → hops_within src zero y s ≡ None
-  unfolding hops_within
+  unfolding hops_along
   hops_end y s e = rw e refl
 
   pub hops_without_row : (n y s : ℕ) → eqb y src.dest ≡ false → source_row src y ≡ None → hops_within src (suc n) y s ≡ None
-  unfolding hops_within
+  unfolding hops_along
   hops_without_row n y s e none = rw (e, none) refl
 
   pub hops_without_via : (n y s : ℕ) (row : Row) → eqb y src.dest ≡ false → source_row src y ≡ Some row → carrier row (choice src row) s ≡ None → hops_within src (suc n) y s ≡ None
-  unfolding hops_within
+  unfolding hops_along
   hops_without_via n y s row e planned none = rw (e, planned, none) refl
 
   pub hops_without_link : (n y s : ℕ) (row : Row) (z : ℕ) → eqb y src.dest ≡ false → source_row src y ≡ Some row → carrier row (choice src row) s ≡ Some z → link_of src row (choice src row) s ≡ None → hops_within src (suc n) y s ≡ None
-  unfolding hops_within
+  unfolding hops_along
   hops_without_link n y s row z e planned carried none = let l = rw carried at none in rw (e, planned, carried, l) refl
 
   pub hops_more : (n y s : ℕ) (row : Row) (z : ℕ) (link : LinkRef) → eqb y src.dest ≡ false → source_row src y ≡ Some row → carrier row (choice src row) s ≡ Some z → link_of src row (choice src row) s ≡ Some link
       → hops_within src (suc n) y s ≡ option_map (λ rest. record { from = y; link = link; to = z } ∷ rest) (hops_within src n z s)
-  unfolding hops_within
+  unfolding hops_along
   hops_more n y s row z link e planned carried linked = let l = rw carried at linked in rw (e, planned, carried, l) refl
 
 -- where a hop goes: to a point that isn't prohibited and needs fewer hops

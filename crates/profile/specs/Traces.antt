@@ -15,12 +15,16 @@ hop_of src y s =
     option_map (λ link. record { from = y; link = link; to = z })
     (link_of src row (choice src row) s)) (carrier row (choice src row) s)) (source_row src y)
 
+-- the hops from a point to a destination in at most n, where `next` tells the hop of each point: None if they stop
+unfoldable pub hops_along : (ℕ → Option Hop) → ℕ → ℕ → ℕ → Option (List Hop)
+hops_along next dest zero y = if y == dest then Some [] else None
+hops_along next dest (suc n) y =
+    if y == dest then Some []
+    else option_and_then (λ (hop : Hop). option_map (λ rest. hop ∷ rest) (hops_along next dest n hop.to)) (next y)
+
 -- the hops of an SLS in at most n: None if it stops
-unfoldable pub hops_within : Source → ℕ → ℕ → ℕ → Option (List Hop)
-hops_within src zero y s = if y == src.dest then Some [] else None
-hops_within src (suc n) y s =
-    if y == src.dest then Some []
-    else option_and_then (λ (hop : Hop). option_map (λ rest. hop ∷ rest) (hops_within src n hop.to s)) (hop_of src y s)
+abbrev pub hops_within : Source → ℕ → ℕ → ℕ → Option (List Hop)
+hops_within src n y s = hops_along (λ z. hop_of src z s) src.dest n y
 
 -- the hops of an SLS: twice the rank suffices
 abbrev pub trace_of : Source → ℕ → ℕ → Option (List Hop)

@@ -3,7 +3,8 @@
 //! 1. `route_desk run NET` loads the network of the file NET, reads a script from standard input and answers it on
 //!    standard output. `route_desk run -` reads the network text from standard input too, up to the line `%%`. With
 //!    `--save FILE` the network after all accepted events is written to that file after a script that ended without a
-//!    fault; a file that was there stays as it was if that fails.
+//!    fault; a file that was there stays as it was if that fails. If FILE is a symbolic link, the file that it leads to
+//!    is written, and the link stays.
 //! 2. `route_desk play NET STEPS` does the same with the script of the file STEPS, which is opened once the network is
 //!    loaded.
 //! 3. `route_desk check NET` works out the tables of all planned destinations of that network, by as many threads as
@@ -12,9 +13,10 @@
 //! 4. It exits with 0 if the script was answered to its end: a refused line is no fault of a run; or if all
 //!    tables are right.
 //! 5. It exits with 1 if a table is wrong, if the network isn't loaded, or where memory, reading or writing ended
-//!    the run; in all but the first of these standard error has one line, `route_desk: ` and the fault.
-//! 6. It exits with 2 where the command line isn't read, with `clap`'s text on standard error. Help is printed on
-//!    standard output, with 0.
+//!    the run; in all but the first of these standard error has one line, `route_desk: ` and the fault. Memory that is
+//!    wanting while the arguments are fetched is such a fault.
+//! 6. It exits with 2 where the command line isn't read, with `clap`'s text on standard error, or one line if an argument
+//!    isn't UTF-8. Help is printed on standard output, with 0.
 //!
 //! Stands on `net_saving`, `console`, `command_line`, `clap`. Nothing else changes with it.
 #![tactic(auto)]
@@ -28,9 +30,16 @@ use excerpts::Frozen;
 use net_data::Net;
 use net_saving::save;
 use std::alloc::{AllocError, Global};
+use std::io::ErrorKind;
 use std::process::ExitCode;
 use std::thread::Threads;
 use std::{env, fs, io};
+
+/// The words of the command line, the program's name first. It fails with `InvalidData` where one isn't UTF-8, and with
+/// `OutOfMemory`.
+fn fetch_words(rt: &HostRuntime) -> io::Result<Vec<String>> {
+    Ok(env::args(rt)?.collect(rt.alloc())?)
+}
 
 /// The words of a command line as texts.
 fn texts(alloc: Global, words: &[String]) -> Result<Vec<&str>, AllocError> {
@@ -93,10 +102,18 @@ fn run_net(rt: &HostRuntime, net: &str) -> Result<ScriptEnd, Fault> {
     run_file(rt, net)
 }
 
-/// Whether a name is that of something else than a file, as a device is.
+/// Whether a name is that of something else than a file, or leads to it, as to a device.
 fn is_no_file(rt: &HostRuntime, name: &str) -> bool {
     match fs::metadata(rt, name) {
         Ok(found) => !found.is_file(),
+        Err(_) => false,
+    }
+}
+
+/// Whether a name is that of a symbolic link.
+fn is_link(rt: &HostRuntime, name: &str) -> bool {
+    match fs::symlink_metadata(rt, name) {
+        Ok(found) => found.is_symlink(),
         Err(_) => false,
     }
 }
@@ -110,11 +127,8 @@ fn write_file(rt: &HostRuntime, name: &str, text: &str) -> Result<(), Fault> {
 }
 
 /// Puts a text in the place of a file. It is written beside the file first, so that a file that was there stays as it was
-/// where writing fails. What is no file, as a device, is written straight away.
+/// where writing fails.
 fn replace_file(rt: &HostRuntime, name: &str, text: &str) -> Result<(), Fault> {
-    if is_no_file(rt, name) {
-        return write_file(rt, name, text);
-    }
     let beside = match format!(in rt.alloc(); "{name}.new") {
         Ok(beside) => beside,
         Err(_) => return Err(Fault::OutOfMemory),
@@ -130,10 +144,34 @@ fn replace_file(rt: &HostRuntime, name: &str, text: &str) -> Result<(), Fault> {
     Ok(())
 }
 
+/// Puts a text in the place of the file that a link leads to. One that leads to none makes it.
+fn replace_linked(rt: &HostRuntime, link: &str, text: &str) -> Result<(), Fault> {
+    match fs::canonicalize(rt, link) {
+        Ok(file) => replace_file(rt, file.as_str(), text),
+        Err(error) => match error.kind() {
+            ErrorKind::NotFound => write_file(rt, link, text),
+            ErrorKind::OutOfMemory => Err(Fault::OutOfMemory),
+            _ => Err(Fault::Write),
+        },
+    }
+}
+
+/// Puts a text in the place of a file, or of the file that a link leads to. What is no file, as a device, is written
+/// straight away.
+fn save_text(rt: &HostRuntime, name: &str, text: &str) -> Result<(), Fault> {
+    if is_no_file(rt, name) {
+        return write_file(rt, name, text);
+    }
+    if is_link(rt, name) {
+        return replace_linked(rt, name, text);
+    }
+    replace_file(rt, name, text)
+}
+
 /// Writes the network to a file.
 fn save_net(rt: &HostRuntime, net: &Net, name: &str) -> Result<(), Fault> {
     match save(rt.alloc(), net) {
-        Ok(text) => replace_file(rt, name, text.as_str()),
+        Ok(text) => save_text(rt, name, text.as_str()),
         Err(_) => Err(Fault::OutOfMemory),
     }
 }
@@ -206,11 +244,34 @@ fn obey(rt: &HostRuntime, threads: &(impl Threads + Sync), order: Order) -> io::
     }
 }
 
+/// Reads the words of the command line, and does what they ask for.
+fn serve(
+    rt: &HostRuntime,
+    threads: &(impl Threads + Sync),
+    words: &[&str],
+) -> io::Result<ExitCode> {
+    match read_words(rt.alloc(), words) {
+        Ok(order) => obey(rt, threads, order),
+        Err(WordFault::Clap(error)) => refuse(rt, &error),
+    }
+}
+
+/// Says why the words of the command line can't be fetched.
+fn report_unread(rt: &HostRuntime, error: &io::Error) -> io::Result<ExitCode> {
+    if error.kind() == ErrorKind::InvalidData {
+        eprintln!(rt; "route_desk: an argument isn't UTF-8")?;
+        return Ok(ExitCode::from(2));
+    }
+    report(rt, Some(Fault::OutOfMemory))
+}
+
 fn main(rt: HostRuntime) -> io::Result<ExitCode> {
-    let words: Vec<String> = env::args(&rt)?.collect(rt.alloc())?;
-    let texts = texts(rt.alloc(), words.as_slice())?;
-    match read_words(rt.alloc(), texts.as_slice()) {
-        Ok(order) => obey(&rt, &rt, order),
-        Err(WordFault::Clap(error)) => refuse(&rt, &error),
+    let words = match fetch_words(&rt) {
+        Ok(words) => words,
+        Err(error) => return report_unread(&rt, &error),
+    };
+    match texts(rt.alloc(), words.as_slice()) {
+        Ok(texts) => serve(&rt, &rt, texts.as_slice()),
+        Err(_) => report(&rt, Some(Fault::OutOfMemory)),
     }
 }

@@ -73,3 +73,13 @@ fn an_excerpt_wants_a_plan(rt: HostRuntime) {
     let none = Excerpt::of(&net, point(&rt, "2-1-1"));
     assert_eq!(rt; none.err(), Some(ExcerptFault::NoPlan));
 }
+
+#[test]
+fn an_excerpt_tells_the_kinds_of_points(rt: HostRuntime) {
+    let net = frozen(&rt, rt.alloc(), worked_after(&rt, rt.alloc(), &[]));
+    let excerpt = excerpt_of(&rt, &net, "2-1-2");
+    for known in net.net().points() {
+        assert!(rt; excerpt.kind_of(known.code) == Some(known.kind));
+    }
+    assert!(rt; excerpt.kind_of(point(&rt, "7-7-7")).is_none());
+}

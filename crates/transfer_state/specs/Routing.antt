@@ -1,9 +1,10 @@
 -- The settled routing of an excerpt, row by row.
-use Rattle.std.specs.Prelude.{◌≡◌, ℕ, Bool, List, Option, Some, map}
+use Rattle.std.specs.Prelude.{◌≡◌, ℕ, Bool, List, [], ◌∷◌, Option, Some, map}
 use Rattle.std.specs.Option.{option_map, option_and_then}
 use Rattle.net_items.specs.declared.lists.Row.{Row}
 use Rattle.route_choice.specs.declared.choices.Choice.{Choice}
 use Rattle.profile.specs.declared.tables.RowState.{RowState}
+use Rattle.profile.specs.declared.tables.Table.{Table}
 use Rattle.profile.specs.declared.hops.Hop.{Hop}
 use Rattle.net_items.specs.Lookups.{row_at}
 use Rattle.profile.specs.Valid.{IsSmall}
@@ -24,6 +25,43 @@ hop_by src row c s =
 -- the choices of the rows of an excerpt's plan, in their places
 abbrev pub IsChosen : ExcerptValue → List Choice → Type 0
 IsChosen x choices = choices ≡ map (choice (source_of x)) x.plan.rows
+
+-- a settled routing: its excerpt, and the choices that it keeps, in the places of the plan's rows
+pub record RoutingValue : Type 0 where
+  pub excerpt : ExcerptValue
+  pub choices : List Choice
+
+-- the routing of an excerpt, from scratch
+abbrev pub settled_routing : ExcerptValue → RoutingValue
+settled_routing x = record { excerpt = x; choices = map (choice (source_of x)) x.plan.rows }
+
+-- the excerpt that a routing is of, if there is one
+abbrev pub routed_excerpt : Option RoutingValue → Option ExcerptValue
+routed_excerpt = option_map (λ (r : RoutingValue). r.excerpt)
+
+-- what a point uses: class, members and status
+pub record ChoiceRow : Type 0 where
+  pub point : ℕ
+  pub choice : Choice
+
+-- what the points of a plan use towards its destination: a table without the links and messages that follow
+pub record ChoiceTable : Type 0 where
+  pub dest : ℕ
+  pub rows : List ChoiceRow
+
+-- rows with the choices that stand in their places
+abbrev pub choice_rows : List Row → List Choice → List ChoiceRow
+choice_rows [] choices = []
+choice_rows (row ∷ rows) [] = []
+choice_rows (row ∷ rows) (c ∷ choices) = record { point = row.point; choice = c } ∷ choice_rows rows choices
+
+-- what a routing keeps
+abbrev pub kept_table : RoutingValue → ChoiceTable
+kept_table r = record { dest = r.excerpt.plan.dest; rows = choice_rows r.excerpt.plan.rows r.choices }
+
+-- the choices of a table
+abbrev pub choices_of : Table → ChoiceTable
+choices_of table = record { dest = table.dest; rows = map (λ (s : RowState). record { point = s.point; choice = s.choice }) table.rows }
 
 -- a place for the routing of an excerpt, and whether that has come
 pub record RoutingSlotValue : Type 0 where

@@ -5,7 +5,7 @@ ghost use Rattle.std.specs.Option.{option_map};
 ghost use Rattle.profile.specs.Traces.{hop_of};
 ghost use Rattle.profile.specs.Whole.{scratch};
 ghost use Rattle.excerpts.specs.Excerpt.{content_of, source_of};
-ghost use Rattle.transfer_state.specs.Routing.{state_at};
+ghost use Rattle.transfer_state.specs.Routing.{settled_routing, state_at};
 
 use crate::routes::{choice_at, hop_at, links_at, messages_at};
 use crate::sweep::choices;
@@ -32,12 +32,11 @@ pub struct Routing {
 impl Model for Routing {
     ghost use Rattle.std.specs.Prelude.{◌≡◌};
     ghost use Rattle.std.specs.Arc.{arc_value};
-    ghost use Rattle.excerpts.specs.Excerpt.{ExcerptValue};
-    ghost use Rattle.transfer_state.specs.Routing.{IsChosen};
+    ghost use Rattle.transfer_state.specs.Routing.{RoutingValue, IsChosen};
 
-    ghost Value = { ExcerptValue };
+    ghost Value = { RoutingValue };
 
-    ghost view = { λ r. r.excerpt };
+    ghost view = { λ r. record { excerpt = r.excerpt; choices = (arc_value r.choices).items } };
 
     ghost invariant = { λ r. record { chosen : IsChosen r.excerpt (arc_value r.choices).items; dest : r.dest ≡ r.excerpt.plan.dest } };
 }
@@ -45,7 +44,7 @@ impl Model for Routing {
 impl Routing {
     /// The settled routing of an excerpt, from scratch. If memory is refused it hands the excerpt back.
     pub fn of(alloc: Global, excerpt: Excerpt) -> Result<Routing, (Excerpt, AllocError)>
-        ensures ok { IfOk result (λ r. r ≡ excerpt) }
+        ensures ok { IfOk result (λ r. r ≡ settled_routing excerpt) }
         ensures err { IfErr result (λ e. e.0 ≡ excerpt) }
     {
         let list = match choices(alloc, &excerpt) {
@@ -62,62 +61,45 @@ impl Routing {
         }
     }
 
+    /// The fact that the type keeps: its choices are those from scratch. It does nothing when it runs.
+    pub fn validity(&self)
+        ensures { self.now ≡ settled_routing self.now.excerpt }
+    {
+        // The proof reads the type's invariant from this.
+        let _dest = self.dest;
+    }
+
     /// What it is the routing of.
     pub fn excerpt(&self) -> &Excerpt
-        ensures { result.now ≡ self.now }
+        ensures { result.now ≡ self.now.excerpt }
     {
         &self.excerpt
     }
 
     /// The destination.
     pub fn dest(&self) -> PointCode
-        ensures { result ≡ self.now.plan.dest }
+        ensures { result ≡ self.now.excerpt.plan.dest }
     {
         self.dest
     }
 
-    /// The same routing once more. It fails only if no further share can be counted.
-    pub fn share(&self) -> Result<Routing, AllocError>
-        ensures { IfOk result (λ r. r ≡ self.now) }
-    {
-        Ok(Routing {
-            dest: self.dest,
-            excerpt: self.excerpt.share()?,
-            choices: Arc::try_clone(&self.choices)?,
-        })
-    }
-
-    /// The same routing of an excerpt whose table reads the same. It fails only if no further share can be counted.
-    pub fn of_same(&self, excerpt: Excerpt) -> Result<Routing, AllocError>
-        requires { content_of excerpt ≡ content_of self.now }
-        ensures { IfOk result (λ r. r ≡ excerpt) }
-    {
-        excerpt.validity();
-        self.excerpt.validity();
-        Ok(Routing {
-            dest: excerpt.dest(),
-            choices: Arc::try_clone(&self.choices)?,
-            excerpt,
-        })
-    }
-
     /// What a point uses, with its status, if it has a row.
     pub fn choice(&self, point: PointCode) -> Option<Choice>
-        ensures { result ≡ option_map (λ s. s.choice) (state_at self.now point) }
+        ensures { result ≡ option_map (λ s. s.choice) (state_at self.now.excerpt point) }
     {
         choice_at(&self.excerpt, &self.choices, point)
     }
 
     /// The link of each signalling link selection of a point, if it has a row (Q.704 clause 2.3).
     pub fn links(&self, point: PointCode) -> Option<RowLinks>
-        ensures { result ≡ option_map (λ s. s.links) (state_at self.now point) }
+        ensures { result ≡ option_map (λ s. s.links) (state_at self.now.excerpt point) }
     {
         links_at(&self.excerpt, &self.choices, point)
     }
 
     /// The messages in force from a point, if it has a row (Q.704 clauses 13.2 to 13.4).
     pub fn messages(&self, alloc: Global, point: PointCode) -> Result<Option<Messages>, AllocError>
-        ensures { IfOk result (λ m. m ≡ option_map (λ s. s.messages) (state_at self.now point)) }
+        ensures { IfOk result (λ m. m ≡ option_map (λ s. s.messages) (state_at self.now.excerpt point)) }
     {
         messages_at(alloc, &self.excerpt, &self.choices, point)
     }
@@ -126,14 +108,14 @@ impl Routing {
     /// 2.3).
     pub fn hop(&self, point: PointCode, s: u8) -> Option<Hop>
         requires { s < 16 }
-        ensures { result ≡ hop_of (source_of self.now) point s }
+        ensures { result ≡ hop_of (source_of self.now.excerpt) point s }
     {
         hop_at(&self.excerpt, &self.choices, point, s)
     }
 
     /// The whole table, by the choices that are kept.
     pub fn table(&self, alloc: Global) -> Result<Table, AllocError>
-        ensures { IfOk result (λ t. t ≡ scratch (source_of self.now)) }
+        ensures { IfOk result (λ t. t ≡ scratch (source_of self.now.excerpt)) }
     {
         table_by(alloc, &self.excerpt, &self.choices)
     }
@@ -172,7 +154,7 @@ impl RoutingSlot {
 
     /// A place for the routing of an excerpt whose table reads the same as that of a routing that is there.
     pub fn of_same(excerpt: Excerpt, routing: &Routing) -> Result<RoutingSlot, AllocError>
-        requires { content_of excerpt ≡ content_of routing.now }
+        requires { content_of excerpt ≡ content_of routing.now.excerpt }
         ensures { IfOk result (λ p. p ≡ record { excerpt = excerpt; settled = true }) }
     {
         excerpt.validity();
@@ -192,7 +174,7 @@ impl RoutingSlot {
 
     /// Takes in a routing whose table reads the same. It takes no memory.
     pub fn fill(&mut self, routing: Routing)
-        requires { content_of routing ≡ content_of self.old.excerpt }
+        requires { content_of routing.excerpt ≡ content_of self.old.excerpt }
         ensures { self.new ≡ record self.old { settled = true } }
     {
         self.excerpt.validity();
@@ -202,7 +184,7 @@ impl RoutingSlot {
 
     /// The routing that has come, shared. It fails only if no further share can be counted.
     pub fn routing(&self) -> Result<Option<Routing>, AllocError>
-        ensures { IfOk result (λ r. r ≡ (if self.now.settled then Some self.now.excerpt else None)) }
+        ensures { IfOk result (λ r. r ≡ (if self.now.settled then Some (settled_routing self.now.excerpt) else None)) }
     {
         match &self.choices {
             Some(choices) => Ok(Some(Routing {

@@ -3,6 +3,8 @@
 ghost use Rattle.std.specs.Prelude.{◌≡◌, ◌++◌, [], true, IfOk, OnOk, map};
 ghost use Rattle.std.specs.Option.{option_copied};
 ghost use Rattle.excerpts.specs.Excerpt.{excerpt_at};
+ghost use Rattle.transfer_state.specs.Routing.{routed_excerpt, settled_routing};
+ghost use Rattle.net_versions.specs.Versions.{routing_at};
 ghost use Rattle.what_if.specs.Reports.{changes as the_changes, change_between, changes_between, status_of as the_status};
 
 use crate::changes::{Change, is_same};
@@ -16,7 +18,7 @@ use transfer_state::Routing;
 
 /// The status of a point, none if there is no plan or no row.
 fn status_of(routing: Option<&Routing>, point: PointCode) -> Option<Far>
-    ensures { result ≡ the_status (option_copied routing.entry) point }
+    ensures { result ≡ the_status (routed_excerpt (option_copied routing.entry)) point }
 {
     match routing {
         Some(routing) => match routing.choice(point) {
@@ -35,7 +37,7 @@ fn add_change(
     point: PointCode,
     changes: &mut Vec<Change>,
 ) -> Result<(), AllocError>
-    ensures { OnOk result (changes.new.items ≡ changes.old.items ++ change_between (option_copied before.entry) (option_copied after.entry) dest point) }
+    ensures { OnOk result (changes.new.items ≡ changes.old.items ++ change_between (routed_excerpt (option_copied before.entry)) (routed_excerpt (option_copied after.entry)) dest point) }
 {
     let (old, new) = (status_of(before, point), status_of(after, point));
     if !is_same(old, new) {
@@ -57,7 +59,7 @@ fn add_changes_between(
     dest: PointCode,
     changes: &mut Vec<Change>,
 ) -> Result<(), AllocError>
-    ensures { OnOk result (changes.new.items ≡ changes.old.items ++ changes_between (option_copied before.entry) (option_copied after.entry) dest) }
+    ensures { OnOk result (changes.new.items ≡ changes.old.items ++ changes_between (routed_excerpt (option_copied before.entry)) (routed_excerpt (option_copied after.entry)) dest) }
 {
     let old_points = points_of(alloc, before)?;
     let points = merged(old_points.as_slice(), points_of(alloc, after)?)?;
@@ -69,7 +71,7 @@ fn add_changes_between(
 
 /// The settled routing of an excerpt.
 fn settled(alloc: Global, excerpt: Excerpt) -> Result<Routing, AllocError>
-    ensures { IfOk result (λ r. r ≡ excerpt) }
+    ensures { IfOk result (λ r. r ≡ settled_routing excerpt) }
 {
     match Routing::of(alloc, excerpt) {
         Ok(routing) => Ok(routing),
@@ -79,7 +81,7 @@ fn settled(alloc: Global, excerpt: Excerpt) -> Result<Routing, AllocError>
 
 /// The settled routing towards a destination of a network, if it is planned.
 fn routing_in(alloc: Global, net: &Frozen, dest: PointCode) -> Result<Option<Routing>, AllocError>
-    ensures { IfOk result (λ r. r ≡ excerpt_at net.now dest) }
+    ensures { IfOk result (λ r. r ≡ routing_at net.now dest) }
 {
     match Excerpt::of(net, dest) {
         Ok(excerpt) => Ok(Some(settled(alloc, excerpt)?)),
@@ -90,7 +92,7 @@ fn routing_in(alloc: Global, net: &Frozen, dest: PointCode) -> Result<Option<Rou
 
 /// Whether a destination reads the same in a network as before, so that nothing changes towards it.
 fn reads_the_same(before: Option<&Routing>, net: &Frozen, dest: PointCode) -> bool
-    ensures { result ≡ true → changes_between (option_copied before.entry) (excerpt_at net.now dest) dest ≡ [] }
+    ensures { result ≡ true → changes_between (routed_excerpt (option_copied before.entry)) (excerpt_at net.now dest) dest ≡ [] }
 {
     match before {
         Some(routing) => {

@@ -1,10 +1,14 @@
 //! Results of jobs.
 
 ghost use Rattle.std.specs.Prelude.{◌≡◌, IfOk, IfErr};
+ghost use Rattle.profile.specs.Whole.{scratch};
+ghost use Rattle.excerpts.specs.Excerpt.{source_of};
+ghost use Rattle.transfer_state.specs.Routing.{settled_routing};
 
 use crate::jobs::Job;
 use excerpts::Excerpt;
 use point_codes::PointCode;
+use profile::Table;
 use std::alloc::{AllocError, Global};
 use std::marker::Model;
 use transfer_state::Routing;
@@ -21,7 +25,7 @@ impl Model for Settled {
 
     ghost Value = { Work };
 
-    ghost view = { λ s. record { version = s.version; excerpt = s.routing } };
+    ghost view = { λ s. record { version = s.version; excerpt = s.routing.excerpt } };
 }
 
 impl Settled {
@@ -48,15 +52,25 @@ impl Settled {
 
     /// The settled routing of the excerpt.
     pub fn routing(&self) -> &Routing
-        ensures { result.now ≡ self.now.excerpt }
+        ensures { result.now ≡ settled_routing self.now.excerpt }
     {
+        self.routing.validity();
         &self.routing
+    }
+
+    /// The whole table of the destination, made from what the routing keeps (own, after Q.704 clauses 2.3 and 13.2 to
+    /// 13.4).
+    pub fn table(&self, alloc: Global) -> Result<Table, AllocError>
+        ensures { IfOk result (λ t. t ≡ scratch (source_of self.now.excerpt)) }
+    {
+        self.routing.table(alloc)
     }
 
     /// The settled routing, given away.
     pub fn into_routing(self) -> Routing
-        ensures { result ≡ self.excerpt }
+        ensures { result ≡ settled_routing self.excerpt }
     {
+        self.routing.validity();
         self.routing
     }
 }

@@ -15,12 +15,12 @@ use point_codes::PointCode;
 use std::sync::Arc;
 
 impl Desk {
-    /// The fact that the type keeps of an open target. It does nothing when it runs.
+    /// What the type keeps of an open target and of the published version. It does nothing when it runs.
     pub fn steady(&self)
         ensures { IsSteadyDesk self.now }
     {
-        // The proof reads the type's invariant from this.
-        let _spare = self.spare;
+        // The proof reads from this what the version keeps, and from the type's invariant the rest.
+        self.published.validity();
     }
 
     /// How many events are accepted.

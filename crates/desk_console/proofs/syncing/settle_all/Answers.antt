@@ -1,7 +1,25 @@
 use Rattle.std.proofs.Common.{◌≡◌, arith}
 use Rattle.desk_console.specs.Settling.{waiting_count}
-use Rattle.desk_console.proofs.StepLemmas.{nothing_left}
+use Rattle.desk_core.proofs.RunLemmas.{run_none}
+use Rattle.desk_console.proofs.RunLemmas.{goes_on}
+use Rattle.desk_console.proofs.StepLemmas.{nothing_left, only_none, only_then}
 use Rattle.desk_console.proofs.syncing.settle_all.Goals as goal
+
+pub loop-alloc-init : goal.loop-alloc-init
+loop-alloc-init c = record { only = only_none c.args.desk.now; none = c.requires; run = run_none c.args.desk.now }
+
+-- one result more
+pub loop-alloc-preserved : goal.loop-alloc-preserved
+loop-alloc-preserved c =
+    let one = c.in_ok-settle_next.ensures in
+    record {
+      only = only_then c.args.desk.now c.loop-alloc.desk c.settle_next.new.desk c.loop-alloc.invariant.only one.only;
+      none = one.none;
+      run = goes_on c.args.desk.now c.loop-alloc.desk c.settle_next.new.desk c.loop-alloc.invariant.run one.run;
+    }
+
+pub returns-in_err-settle_next-clause-run : goal.returns-in_err-settle_next-clause-run
+returns-in_err-settle_next-clause-run c = goes_on c.args.desk.now c.loop-alloc.desk c.settle_next.new.desk c.loop-alloc.invariant.run c.in_err-settle_next.ensures.run
 
 -- nothing waits, and nothing is out
 pub returns-clause-done : goal.returns-clause-done

@@ -16,7 +16,7 @@ loop-dest-init c = rw (c.new-hops.ensures.items, c.from-left.ensures) (after_non
 
 pub loop-dest-preserved : goal.loop-dest-preserved
 loop-dest-preserved c =
-    let src : Source = source_of c.args.routing.now in
+    let src : Source = source_of c.args.routing.now.excerpt in
     let apart : eqb c.loop-dest.point src.dest ≡ false = ap (eqb c.loop-dest.point) (sym c.dest-dest.ensures) ∙ not-true _ (sym c.loop-dest-test.ensures) in
     ap (λ (hops : List Hop). after hops (hops_within src (c.loop-dest.left - 1) c.in-Some.hop.to c.args.s)) c.in_ok-push.ensures.items
     ∙ one_more src c.loop-dest.hops.items c.loop-dest.left c.loop-dest.point c.args.s c.in-Some.hop apart c.if-left-eq0.false (sym c.in-Some.ensures)
@@ -24,18 +24,18 @@ loop-dest-preserved c =
 
 pub returns-then-left-eq0 : goal.returns-then-left-eq0
 returns-then-left-eq0 c =
-    let src : Source = source_of c.args.routing.now in
+    let src : Source = source_of c.args.routing.now.excerpt in
     let apart : eqb c.loop-dest.point src.dest ≡ false = ap (eqb c.loop-dest.point) (sym c.dest-dest.ensures) ∙ not-true _ (sym c.loop-dest-test.ensures) in
     sym (ap (after c.loop-dest.hops.items) (ap (λ n. hops_within src n c.loop-dest.point c.args.s) c.if-left-eq0.true ∙ hops_end src c.loop-dest.point c.args.s apart)) ∙ c.loop-dest.invariant
 
 pub returns-in-None : goal.returns-in-None
 returns-in-None c =
-    let src : Source = source_of c.args.routing.now in
+    let src : Source = source_of c.args.routing.now.excerpt in
     let apart : eqb c.loop-dest.point src.dest ≡ false = ap (eqb c.loop-dest.point) (sym c.dest-dest.ensures) ∙ not-true _ (sym c.loop-dest-test.ensures) in
     sym (ap (after c.loop-dest.hops.items) (stopped src c.loop-dest.left c.loop-dest.point c.args.s apart (sym c.in-None.ensures))) ∙ c.loop-dest.invariant
 
 pub returns : goal.returns
 returns c =
-    let src : Source = source_of c.args.routing.now in
+    let src : Source = source_of c.args.routing.now.excerpt in
     let there = ap (eqb c.loop-dest.point) (sym c.dest-dest.ensures) ∙ not-false _ (sym c.loop-dest-test.ensures) in
     after_all c.loop-dest.hops.items _ c.from_vec.ensures ∙ sym (ap (after c.loop-dest.hops.items) (hops_at_dest src c.loop-dest.left c.loop-dest.point c.args.s there)) ∙ c.loop-dest.invariant

@@ -6,7 +6,7 @@ use Rattle.path_trace.proofs.traces.follow.Given as goal
 
 -- the hops so far and those that are left make all
 abbrev pub invariant-loop-dest : goal.invariant-loop-dest
-invariant-loop-dest l = after l.hops.items (hops_within (source_of l.routing) l.left l.point l.s) ≡ hops_within (source_of l.routing) (2 * l.rank) l.fn.start l.s
+invariant-loop-dest l = after l.hops.items (hops_within (source_of l.routing.excerpt) l.left l.point l.s) ≡ hops_within (source_of l.routing.excerpt) (2 * l.rank) l.fn.start l.s
 
 -- one less each time
 abbrev pub decreases-loop-dest : goal.decreases-loop-dest

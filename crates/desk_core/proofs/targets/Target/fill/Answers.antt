@@ -1,7 +1,7 @@
 use Rattle.std.proofs.Common.{◌≡◌, ap, sym, ◌∙◌, subst, Some, List}
 use Rattle.net_items.specs.Keyed.{IsFoundAt, IsGapAt}
 use Rattle.excerpts.specs.Excerpt.{content_at, content_of}
-use Rattle.transfer_state.specs.Routing.{RoutingSlotValue}
+use Rattle.transfer_state.specs.Routing.{RoutingSlotValue, RoutingValue}
 use Rattle.desk_core.specs.Targets.{TargetValue}
 use Rattle.desk_core.proofs.TargetLemmas.{slots_rise, found_content, nowhere_content, filled-done}
 use Rattle.desk_core.proofs.targets.Target.fill.Goals as goal
@@ -17,7 +17,7 @@ fill-requires c =
     let at : content_at net x ≡ Some (content_of c.args.settled.excerpt)
     = ap (content_at net) c.dest-dest.ensures ∙ ap (λ (t : TargetValue). content_at t.network c.args.settled.excerpt.plan.dest) c.self.view_is ∙ c.requires.same in
     let found : IsFoundAt (λ (s : RoutingSlotValue). s.excerpt.plan.dest) x slots c.in-Ok.at = subst (λ (ss : List RoutingSlotValue). IsFoundAt (λ (s : RoutingSlotValue). s.excerpt.plan.dest) x ss c.in-Ok.at) c.as_slice.ensures.value c.in-Ok.ensures.found in
-    ap content_of c.into_routing.ensures
+    ap (λ (r : RoutingValue). content_of r.excerpt) c.into_routing.ensures
     ∙ found_content net c.self.inside.waiting slots c.self.invariant c.validity.ensures.plans_rise x c.in-Ok.at c.index_mut.result.now (content_of c.args.settled.excerpt) found c.index_mut.ensures.value at
 
 pub unreachable-requires : goal.unreachable-requires

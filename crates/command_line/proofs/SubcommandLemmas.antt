@@ -1,0 +1,236 @@
+-- Words without a fault that name a subcommand name one of the desk's, and each file that it needs.
+use Rattle.std.proofs.Common.{◌≡◌, ℕ, ◌&&◌, ◌||◌, Bool, true, false, not, cond, List, [], ◌∷◌, Option, Some, None, is_some, refl, codes, option_map, subst, sym, inl, inr}
+use Rattle.std.specs.Prelude.{IfSome, fold}
+use Rattle.std.specs.Option.{option_map_or}
+use Rattle.std.specs.Str.{bytes_eq}
+use Rattle.std.proofs.lemmas.Slice.Eq.{bytes_eq-Decides}
+use Rattle.clap.specs.Kinds.{HasKind, check_kinds, or_else}
+use Rattle.clap.specs.Lexer.{long_of, short_of}
+use Rattle.clap.specs.Walk.{Held, Names, Outcome, done, waits, plain, refused, Row, Rule, Step, next, trailing, subcommand, value, Text, Waiting, idle, option, positional, Walk, after_flag, after_step, answers_to, arg_by_index, long_or_other, nothing_held, plain_word, rows_after, short_or_plain, subcommand_met, subcommand_or_other, to_positional, walk, walk_from, walked, walked_from, word_met}
+use Rattle.clap.specs.Simple.{App, Shape, argument_words, built, built_leaf, entered, filled, help_rule, help_shape, inherited, label_of, names_of, rows_at, subcommand_of, with_index}
+use Rattle.clap.specs.Takes.{is_given}
+use Rattle.clap.specs.Faults.{built_fault, check_fault, entered_fault, fault_of, level_fault, other_fault, step_fault, turn_fault, walk_fault, word_fault}
+use Rattle.clap.specs.declared.error.Error.{Error}
+use Rattle.clap.specs.declared.error.kind.ErrorKind.TheVariants.{DisplayHelp, InvalidSubcommand, MissingSubcommand}
+use Rattle.command_line.specs.Words.{net_rule, steps_rule, save_rule, check_app, desk_app, play_app, run_app, is_whole, IsWordFault}
+use Rattle.command_line.specs.declared.words.WordFault.TheVariants.{Clap}
+use Rattle.command_line.proofs.RowLemmas.{AllFill, Fills, none_of_both, set_fills, help_fills, level_filled, given_value}
+
+-- ---- a walk without a fault doesn't stop at `help`
+
+abbrev IsNotHelp : Text → Type 0
+IsNotHelp name = bytes_eq name (codes "help") ≡ false
+
+abbrev StopsRight : Walk → Type 0
+StopsRight w = IfSome w.stopped (λ p. IsNotHelp p.0)
+
+-- a step to a subcommand isn't one to `help`
+abbrev IsRightStep : Step → Type 0
+IsRightStep (next waiting) = Unit {0}
+IsRightStep (trailing position) = Unit {0}
+IsRightStep (subcommand name) = IsNotHelp name
+IsRightStep value = Unit {0}
+
+plain_right : (c : List Rule) (waiting : Waiting) (word : Text) (h : Held) → IsRightStep (plain_word c waiting word h).1
+plain_right c idle word h = tt
+plain_right c positional word h = tt
+plain_right c (option id) word h = tt
+
+after_right : (c : List Rule) (waiting : Waiting) (word : Text) (h : Held) (o : Outcome) → IsRightStep (after_flag c waiting word h o).1
+after_right c waiting word h done = tt
+after_right c waiting word h (waits id) = tt
+after_right c waiting word h plain = plain_right c waiting word h
+after_right c waiting word h refused = plain_right c waiting word h
+
+short_right : (c : List Rule) (waiting : Waiting) (word : Text) (flags : Option Text) (h : Held) → IsRightStep (short_or_plain c waiting word flags h).1
+short_right c waiting word None h = plain_right c waiting word h
+short_right c waiting word (Some flags) h = after_right c waiting word _ _
+
+long_right : (c : List Rule) (waiting : Waiting) (word : Text) (long : Option (Text × Option Text)) (h : Held) → IsRightStep (long_or_other c waiting word long h).1
+long_right c waiting word None h = short_right c waiting word (short_of word) h
+long_right c waiting word (Some p) h = after_right c waiting word _ _
+
+module _ (s : Shape) (names : Names) (enabled : s.disable_help_subcommand ≡ false) where
+  other_right : (name : Option Text) (waiting : Waiting) (position : ℕ) (word : Text) (h : Held) → other_fault s name word h ≡ []
+      → IsRightStep (subcommand_or_other s.rules name waiting position word h).1
+  other_right None waiting position word h e = go (bytes_eq word (45 ∷ 45 ∷ []))
+    where
+      go : (b : Bool) → IsRightStep (cond b (h, trailing position) (long_or_other s.rules waiting word (long_of word) h)).1
+      go true = tt
+      go false = long_right s.rules waiting word (long_of word) h
+  other_right (Some name) waiting position word h e = go (bytes_eq name (codes "help")) s.disable_help_subcommand enabled e
+    where
+      go : (b off : Bool) → off ≡ false → cond (b && not off) (DisplayHelp ∷ InvalidSubcommand ∷ []) [] ≡ [] → b ≡ false
+      go false off on e = refl
+      go true false on e = cc
+      go true true on e = cc
+
+  word_right : (is_trailing : Bool) (waiting : Waiting) (position : ℕ) (word : Text) (h : Held) → word_fault s names is_trailing waiting word h ≡ []
+      → IsRightStep (word_met s.rules names is_trailing waiting position word h).1
+  word_right true waiting position word h e = tt
+  word_right false waiting position word h e = other_right (subcommand_met names waiting word) waiting position word h e
+
+  positional_right : (found : Option Rule) (word : Text) (w : Walk) (h : Held) → StopsRight w → StopsRight (to_positional s.rules found word w h)
+  positional_right None word w h right = right
+  positional_right (Some a) word w h right = tt
+
+  step_right : (w : Walk) (word : Text) (h : Held) (step : Step) → IsRightStep step → StopsRight w → StopsRight (after_step s.rules word w h step)
+  step_right w word h (next waiting) is right = right
+  step_right w word h (trailing position) is right = right
+  step_right w word h (subcommand name) is right = is
+  step_right w word h value is right = positional_right (arg_by_index s.rules w.position) word w h right
+
+  turn_right : (w : Walk) (word : Text) → turn_fault s names w word ≡ [] → StopsRight w → StopsRight (walked s.rules names w word)
+  unfolding walked
+  turn_right w word e right = go w.stopped e right
+    where
+      go : (stop : Option (Text × List Text))
+          → (let met = word_met s.rules names w.is_trailing w.waiting w.position word w.held in
+          cond (is_some stop) [] (or_else (word_fault s names w.is_trailing w.waiting word w.held) (step_fault s w.position met.0 met.1))) ≡ []
+          → IfSome stop (λ p. IsNotHelp p.0) → StopsRight (walked_from s.rules names stop w word)
+      go (Some p) e is = is
+      go None e is =
+          let parts = none_of_both (word_fault s names w.is_trailing w.waiting word w.held) _ e in
+          step_right w word _ _ (word_right w.is_trailing w.waiting w.position word w.held parts.0) right
+
+  walk_right : (words : List Text) (w : Walk) → walk_fault s names w words ≡ [] → StopsRight w → StopsRight (fold (walked s.rules names) w words)
+  unfolding walk_fault
+  walk_right [] w e right = right
+  walk_right (word ∷ rest) w e right =
+      let parts = none_of_both (turn_fault s names w word) _ e in
+      walk_right rest (walked s.rules names w word) parts.1 (turn_right w word parts.0 right)
+
+-- the subcommand that a command without a fault enters isn't `help`, and has no fault of its own
+stopped_right : (a : App) (words : List Text) → a.top.disable_help_subcommand ≡ false → built_fault a nothing_held words ≡ []
+    → StopsRight (walk a.top.rules (names_of a) nothing_held words) × (entered_fault a (walk a.top.rules (names_of a) nothing_held words).stopped ≡ [])
+stopped_right a words enabled e =
+    let parts = none_of_both (walk_fault a.top (names_of a) (walk_from nothing_held) words) _ e in (
+      walk_right a.top (names_of a) enabled words (walk_from nothing_held) parts.0 tt,
+      (none_of_both (entered_fault a (walk a.top.rules (names_of a) nothing_held words).stopped) _ parts.1).0,
+    )
+
+-- ---- the desk's subcommands, as they are built
+
+abbrev run_built : Shape
+run_built = built_leaf (inherited desk_app.top run_app.top)
+
+abbrev play_built : Shape
+play_built = built_leaf (inherited desk_app.top play_app.top)
+
+abbrev check_built : Shape
+check_built = built_leaf (inherited desk_app.top check_app.top)
+
+abbrev help_built : Shape
+help_built = built_leaf help_shape
+
+-- an argument as it is built, which is the i-th of the positionals if it is one
+abbrev rule_at : ℕ → Rule → Rule
+rule_at i a = with_index i (filled a)
+
+net_fills : Fills (rule_at 1 net_rule)
+net_fills = set_fills (rule_at 1 net_rule) refl refl
+
+steps_fills : Fills (rule_at 2 steps_rule)
+steps_fills = set_fills (rule_at 2 steps_rule) refl refl
+
+save_fills : Fills (rule_at 2 save_rule)
+save_fills = set_fills (rule_at 2 save_rule) refl refl
+
+asks_fills : Fills (rule_at 2 help_rule)
+asks_fills = help_fills (rule_at 2 help_rule) refl
+
+run_fills : AllFill run_built.rules
+run_fills = (net_fills, refl, (save_fills, refl, (asks_fills, refl, tt)))
+
+play_fills : AllFill play_built.rules
+play_fills = (net_fills, refl, (steps_fills, refl, (save_fills, refl, (asks_fills, refl, tt))))
+
+check_fills : AllFill check_built.rules
+check_fills = (net_fills, refl, (asks_fills, refl, tt))
+
+abbrev has_net : List Row → Bool
+has_net rows = is_given (codes "net") rows
+
+run_given : (rows : List Row) → check_fault run_built rows false ≡ [] → has_net rows ≡ true
+run_given rows e = go (has_net rows) e
+  where
+    go : (net : Bool) → check_kinds false false (not net || false) ≡ [] → net ≡ true
+    go true e = refl
+    go false e = cc
+
+check_given : (rows : List Row) → check_fault check_built rows false ≡ [] → has_net rows ≡ true
+check_given rows e = go (has_net rows) e
+  where
+    go : (net : Bool) → check_kinds false false (not net || false) ≡ [] → net ≡ true
+    go true e = refl
+    go false e = cc
+
+play_given : (rows : List Row) → check_fault play_built rows false ≡ [] → (has_net rows ≡ true) × (is_given (codes "steps") rows ≡ true)
+play_given rows e = go (has_net rows) (is_given (codes "steps") rows) e
+  where
+    go : (net steps : Bool) → check_kinds false false (not net || (not steps || false)) ≡ [] → (net ≡ true) × (steps ≡ true)
+    go true true e = (refl, refl)
+    go true false e = cc
+    go false steps e = cc
+
+run_whole : (words : List Text) → level_fault run_built [] nothing_held words false [] ≡ [] → is_whole (rows_at run_built words) ≡ true
+run_whole words e =
+    let filled = level_filled run_built words run_fills e in
+    let net = given_value (codes "net") (rows_after run_built.rules [] words) filled.0 (run_given (rows_after run_built.rules [] words) filled.1) in
+    rw net refl
+
+check_whole : (words : List Text) → level_fault check_built [] nothing_held words false [] ≡ [] → is_whole (rows_at check_built words) ≡ true
+check_whole words e =
+    let filled = level_filled check_built words check_fills e in
+    let net = given_value (codes "net") (rows_after check_built.rules [] words) filled.0 (check_given (rows_after check_built.rules [] words) filled.1) in
+    rw net refl
+
+play_whole : (words : List Text) → level_fault play_built [] nothing_held words false [] ≡ [] → is_whole (rows_at play_built words) ≡ true
+play_whole words e =
+    let filled = level_filled play_built words play_fills e in
+    let given = play_given (rows_after play_built.rules [] words) filled.1 in
+    let net = given_value (codes "net") (rows_after play_built.rules [] words) filled.0 given.0 in
+    let steps = given_value (codes "steps") (rows_after play_built.rules [] words) filled.0 given.1 in
+    rw (net, steps) refl
+
+entered_whole : (p : Text × List Text) (found : Text × List Row) → IsNotHelp p.0 → entered_fault (built desk_app) (Some p) ≡ []
+    → entered (built desk_app) (Some p) ≡ Some found → is_whole found ≡ true
+entered_whole p found right e is =
+    go (answers_to p.0 (label_of run_built)) (answers_to p.0 (label_of play_built)) (answers_to p.0 (label_of check_built)) (bytes_eq (codes "help") p.0) not_help e is
+  where
+    not_help : bytes_eq (codes "help") p.0 ≡ true → ⊥
+    not_help same =
+        let name : codes "help" ≡ p.0 = (bytes_eq-Decides (codes "help") p.0).0 same in
+        let differs : bytes_eq (codes "help") (codes "help") ≡ false = subst (λ t. bytes_eq t (codes "help") ≡ false) (sym name) right in cc
+
+    is_found : (s : Shape) → is_whole (rows_at s p.1) ≡ true → Some (rows_at s p.1) ≡ Some found → is_whole found ≡ true
+    is_found s whole is = let same : rows_at s p.1 ≡ found = cc in subst (λ x. is_whole x ≡ true) same whole
+
+    first : (a b c d : Bool) → Option Shape
+    first a b c d = cond a (Some run_built) (cond b (Some play_built) (cond c (Some check_built) (cond (d || false) (Some help_built) None)))
+
+    go : (a b c d : Bool) → (d ≡ true → ⊥) → option_map_or (λ s. level_fault s [] nothing_held p.1 false []) (first a b c d) [] ≡ []
+        → option_map (λ s. rows_at s p.1) (first a b c d) ≡ Some found → is_whole found ≡ true
+    go true b c d help e is = is_found run_built (run_whole p.1 e) is
+    go false true c d help e is = is_found play_built (play_whole p.1 e) is
+    go false false true d help e is = is_found check_built (check_whole p.1 e) is
+    go false false false true help e is = absurd (help refl)
+    go false false false false help e is = cc
+
+whole_found : (words : List Text) (found : Text × List Row) → fault_of desk_app words ≡ [] → subcommand_of desk_app words ≡ Some found → is_whole found ≡ true
+whole_found words found e is =
+    let stops = stopped_right (built desk_app) (argument_words desk_app words) refl e in
+    go (walk (built desk_app).top.rules (names_of (built desk_app)) nothing_held (argument_words desk_app words)).stopped stops.0 stops.1 is
+  where
+    go : (stop : Option (Text × List Text)) → IfSome stop (λ p. IsNotHelp p.0) → entered_fault (built desk_app) stop ≡ []
+        → entered (built desk_app) stop ≡ Some found → is_whole found ≡ true
+    go None right e is = cc
+    go (Some p) right e is = entered_whole p found right e is
+
+-- where the matches of words without a fault make no order, a subcommand is missing
+pub missing_subcommand : (words : List Text) (found : Option (Text × List Row)) (e : Error) → fault_of desk_app words ≡ [] → found ≡ subcommand_of desk_app words
+    → IfSome found (λ f. is_whole f ≡ false) → HasKind (MissingSubcommand ∷ []) e → IsWordFault (fault_of desk_app words) (subcommand_of desk_app words) (Clap e)
+missing_subcommand words None e none is unfit (inl memory) = inl (inl memory)
+missing_subcommand words None e none is unfit (inr (inl kind)) = inr (none, sym is, kind)
+missing_subcommand words None e none is unfit (inr (inr never)) = absurd never
+missing_subcommand words (Some f) e none is unfit kind = let fit = whole_found words f none (sym is) in cc
