@@ -1,6 +1,6 @@
 //! The words of a command line.
 
-ghost use Rattle.std.specs.Prelude.{◌≡◌, List, Option, Some, ◌∷◌, codes, IfOk, IfErr, IfSome, OnOk, option_map, map, false, []};
+ghost use Rattle.std.specs.Prelude.{◌≡◌, Option, Some, ◌∷◌, codes, IfOk, IfErr, IfSome, OnOk, option_map, map, false, []};
 ghost use Rattle.clap.specs.declared.builder.command.Command.TheViews.{out-Command};
 ghost use Rattle.clap.specs.Words.{app_of, first_of, FailsBy, HasKind, fault_of, found_of, rows_of, rule_of, subcommand_of, subcommand_rows_of};
 ghost use Rattle.clap.specs.declared.error.kind.ErrorKind.TheVariants.{MissingSubcommand};

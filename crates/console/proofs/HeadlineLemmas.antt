@@ -1,5 +1,5 @@
 -- At each line of a script the version that stands is the right one.
-use Rattle.std.proofs.Common.{◌≡◌, ℕ, Bool, true, false, List, [], ◌∷◌, ◌++◌, Option, Some, None, ◌⊎◌, inl, inr, map, refl, sym, ap, ◌∙◌, subst, append_assoc, append-nil}
+use Rattle.std.proofs.Common.{◌≡◌, ℕ, Bool, true, false, List, [], ◌∷◌, ◌++◌, Option, Some, None, inl, inr, map, refl, sym, ap, ◌∙◌, subst, append-nil}
 use Rattle.net_data.specs.declared.events.Event.{Event}
 use Rattle.net_data.specs.Network.{Network}
 use Rattle.desk_console.specs.Console.{ConsoleValue, opening}
@@ -8,11 +8,11 @@ use Rattle.desk_console.specs.Taken.{taken_by}
 use Rattle.desk_console.proofs.RightLemmas.{right_first, right_line, right_still}
 use Rattle.console.specs.Lines.{is_silent, is_too_long, last_line, lines_of, rest_of, trimmed, whole_lines}
 use Rattle.console.specs.Answers.{Answered, IsReply, Replies}
-use Rattle.console.specs.Input.{RanInput, IsScriptWritten, script_part, text_part}
+use Rattle.console.specs.Input.{RanInput, script_part}
 use Rattle.console.specs.Run.{IsAnsweredInPart, IsOutcome, IsPrefixOf, Ran}
 use Rattle.console.specs.declared.faults.Fault.{Fault}
 use Rattle.console.specs.declared.faults.Fault.TheVariants.{OutOfMemory, Read, Write, Load}
-use Rattle.console.specs.Headline.{AreRight, IsInputRight, IsRightScript, Moment, RanInputRight, RanRight, texts}
+use Rattle.console.specs.Headline.{AreRight, IsRightScript, Moment, RanInputRight, RanRight, texts}
 
 -- after a line the version that stands is right
 reply_right : (start : Network) (events : List Event) (line : List ℕ) (c : ConsoleValue) (text : List ℕ) (new : ConsoleValue) → IsRightDesk start events c.desk → Replies line c text new

@@ -1,5 +1,5 @@
 -- What lines do are runs of the desk's steps.
-use Rattle.std.proofs.Common.{◌≡◌, ℕ, ◌+◌, Bool, true, false, List, [], ◌∷◌, ◌++◌, Option, Some, None, Result, Ok, Err, refl, sym, ap, ◌∙◌, subst}
+use Rattle.std.proofs.Common.{◌≡◌, ℕ, ◌+◌, Bool, true, false, List, [], ◌∷◌, Option, Some, None, Result, Ok, Err, refl, sym, ap, ◌∙◌, subst}
 use Rattle.std.specs.Prelude.{if◌then◌else◌}
 use Rattle.std.specs.Option.{option_map_or}
 use Rattle.net_data.specs.declared.events.Event.{Event}
@@ -18,7 +18,7 @@ use Rattle.desk_core.specs.Desk.{DeskValue}
 use Rattle.desk_core.specs.Steps.{Posts, Opens, Takes, Gives, Abandons, Publishes, last_of}
 use Rattle.desk_core.specs.Runs.{IsRunOf, event_taken}
 use Rattle.desk_core.proofs.RunLemmas.{run_none, run_one, run_then}
-use Rattle.answers.specs.Replies.{posted_text, refused_text}
+use Rattle.answers.specs.Replies.{posted_text}
 use Rattle.desk_console.specs.Commands.{Commands, Obeys}
 use Rattle.desk_console.specs.Console.{ConsoleValue, slot_of}
 use Rattle.desk_console.specs.Does.{AbandonsOf, Does, GivesFrom, PostsAfter}

@@ -1,9 +1,8 @@
 -- At every point of a run the published version is the one of its number.
 use Rattle.std.proofs.Common.{◌≡◌, ℕ, zero, suc, ◌+◌, ◌-◌, ◌≤◌, Bool, true, false, Option, Some, None, Result, Ok, Err, List, [], ◌∷◌, ◌++◌, refl, sym, ap, ◌∙◌, subst, length, take, drop, arith, length-append, length-drop, append-nil}
 use Rattle.std.specs.Option.{MatchOption, option_map, option_map_or}
-use Rattle.std.proofs.lemmas.List.{take-append-drop, take-append-le, drop-append-le, append_assoc}
+use Rattle.std.proofs.lemmas.List.{take-append-le, drop-append-le, append_assoc}
 use Rattle.net_data.specs.declared.events.Event.{Event}
-use Rattle.net_data.specs.Network.{Network}
 use Rattle.dirty_sets.specs.Waiting.{Task, taken, put_last, without_task}
 use Rattle.work_units.specs.Work.{Work}
 use Rattle.net_versions.specs.Versions.{VersionValue, IsSettledVersion, settled_tables}
@@ -12,16 +11,15 @@ use Rattle.path_trace.proofs.KeptLemmas.{kept_is}
 use Rattle.desk_core.specs.declared.replies.Last.{Last}
 use Rattle.desk_core.specs.declared.replies.Opened.{Opened}
 use Rattle.desk_core.specs.declared.replies.Posted.{Posted}
-use Rattle.desk_core.specs.declared.replies.Posted.TheVariants.{Taken, Again}
+use Rattle.desk_core.specs.declared.replies.Posted.TheVariants.{Taken}
 use Rattle.desk_core.specs.declared.replies.Refusal.{Refusal}
-use Rattle.desk_core.specs.declared.replies.Refusal.TheVariants.{Clash}
 use Rattle.desk_core.specs.declared.steps.Step.{Step}
 use Rattle.desk_core.specs.declared.steps.Step.TheVariants as step
 use Rattle.desk_core.specs.declared.steps.Reply.{Reply}
 use Rattle.desk_core.specs.declared.steps.Reply.TheVariants as reply
 use Rattle.net_data.specs.Edits.{replay}
 use Rattle.desk_core.specs.Desk.{DeskValue, OpenTarget, accepted, next_version}
-use Rattle.desk_core.specs.Steps.{IsReply, IsPost, IsJobOf, IsGiven, IsGiveReply, IsAbandonReply, IsNext, Posts, Opens, Takes, Gives, Abandons, Publishes, is_last, last_of, post_refusal, open_refusal, out_refusal, publish_refusal, repeated, first_of, with_post, with_target, with_tasks, with_version}
+use Rattle.desk_core.specs.Steps.{IsReply, IsPost, IsJobOf, IsGiven, IsGiveReply, IsAbandonReply, IsNext, Opens, Takes, Gives, Abandons, Publishes, is_last, last_of, post_refusal, open_refusal, out_refusal, publish_refusal, repeated, first_of, with_post, with_target, with_tasks, with_version}
 use Rattle.desk_core.specs.Runs.{Steps, Runs, event_taken, accepted_by, accepted_in, events_up_to, network_at, Numbers, numbers_by, numbers_after, first_numbers, batch_of, IsRightVersion, IsRightAfter, GoesOnRight, IsRightThroughout, IsRunOf, IsTargetAhead, IsSteadyDesk}
 use Rattle.desk_core.proofs.ReplayLemmas.{replay-append}
 

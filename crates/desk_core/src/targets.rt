@@ -1,11 +1,11 @@
 //! An open target: the next version while its routings come in.
 
-ghost use Rattle.std.specs.Prelude.{◌≡◌, ◌↔◌, IsTrue, true, [], None, Some, Err, IfOk, IfErr, OnOk, MatchResult, length, map};
+ghost use Rattle.std.specs.Prelude.{◌≡◌, ◌↔◌, IsTrue, true, [], None, Some, Err, IfOk, IfErr, MatchResult, length, map};
 ghost use Rattle.std.specs.List.{AllByRecursion};
 ghost use Rattle.std.specs.Option.{MatchOption};
 ghost use Rattle.net_items.specs.Keyed.{IsRising, IsFoundAt, IsGapAt};
 ghost use Rattle.excerpts.specs.Excerpt.{content_at, content_of, excerpt_at};
-ghost use Rattle.transfer_state.specs.Routing.{RoutingSlotValue, settled_routing};
+ghost use Rattle.transfer_state.specs.Routing.{settled_routing};
 ghost use Rattle.dirty_sets.specs.Waiting.{first_waiting, taken, is_out as out_among, least, out, put_last, waiting, without_task};
 ghost use Rattle.net_versions.specs.Versions.{settled_routings};
 ghost use Rattle.desk_core.specs.Targets.{AreFilled};

@@ -1,6 +1,6 @@
 -- The routings of a network's planned destinations.
-use Rattle.std.proofs.Common.{◌≡◌, ℕ, zero, suc, ◌<◌, eqb, true, false, List, [], ◌∷◌, Option, Some, None, map, refl, sym, ap, ◌∙◌, subst, length, get_or, arith}
-use Rattle.std.specs.Prelude.{Result, Ok}
+use Rattle.std.proofs.Common.{◌≡◌, ℕ, zero, suc, ◌<◌, eqb, false, List, [], ◌∷◌, Option, Some, None, map, refl, sym, ap, ◌∙◌, length, get_or, arith}
+use Rattle.std.specs.Prelude.{Ok}
 use Rattle.std.specs.List.{AllByRecursion}
 use Rattle.std.specs.Option.{option_map}
 use Rattle.std.proofs.lemmas.Bool.{eq-eqb, ne_eqb}
@@ -10,7 +10,6 @@ use Rattle.net_items.specs.Lookups.{plan_at}
 use Rattle.net_data.specs.Network.{Network}
 use Rattle.profile.proofs.CertificateLemmas.{find-map}
 use Rattle.excerpts.specs.Excerpt.{ExcerptValue, excerpt_in, excerpt_at, IsExcerptAnswer}
-use Rattle.excerpts.specs.declared.faults.ExcerptFault.{ExcerptFault}
 use Rattle.transfer_state.proofs.SweepLemmas.{at_index}
 use Rattle.net_items.specs.declared.lists.Row.{Row}
 use Rattle.profile.specs.declared.tables.RowState.{RowState}

@@ -1,6 +1,6 @@
 -- A published version: a numbered network, with what is kept of the settled routing of each of its planned destinations (own).
 use Rattle.std.specs.Prelude.{◌≡◌, ℕ, List, Option, map}
-use Rattle.std.specs.Option.{option_map, option_map_or}
+use Rattle.std.specs.Option.{option_map}
 use Rattle.net_items.specs.declared.items.Plan.{Plan}
 use Rattle.net_items.specs.Keyed.{at_key}
 use Rattle.net_data.specs.declared.events.Event.{Event}

@@ -1,13 +1,10 @@
 -- The hops of a trace, one after the other.
 use Rattle.std.proofs.Common.{◌≡◌, ℕ, zero, suc, ◌-◌, ◌++◌, List, [], ◌∷◌, Option, Some, None, false, eqb, refl, sym, ap, ◌∙◌, append_assoc, append-nil, arith}
 use Rattle.std.specs.Option.{option_map, option_and_then}
-use Rattle.net_items.specs.declared.lists.Row.{Row}
 use Rattle.profile.specs.declared.hops.Hop.{Hop}
-use Rattle.profile.specs.declared.tables.LinkRef.{LinkRef}
-use Rattle.profile.specs.Status.{Source, source_row, choice}
-use Rattle.profile.specs.Whole.{carrier, link_of}
+use Rattle.profile.specs.Status.{Source}
 use Rattle.profile.specs.Traces.{hops_along, hops_within, hop_of}
-use Rattle.profile.proofs.HopLemmas.{hops_end, hops_without_row, hops_without_via, hops_without_link, hops_more}
+use Rattle.profile.proofs.HopLemmas.{hops_end}
 
 -- those hops before others
 abbrev pub after : List Hop → Option (List Hop) → Option (List Hop)

@@ -95,7 +95,7 @@ kept_is v settled y x s = go (plan_at v.network.plans x) refl
         let rows : rows_kept v x ≡ (choices_of (scratch src)).rows = ap (λ (ts : List ChoiceTable). option_map_or (λ (t : ChoiceTable). t.rows) (at_key (λ (t : ChoiceTable). t.dest) x ts) []) settled ∙ rows_there net x plan at in
         ap (λ (kept : List ChoiceRow). trace_kept_by (record { network = net; plan = plan }) kept y s) rows
         ∙ ap (λ (hops : Option (List Hop)). option_map_or (λ row. Ok hops) (row_at plan.rows y) (Err NoRow))
-          (along_same (λ z. hop_kept src (choices_of (scratch src)).rows z s) (λ z. hop_of src z s) (λ z. hop_there src z s) src.dest (2 * source_rank src y) y)
+        (along_same (λ z. hop_kept src (choices_of (scratch src)).rows z s) (λ z. hop_of src z s) (λ z. hop_there src z s) src.dest (2 * source_rank src y) y)
 
 -- the trace by the excerpt of a destination is the one that there is
 trace_there : (net : Network) (y x s : ℕ) (e : ExcerptValue) → Some e ≡ excerpt_at net x → trace_by e y s ≡ trace_at net y x s

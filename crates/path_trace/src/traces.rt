@@ -1,10 +1,8 @@
 //! The trace.
 
 ghost use Rattle.std.specs.Prelude.{◌≡◌, ◌<◌, ◌*◌, IfOk, Some};
-ghost use Rattle.net_items.specs.declared.items.Plan.{Plan};
-ghost use Rattle.net_items.specs.Lookups.{plan_at};
 ghost use Rattle.profile.specs.Traces.{hops_in, hops_within};
-ghost use Rattle.excerpts.specs.Excerpt.{network_source, source_of};
+ghost use Rattle.excerpts.specs.Excerpt.{source_of};
 ghost use Rattle.path_trace.specs.Traces.{trace_at, trace_by as trace_from, trace_kept, IsTraceAnswer, IsTold};
 
 use crate::faults::TraceFault;

@@ -1,6 +1,6 @@
 //! The changes from a network to another.
 
-ghost use Rattle.std.specs.Prelude.{◌≡◌, ◌++◌, [], true, IfOk, OnOk, map};
+ghost use Rattle.std.specs.Prelude.{◌≡◌, ◌++◌, [], true, IfOk, OnOk};
 ghost use Rattle.std.specs.Option.{option_copied};
 ghost use Rattle.excerpts.specs.Excerpt.{excerpt_at};
 ghost use Rattle.transfer_state.specs.Routing.{routed_excerpt, settled_routing};

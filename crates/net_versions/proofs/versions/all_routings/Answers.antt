@@ -1,4 +1,4 @@
-use Rattle.std.proofs.Common.{◌≡◌, ◌++◌, ◌<◌, ◌+◌, List, ap, sym, ◌∙◌, arith, length, map, drop}
+use Rattle.std.proofs.Common.{◌++◌, ◌<◌, ◌+◌, List, ap, ◌∙◌, arith, length, map, drop}
 use Rattle.net_items.specs.declared.items.Plan.{Plan}
 use Rattle.net_data.specs.Network.{Network}
 use Rattle.excerpts.specs.Excerpt.{excerpt_in}

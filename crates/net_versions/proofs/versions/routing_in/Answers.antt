@@ -1,10 +1,10 @@
-use Rattle.std.proofs.Common.{◌≡◌, ◌<◌, ℕ, Some, List, ap, sym, ◌∙◌, subst, length, get_or}
+use Rattle.std.proofs.Common.{◌≡◌, Some, List, ap, sym, ◌∙◌, subst, get_or}
 use Rattle.std.proofs.lemmas.List.{get_or_default}
 use Rattle.std.specs.Option.{option_map}
 use Rattle.net_items.specs.declared.items.Plan.{Plan}
 use Rattle.net_items.specs.Lookups.{plan_at}
 use Rattle.net_data.specs.Network.{Network}
-use Rattle.excerpts.specs.Excerpt.{ExcerptValue, excerpt_in, excerpt_at}
+use Rattle.excerpts.specs.Excerpt.{excerpt_in, excerpt_at}
 use Rattle.transfer_state.specs.Routing.{settled_routing}
 use Rattle.net_versions.proofs.PlannedLemmas.{found_in_place, answer_is}
 use Rattle.net_versions.proofs.versions.routing_in.Goals as goal

@@ -1,4 +1,4 @@
-use Rattle.std.proofs.Common.{◌∙◌, ap, subst, sym}
+use Rattle.std.proofs.Common.{◌∙◌, ap, subst}
 use Rattle.excerpts.specs.Excerpt.{IsRight}
 use Rattle.transfer_state.specs.Routing.{routed_excerpt}
 use Rattle.net_versions.proofs.PlannedLemmas.{routed_there}

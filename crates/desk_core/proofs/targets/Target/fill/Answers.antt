@@ -1,4 +1,4 @@
-use Rattle.std.proofs.Common.{◌≡◌, ap, sym, ◌∙◌, subst, Some, List}
+use Rattle.std.proofs.Common.{◌≡◌, ap, ◌∙◌, subst, Some, List}
 use Rattle.net_items.specs.Keyed.{IsFoundAt, IsGapAt}
 use Rattle.excerpts.specs.Excerpt.{content_at, content_of}
 use Rattle.transfer_state.specs.Routing.{RoutingSlotValue, RoutingValue}

@@ -1,4 +1,4 @@
-use Rattle.std.proofs.Common.{◌≡◌, List, ap, map, ◌∙◌}
+use Rattle.std.proofs.Common.{List, ap, map, ◌∙◌}
 use Rattle.transfer_state.specs.Routing.{ChoiceTable, RoutingValue, kept_table}
 use Rattle.net_versions.specs.Versions.{VersionValue}
 use Rattle.net_versions.proofs.PlannedLemmas.{routings_kept}

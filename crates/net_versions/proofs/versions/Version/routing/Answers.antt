@@ -1,4 +1,4 @@
-use Rattle.std.proofs.Common.{◌≡◌, Some, sym, ap, ◌∙◌, subst, List}
+use Rattle.std.proofs.Common.{Some, sym, ap, ◌∙◌, subst, List}
 use Rattle.net_items.specs.Keyed.{IsRising, IsFoundAt, IsGapAt, at_key}
 use Rattle.transfer_state.specs.Routing.{RoutingValue}
 use Rattle.net_versions.specs.Versions.{routing_at, VersionValue}

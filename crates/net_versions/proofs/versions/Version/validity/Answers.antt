@@ -1,4 +1,4 @@
-use Rattle.std.proofs.Common.{◌≡◌, List, ap, map, subst, ◌∙◌}
+use Rattle.std.proofs.Common.{List, ap, map, subst, ◌∙◌}
 use Rattle.transfer_state.specs.Routing.{RoutingValue, kept_table}
 use Rattle.net_versions.specs.Versions.{IsSettledVersion}
 use Rattle.net_versions.proofs.PlannedLemmas.{routings_kept}

@@ -1,4 +1,4 @@
-use Rattle.std.proofs.Common.{◌≡◌, List, ap}
+use Rattle.std.proofs.Common.{List, ap}
 use Rattle.route_choice.specs.declared.choices.Choice.{Choice}
 use Rattle.excerpts.specs.Excerpt.{ExcerptValue}
 use Rattle.transfer_state.specs.Routing.{RoutingValue}
