@@ -1,9 +1,11 @@
 //! Tests of the parts: codes, links, shares, choices, tokens, tables and plain data. Each call that allocates runs once
 //! with ample memory, and its answer is compared with one worked out by hand.
 //!
-//! Stands on `profile`, `tokens`. Nothing else changes with it.
+//! Stands on `profile`, `tokens`, `agreed`. Nothing else changes with it.
 #![tactic(auto)]
 
+#[cfg(test)]
+mod agreement_tests;
 #[cfg(test)]
 mod choice_tests;
 #[cfg(test)]
