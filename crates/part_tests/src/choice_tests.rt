@@ -78,10 +78,16 @@ fn uses_the_mate(rt: HostRuntime) -> Result<(), Fail> {
     Ok(())
 }
 
+/// Whether the row of 0-0-1 is found for this point.
+fn is_found(alloc: Global, point: &str) -> Result<bool, Fail> {
+    let rows = [new_row(alloc)?];
+    Ok(find_row(&rows, code(point)?).is_some())
+}
+
 #[test]
 fn finds_the_row_of_a_point(rt: HostRuntime) -> Result<(), Fail> {
-    let rows = [new_row(rt.alloc())?];
-    assert!(rt; find_row(&rows, code("0-0-1")?).is_some());
-    assert!(rt; find_row(&rows, code("0-0-2")?).is_none());
+    let own = is_found(rt.alloc(), "0-0-1")?;
+    let other = is_found(rt.alloc(), "0-0-2")?;
+    assert_eq!(rt; (own, other), (true, false));
     Ok(())
 }

@@ -1,13 +1,20 @@
 //! Lines of every form with their events, and lines that are no EVENT.
 
-use crate::edits::event_of;
 use link_state::{End, LinkChange};
 use net_data::Event;
 use net_items::{Classes, Kind, Plan, Row, Rows, Vias};
 use point_codes::PointCode;
 use sample_nets::{add_set, code};
+use script_words::read_event;
 use std::alloc::{AllocError, Global};
 use std::test::Fail;
+use tokens::split_words;
+
+/// The event that a line says, if it says one.
+fn event_of(alloc: Global, line: &str) -> Result<Option<Event>, Fail> {
+    let words = split_words(alloc, line.as_bytes())?;
+    Ok(read_event(alloc, words.as_slice())?)
+}
 
 /// Whether a line says an event.
 fn says(alloc: Global, line: &str, event: &Event) -> Result<bool, Fail> {

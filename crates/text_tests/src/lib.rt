@@ -1,4 +1,4 @@
-//! Tests of network texts, of edits and of the words of commands. Each call that allocates runs once with ample memory,
+//! Tests of network texts and of the words of commands. Each call that allocates runs once with ample memory,
 //! and its answer is compared with one worked out by hand.
 //!
 //! Stands on `script_words`, `net_saving`, `sample_nets`. Nothing else changes with it.
@@ -7,18 +7,10 @@
 #[cfg(test)]
 mod command_tests;
 #[cfg(test)]
-mod edit_tests;
-#[cfg(test)]
-mod edits;
-#[cfg(test)]
 mod event_tests;
-#[cfg(test)]
-mod net_tests;
-#[cfg(test)]
-mod plan_tests;
 #[cfg(test)]
 mod reading_tests;
 #[cfg(test)]
-mod refusal_tests;
+mod readings;
 #[cfg(test)]
 mod saving_tests;

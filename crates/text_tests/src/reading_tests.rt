@@ -1,6 +1,6 @@
 //! One text in both formats against the network that its events build, and each kind of fault with its place.
 
-use crate::edits::reads_as;
+use crate::readings::reads_as;
 use link_state::{End, LinkChange};
 use net_data::{Event, Net, Refusal};
 use net_items::{Classes, Kind, Plan, Row, Rows, Slcs, Vias};

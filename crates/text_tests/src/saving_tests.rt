@@ -1,6 +1,6 @@
 //! A network with every kind of entry, saved and loaded again, and the text of a small network.
 
-use crate::edits::reads_as;
+use crate::readings::reads_as;
 use net_data::Net;
 use net_saving::save;
 use net_text::load;

@@ -1,22 +1,16 @@
-//! Events by their words, and what tests ask of an edit and of a network.
+//! Edits by their lines, and what tests ask of an edit and of a network.
 
 use net_data::{Event, Net, Refusal};
-use net_text::load;
 use sample_nets::{net_of, worked};
 use script_words::read_event;
 use std::alloc::Global;
 use std::test::Fail;
 use tokens::split_words;
 
-/// The event that a line says, if it says one.
-pub(crate) fn event_of(alloc: Global, line: &str) -> Result<Option<Event>, Fail> {
-    let words = split_words(alloc, line.as_bytes())?;
-    Ok(read_event(alloc, words.as_slice())?)
-}
-
 /// The event of a line that says one.
 pub(crate) fn event(alloc: Global, line: &str) -> Result<Event, Fail> {
-    Ok(event_of(alloc, line)?.ok_or("no event")?)
+    let words = split_words(alloc, line.as_bytes())?;
+    Ok(read_event(alloc, words.as_slice())?.ok_or("no event")?)
 }
 
 /// Makes the edit that a line says. A refusal fails the test.
@@ -83,12 +77,6 @@ pub(crate) fn turned_back(
     let changes = !net.equals(&before);
     edit(alloc, net, back)?;
     Ok((changes, net.equals(&before)))
-}
-
-/// Whether a text reads as a network.
-pub(crate) fn reads_as(alloc: Global, text: &str, net: &Net) -> Result<bool, Fail> {
-    let read = load(alloc, text.as_bytes())?;
-    Ok(read.equals(net))
 }
 
 /// Whether a network is the one of those entries.
