@@ -3,13 +3,11 @@
 # What was proved before and hasn't changed is taken as it is. The whole output is in out.log of crates/route_desk until it ends well.
 #
 # The prover works on one crate of a tree at a time, and then leaves about half of four processors idle. So the first time
-# the crates of words are proved in a copy of the tree, beside those of the profile and the desk, and taken over from
-# there: the prover knows what it proved by a sum of the sources, wherever they stand.
+# two lanes are proved side by side, one of them in a copy of the tree; after each stage either takes over what the other
+# has proved: the prover knows what it proved by a sum of the sources, wherever they stand.
 set -o pipefail
 cd "$(dirname "$0")/.."
 log=crates/route_desk/out.log
-words="tokens script_words net_building net_text net_saving command_line"
-
 # the crates that the program stands on, and the program
 count=$(awk -F: '/^[a-z]/ { split($1, name, " "); below[name[1]] = $2 }
     function visit(crate,   names, n, i) {
@@ -27,28 +25,45 @@ memory=$(awk '/^MemAvailable:/ { print int($2 / 4000000) }' /proc/meminfo)
 [ "$jobs" -gt 4 ] && jobs=4
 [ "$jobs" -lt 1 ] && jobs=1
 
-# proves a library and all below it: the tree, the crate, the number of jobs
+# proves libraries and all below them: the tree, the number of jobs, the crates
 prove() {
-    (cd "$1/crates/$2" && rt lib --jobs "$3")
+    local tree=$1 jobs=$2 crate
+    shift 2
+    for crate; do (cd "$tree/crates/$crate" && rt lib --jobs "$jobs"); done
 }
 
-# proves most libraries, the words in a copy of the tree; what fails here fails again below, and is told there
+# takes over what one tree has proved and another has not
+take_over() {
+    local crate
+    for crate in "$1"/crates/*/out/rlib/stamp; do
+        crate=${crate%/out/rlib/stamp}
+        crate=${crate##*/}
+        [ -e "$2/crates/$crate/out/rlib/stamp" ] && continue
+        rm -rf "$2/crates/$crate/out"
+        cp -a "$1/crates/$crate/out" "$2/crates/$crate/"
+    done
+}
+
+# a stage: crates of this tree, a comma, and crates of the copy, side by side
+stage() {
+    prove "$copy" 2 ${1#*,} &
+    prove . 2 ${1%,*}
+    wait
+    take_over . "$copy"
+    take_over "$copy" .
+}
+
+# proves the libraries; what fails here fails again below, and is told there
 prove_side_by_side() {
-    local copy crate
-    prove . net_data "$jobs" || return
+    local copy
+    prove . "$jobs" net_items || return
     copy=$(mktemp -d) || return
     tar c --exclude=out --exclude=must-fail crates.txt HANDLES crates | tar x -C "$copy"
-    for crate in crates/*/out/rlib; do
-        cp -a "${crate%/rlib}" "$copy/${crate%/out/rlib}/"
-    done
-    (for crate in script_words net_saving command_line; do prove "$copy" "$crate" 3; done) &
-    for crate in desk_core what_if all_tables; do prove . "$crate" 3; done
-    wait
-    for crate in $words; do
-        [ -d "$copy/crates/$crate/out/rlib" ] || continue
-        rm -rf "crates/$crate/out"
-        mv "$copy/crates/$crate/out" "crates/$crate/"
-    done
+    take_over . "$copy"
+    stage "net_data, profile tokens command_line"
+    stage "transfer_state dirty_sets net_versions path_trace, script_words net_saving"
+    stage "desk_core all_tables, what_if answers"
+    stage "desk_console, sessions"
     rm -rf "$copy"
 }
 
@@ -74,7 +89,7 @@ tell() {
 }
 
 {
-    [ "$jobs" -ge 4 ] && [ ! -d crates/net_data/out/rlib ] && prove_side_by_side
+    [ "$jobs" -ge 4 ] && [ ! -d crates/net_items/out/rlib ] && prove_side_by_side
     cd crates/route_desk && rt run --jobs "$jobs" -- --help
 } 2>&1 | tee "$log" | while IFS= read -r line; do tell "$line"; done
 status=${PIPESTATUS[0]}

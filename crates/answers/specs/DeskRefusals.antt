@@ -1,8 +1,8 @@
 -- How a desk's refusals are printed: a number, a name, and the values of those that have some.
 use Rattle.std.specs.Prelude.{ℕ, List, ◌++◌, Option, Some, None, codes}
 use Rattle.std.specs.Fmt.{decimal}
-use Rattle.desk_core.specs.declared.replies.Refusal.{Refusal}
-use Rattle.desk_core.specs.declared.replies.Refusal.TheVariants as desk
+use Rattle.work_units.specs.declared.replies.Refusal.{Refusal}
+use Rattle.work_units.specs.declared.replies.Refusal.TheVariants as desk
 use Rattle.answers.specs.Refusals as edits
 
 -- the number of the open target, if there is one

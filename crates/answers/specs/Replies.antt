@@ -3,10 +3,10 @@ use Rattle.std.specs.Prelude.{ℕ, List, ◌∷◌, ◌++◌, Result, Ok, Err, c
 use Rattle.std.specs.Fmt.{decimal}
 use Rattle.point_codes.specs.Codes.{code_text}
 use Rattle.work_units.specs.Work.{Work}
-use Rattle.desk_core.specs.declared.replies.Posted.{Posted}
-use Rattle.desk_core.specs.declared.replies.Posted.TheVariants.{Taken, Again}
-use Rattle.desk_core.specs.declared.replies.Opened.{Opened}
-use Rattle.desk_core.specs.declared.replies.Refusal.{Refusal}
+use Rattle.work_units.specs.declared.replies.Posted.{Posted}
+use Rattle.work_units.specs.declared.replies.Posted.TheVariants.{Taken, Again}
+use Rattle.work_units.specs.declared.replies.Opened.{Opened}
+use Rattle.work_units.specs.declared.replies.Refusal.{Refusal}
 use Rattle.answers.specs.DeskRefusals.{desk_refusal_text}
 
 -- `refused NUMBER NAME VALUES`

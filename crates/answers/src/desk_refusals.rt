@@ -7,9 +7,9 @@ ghost use Rattle.answers.specs.Text.{line_count};
 ghost use Rattle.answers.specs.DeskRefusals.{desk_refusal_text};
 
 use crate::put_refusal as put_edit_refusal;
-use desk_core::Refusal;
 use net_data::Refusal as EditRefusal;
 use std::alloc::{AllocError, Global};
+use work_units::Refusal;
 
 /// Adds a name, which ends in a space, and a number.
 fn put_numbered(alloc: Global, text: &mut String, name: &str, number: u64) -> Result<(), AllocError>

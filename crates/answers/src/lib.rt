@@ -17,7 +17,7 @@
 //!    N`; `synced N` and `version P accepted N` tell what is published and accepted.
 //! 10. A refusal is `refused`, its number, its name and its values. No answer has a line feed.
 //!
-//! Stands on `what_if`, `desk_core`, `script_words`, `itoa`. A change here also changes specs/ (Audits, DeskRefusals,
+//! Stands on `work_units`, `path_trace`, `what_if`, `script_words`, `itoa`. A change here also changes specs/ (Audits, DeskRefusals,
 //! Links, Messages, Plain, Refusals, Replies, Rows, Status, Text, Traces, WhatIfs), proofs/ and must-fail/.
 #![tactic(auto)]
 

@@ -6,10 +6,9 @@ ghost use Rattle.answers.specs.Text.{line_count};
 ghost use Rattle.answers.specs.Replies.{abandoned_text, given_text, job_text, opened_text, posted_text, published_text, refused_text, synced_text, version_text};
 
 use crate::desk_refusals::put_refusal;
-use desk_core::{Opened, Posted, Refusal};
 use itoa::Buffer;
 use std::alloc::{AllocError, Global};
-use work_units::{Job, Settled};
+use work_units::{Job, Opened, Posted, Refusal, Settled};
 
 /// A word and a number, in one piece of memory.
 fn join_number(alloc: Global, word: &str, number: u64) -> Result<String, AllocError>

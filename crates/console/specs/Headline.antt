@@ -4,13 +4,14 @@ use Rattle.std.specs.Io.KnownBytes.{Consumes, Appends}
 use Rattle.net_data.specs.declared.events.Event.{Event}
 use Rattle.net_data.specs.Network.{Network}
 use Rattle.net_text.specs.Reading.{Says}
+use Rattle.desk_console.specs.Commands.{Commands}
 use Rattle.desk_console.specs.Console.{ConsoleValue, opening}
 use Rattle.desk_console.specs.Right.{IsRightDesk}
 use Rattle.desk_console.specs.Taken.{taken_by}
-use Rattle.console.specs.Lines.{lines_of, trimmed}
-use Rattle.console.specs.Answers.{Replies}
-use Rattle.console.specs.Input.{script_part, text_part}
-use Rattle.console.specs.Run.{IsPrefixOf}
+use Rattle.sessions.specs.Lines.{lines_of, trimmed}
+use Rattle.sessions.specs.Replies.{Replies}
+use Rattle.sessions.specs.Input.{script_part, text_part}
+use Rattle.sessions.specs.Run.{IsPrefixOf}
 
 -- a line of a script, the text of its answer (empty if it gets none), and what stands at the console then
 pub record Moment : Type 0 where
@@ -27,7 +28,7 @@ texts (m ∷ moments) = m.text ++ texts moments
 abbrev pub AreRight : Network → List Event → ConsoleValue → List Moment → Type 0
 AreRight start events c [] = Unit {0}
 AreRight start events c (m ∷ moments) =
-    Replies m.line c m.text m.after × IsRightDesk start (events ++ taken_by (trimmed m.line) m.text) m.after.desk
+    Replies Commands m.line c m.text m.after × IsRightDesk start (events ++ taken_by (trimmed m.line) m.text) m.after.desk
     × AreRight start (events ++ taken_by (trimmed m.line) m.text) m.after moments
 
 -- from a new desk over a network the first of some lines were answered, what was written is a prefix of their answers, and the desk was right before the first

@@ -8,10 +8,10 @@ use Rattle.tokens.specs.Words.{words_of}
 use Rattle.script_words.specs.Commands.{command_of}
 use Rattle.script_words.specs.declared.commands.Command.{Command}
 use Rattle.script_words.specs.declared.commands.Command.TheVariants as command
-use Rattle.desk_core.specs.declared.replies.Posted.{Posted}
-use Rattle.desk_core.specs.declared.replies.Posted.TheVariants.{Taken, Again}
-use Rattle.desk_core.specs.declared.replies.Opened.{Opened}
-use Rattle.desk_core.specs.declared.replies.Refusal.{Refusal}
+use Rattle.work_units.specs.declared.replies.Posted.{Posted}
+use Rattle.work_units.specs.declared.replies.Posted.TheVariants.{Taken, Again}
+use Rattle.work_units.specs.declared.replies.Opened.{Opened}
+use Rattle.work_units.specs.declared.replies.Refusal.{Refusal}
 use Rattle.desk_core.specs.declared.steps.Step.TheVariants as step
 use Rattle.desk_core.specs.declared.steps.Reply.TheVariants as reply
 use Rattle.desk_core.specs.Desk.{DeskValue}

@@ -10,8 +10,8 @@ use Rattle.excerpts.specs.Excerpt.{ExcerptValue, content_at, content_in, content
 use Rattle.work_units.specs.Work.{Work}
 use Rattle.dirty_sets.specs.Waiting.{Task, waiting_task, out, is_out, least, taken, without_task}
 use Rattle.dirty_sets.proofs.ChangeLemmas.{key_of}
-use Rattle.desk_core.specs.declared.replies.Refusal.{Refusal}
-use Rattle.desk_core.specs.declared.replies.Refusal.TheVariants.{OutOfMemory}
+use Rattle.work_units.specs.declared.replies.Refusal.{Refusal}
+use Rattle.work_units.specs.declared.replies.Refusal.TheVariants.{OutOfMemory}
 use Rattle.desk_core.specs.Desk.{DeskValue, OpenTarget, net_at}
 use Rattle.desk_core.specs.Steps.{IsGiveReply, IsGiven, IsOfTarget, IsAbandonReply, Abandons, Gives, Takes, tasks_left, out_refusal, target_number}
 use Rattle.desk_console.specs.Settling.{HasOnlyTasks, out_count, waiting_count}

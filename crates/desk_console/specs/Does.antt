@@ -2,8 +2,8 @@
 use Rattle.std.specs.Prelude.{◌≡◌, ◌≢◌, ℕ, ◌+◌, ◌-◌, ◌^◌, ◌==◌, Bool, true, false, List, [], Option, Some, None, Result, Ok, Err, length, slice_set}
 use Rattle.net_data.specs.declared.events.Event.{Event}
 use Rattle.work_units.specs.Work.{Work}
-use Rattle.desk_core.specs.declared.replies.Refusal.{Refusal}
-use Rattle.desk_core.specs.declared.replies.Refusal.TheVariants.{OutOfMemory, EndOfNumbers}
+use Rattle.work_units.specs.declared.replies.Refusal.{Refusal}
+use Rattle.work_units.specs.declared.replies.Refusal.TheVariants.{OutOfMemory, EndOfNumbers}
 use Rattle.desk_core.specs.Desk.{DeskValue, accepted}
 use Rattle.desk_core.specs.Steps.{last_of, Posts, Opens, Takes, Gives, Abandons, Publishes}
 use Rattle.desk_core.specs.Runs.{IsRunOf}

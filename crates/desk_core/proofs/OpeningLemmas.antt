@@ -18,9 +18,9 @@ use Rattle.dirty_sets.specs.Marks.{Marked}
 use Rattle.dirty_sets.specs.Waiting.{Task, all_waiting, waiting, waiting_task}
 use Rattle.net_versions.specs.Versions.{excerpts}
 use Rattle.plan_rows.specs.Causes.{when, first}
-use Rattle.desk_core.specs.declared.replies.Opened.{Opened}
-use Rattle.desk_core.specs.declared.replies.Refusal.{Refusal}
-use Rattle.desk_core.specs.declared.replies.Refusal.TheVariants.{Busy, Nothing}
+use Rattle.work_units.specs.declared.replies.Opened.{Opened}
+use Rattle.work_units.specs.declared.replies.Refusal.{Refusal}
+use Rattle.work_units.specs.declared.replies.Refusal.TheVariants.{Busy, Nothing}
 use Rattle.desk_core.specs.Desk.{DeskValue, OpenTarget, accepted, net_now, to_settle, touched_by}
 use Rattle.desk_core.specs.Steps.{IsReply, Opens, with_target}
 use Rattle.desk_core.specs.Inside.{IsInside}

@@ -8,11 +8,11 @@ use Rattle.work_units.specs.Work.{Work}
 use Rattle.net_versions.specs.Versions.{VersionValue, IsSettledVersion, settled_tables}
 use Rattle.path_trace.specs.Traces.{trace_at}
 use Rattle.path_trace.proofs.KeptLemmas.{kept_is}
-use Rattle.desk_core.specs.declared.replies.Last.{Last}
-use Rattle.desk_core.specs.declared.replies.Opened.{Opened}
-use Rattle.desk_core.specs.declared.replies.Posted.{Posted}
-use Rattle.desk_core.specs.declared.replies.Posted.TheVariants.{Taken}
-use Rattle.desk_core.specs.declared.replies.Refusal.{Refusal}
+use Rattle.desk_core.specs.declared.posts.Last.{Last}
+use Rattle.work_units.specs.declared.replies.Opened.{Opened}
+use Rattle.work_units.specs.declared.replies.Posted.{Posted}
+use Rattle.work_units.specs.declared.replies.Posted.TheVariants.{Taken}
+use Rattle.work_units.specs.declared.replies.Refusal.{Refusal}
 use Rattle.desk_core.specs.declared.steps.Step.{Step}
 use Rattle.desk_core.specs.declared.steps.Step.TheVariants as step
 use Rattle.desk_core.specs.declared.steps.Reply.{Reply}

@@ -7,7 +7,7 @@ use Rattle.net_data.specs.Edits.{changed, replay}
 use Rattle.dirty_sets.specs.Touch.{touches}
 use Rattle.dirty_sets.specs.Waiting.{Task}
 use Rattle.net_versions.specs.Versions.{VersionValue, settled_version}
-use Rattle.desk_core.specs.declared.replies.Last.{Last}
+use Rattle.desk_core.specs.declared.posts.Last.{Last}
 
 -- an open target: the number of the next version, and the destinations that wait for a result or are out
 pub record OpenTarget : Type 0 where

@@ -6,10 +6,10 @@ use Rattle.net_data.specs.Network.{Network}
 use Rattle.work_units.specs.Work.{Work}
 use Rattle.net_versions.specs.Versions.{VersionValue, IsSettledVersion, settled_tables}
 use Rattle.path_trace.specs.Traces.{trace_at, trace_kept}
-use Rattle.desk_core.specs.declared.replies.Posted.{Posted}
-use Rattle.desk_core.specs.declared.replies.Posted.TheVariants.{Taken}
-use Rattle.desk_core.specs.declared.replies.Opened.{Opened}
-use Rattle.desk_core.specs.declared.replies.Refusal.{Refusal}
+use Rattle.work_units.specs.declared.replies.Posted.{Posted}
+use Rattle.work_units.specs.declared.replies.Posted.TheVariants.{Taken}
+use Rattle.work_units.specs.declared.replies.Opened.{Opened}
+use Rattle.work_units.specs.declared.replies.Refusal.{Refusal}
 use Rattle.desk_core.specs.declared.steps.Step.{Step}
 use Rattle.desk_core.specs.declared.steps.Step.TheVariants as step
 use Rattle.desk_core.specs.declared.steps.Reply.{Reply}

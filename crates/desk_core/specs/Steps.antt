@@ -8,12 +8,12 @@ use Rattle.excerpts.specs.Excerpt.{content_at, content_of, excerpt_at}
 use Rattle.work_units.specs.Work.{Work}
 use Rattle.dirty_sets.specs.Waiting.{Task, all_waiting, first_waiting, taken, is_out, put_last, without_task}
 use Rattle.net_versions.specs.Versions.{VersionValue}
-use Rattle.desk_core.specs.declared.replies.Last.{Last}
-use Rattle.desk_core.specs.declared.replies.Posted.{Posted}
-use Rattle.desk_core.specs.declared.replies.Posted.TheVariants.{Taken, Again}
-use Rattle.desk_core.specs.declared.replies.Opened.{Opened}
-use Rattle.desk_core.specs.declared.replies.Refusal.{Refusal}
-use Rattle.desk_core.specs.declared.replies.Refusal.TheVariants.{OutOfMemory, Edit, Gap, Old, Clash, BacklogFull, NotReady, Nothing, Busy, Stale, Unasked, Differs, EndOfNumbers, NotOpen}
+use Rattle.desk_core.specs.declared.posts.Last.{Last}
+use Rattle.work_units.specs.declared.replies.Posted.{Posted}
+use Rattle.work_units.specs.declared.replies.Posted.TheVariants.{Taken, Again}
+use Rattle.work_units.specs.declared.replies.Opened.{Opened}
+use Rattle.work_units.specs.declared.replies.Refusal.{Refusal}
+use Rattle.work_units.specs.declared.replies.Refusal.TheVariants.{OutOfMemory, Edit, Gap, Old, Clash, BacklogFull, NotReady, Nothing, Busy, Stale, Unasked, Differs, EndOfNumbers, NotOpen}
 use Rattle.desk_core.specs.Desk.{DeskValue, OpenTarget, accepted, no_post, net_at, net_now, to_settle, next_version}
 
 -- what a step does: a refusal, with all as it was, or the change, or out of memory, with all as it was

@@ -12,7 +12,7 @@ mod reading;
 
 use crate::following::{drop_front, follow_with_copy};
 use crate::opening::new_target;
-use crate::replies::{Last, Opened, Posted, Refusal};
+use crate::posts::Last;
 use crate::targets::Target;
 use dirty_sets::Touched;
 use net_data::{Event, Net};
@@ -21,7 +21,7 @@ use point_codes::PointCode;
 use std::alloc::{AllocError, Global};
 use std::marker::Model;
 use std::sync::Arc;
-use work_units::{Job, Settled};
+use work_units::{Job, Opened, Posted, Refusal, Settled};
 
 /// How many accepted events may stand unpublished.
 const BACKLOG_LIMIT: usize = 65536;

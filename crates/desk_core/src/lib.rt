@@ -21,13 +21,13 @@
 pub mod desk;
 mod following;
 mod opening;
-pub mod replies;
+pub mod posts;
 pub mod runs;
 pub mod steps;
 mod targets;
 
 pub use desk::Desk;
 pub use net_versions::Version;
-pub use replies::{Opened, Posted, Refusal};
 pub use runs::run;
 pub use steps::{Reply, Step};
+pub use work_units::{Opened, Posted, Refusal};

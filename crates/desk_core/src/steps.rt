@@ -1,9 +1,8 @@
 //! Steps of a desk, and the answers to them.
 
-use crate::replies::{Opened, Posted, Refusal};
 use net_data::Event;
 use point_codes::PointCode;
-use work_units::{Job, Settled};
+use work_units::{Job, Opened, Posted, Refusal, Settled};
 
 /// A step of a desk.
 #[derive(Drop)]

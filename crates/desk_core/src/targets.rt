@@ -10,14 +10,13 @@ ghost use Rattle.dirty_sets.specs.Waiting.{first_waiting, taken, is_out as out_a
 ghost use Rattle.net_versions.specs.Versions.{settled_routings};
 ghost use Rattle.desk_core.specs.Targets.{AreFilled};
 
-use crate::replies::Refusal;
 use dirty_sets::Waiting;
 use excerpts::{ExcerptFault, Frozen};
 use point_codes::PointCode;
 use std::alloc::{AllocError, Global};
 use std::marker::Model;
 use transfer_state::{Routing, RoutingSlot};
-use work_units::{Job, Settled};
+use work_units::{Job, Refusal, Settled};
 
 /// An open target.
 #[derive(Drop)]

@@ -1,7 +1,7 @@
 use Rattle.std.proofs.Common.{List, ℕ, take, ap, subst}
 use Rattle.console.specs.Input.{IsOpened}
 use Rattle.console.proofs.HeadlineLemmas.{ran_input_right}
-use Rattle.console.proofs.InputLemmas.{ran_unopened, ran_unloaded}
+use Rattle.console.proofs.InputLemmas.{ran_after, ran_unopened, ran_unloaded}
 use Rattle.console.proofs.input.run_input.Goals as goal
 
 pub returns-in-Err-clause-ran : goal.returns-in-Err-clause-ran
@@ -19,7 +19,11 @@ returns-in-Err-open_text-clause-ran g c =
 pub returns-in-Err-open_text-clause-right : goal.returns-in-Err-open_text-clause-right
 returns-in-Err-open_text-clause-right g c = ran_input_right _ _ _ _ _ _ _ (returns-in-Err-open_text-clause-ran g c)
 
+pub returns-in-Ok-open_text-clause-ran : goal.returns-in-Ok-open_text-clause-ran
+returns-in-Ok-open_text-clause-ran g c =
+    ran_after _ _ _ _ _ _ _ _ _
+    (subst (λ (text : List ℕ). IsOpened text c.in-Ok-open_text.console) (ap (take c.in-Ok.opening.text) c.deref.ensures.value) c.in-Ok-open_text.ensures)
+    (c.run.ensures (g.R.Read.remaining c.args.reader.now) c.in-Ok.ensures)
+
 pub returns-in-Ok-open_text-clause-right : goal.returns-in-Ok-open_text-clause-right
-returns-in-Ok-open_text-clause-right g c =
-    ran_input_right _ _ _ _ _ _ _ (c.run.ensures (g.R.Read.remaining c.args.reader.now) c.in-Ok.ensures
-    (subst (λ (text : List ℕ). IsOpened text c.in-Ok-open_text.console) (ap (take c.in-Ok.opening.text) c.deref.ensures.value) c.in-Ok-open_text.ensures))
+returns-in-Ok-open_text-clause-right g c = ran_input_right _ _ _ _ _ _ _ (returns-in-Ok-open_text-clause-ran g c)

@@ -3,7 +3,7 @@ use Rattle.std.proofs.Math.ListN.{length-set}
 use Rattle.net_data.specs.declared.events.Event.{Event}
 use Rattle.net_data.specs.Edits.{refusal_of}
 use Rattle.dirty_sets.specs.Touched.{marks_of}
-use Rattle.desk_core.specs.declared.replies.Last.{Last}
+use Rattle.desk_core.specs.declared.posts.Last.{Last}
 use Rattle.desk_core.specs.Desk.{DeskValue, accepted, net_now}
 use Rattle.desk_core.specs.Steps.{with_post}
 use Rattle.desk_core.proofs.InsideLemmas.{inside_alike, inside_post, inside_same}

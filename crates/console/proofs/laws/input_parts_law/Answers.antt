@@ -1,5 +1,0 @@
-use Rattle.console.proofs.InputLemmas.{put_together}
-use Rattle.console.proofs.laws.input_parts_law.Goals as goal
-
-pub returns : goal.returns
-returns c = put_together

@@ -1,0 +1,214 @@
+-- What one more line and one more piece do to a run.
+use Rattle.std.proofs.Common.{◌≡◌, ℕ, ◌+◌, true, List, [], ◌∷◌, ◌++◌, take, drop, Option, Some, None, sym, ap, subst, refl, ◌∙◌, arith, append_assoc, append-nil}
+use Rattle.std.proofs.lemmas.List.{take-append-drop}
+use Rattle.std.specs.Io.KnownBytes.{Appends, Consumes, Keeps, IsAtEnd}
+use Rattle.std.proofs.KnownBytes.{Appends-trans, Appends-nil, Consumes-nil, Consumes-trans, Consumes-kept}
+use Rattle.point_codes.proofs.CodeLemmas.{lacks}
+use Rattle.net_data.specs.Network.{Network}
+use Rattle.sessions.specs.Lines.{cut, whole_lines, rest_of, lines_of}
+use Rattle.sessions.specs.Replies.{Replies, Answered}
+use Rattle.answers.specs.Text.{line_count}
+use Rattle.sessions.specs.Run.{IsLine, IsTaken, IsAt, HasAnswered, IsAnsweredInPart, IsCutOff, CutsOff, IsEnd, IsOutcome, Ran}
+use Rattle.sessions.specs.declared.faults.Fault.{Fault}
+use Rattle.sessions.specs.declared.faults.Fault.TheVariants.{OutOfMemory, Read, Write, Load}
+use Rattle.sessions.specs.declared.session.Session.{Session}
+use Rattle.sessions.proofs.LineLemmas.{cut_ended, cut_grown_all, whole_more}
+use Rattle.sessions.proofs.AnswerLemmas.{Answered-none, ended_answers, part_whole, part_of_more, part_less}
+use Rattle.answers.proofs.PlainLemmas.{line_count-append}
+
+module _ {S : Type 0} (Commands : List ℕ → S → List ℕ → S → Type 0) where
+  -- a line was ended and answered
+  pub taken_line : (start : S) (read written : List ℕ) (s t : Session S) (text : List ℕ) → IsTaken Commands start read written s
+      → Replies Commands (rest_of read) s.state text t.state → t.answers.items ≡ s.answers.items ++ text → IsLine t.line []
+      → IsTaken Commands start (read ++ 10 ∷ []) written t
+  taken_line start read written s t text at reply said empty = record {
+    answered = subst (λ x. Answered Commands start (whole_lines (read ++ 10 ∷ [])) x t.state)
+        (append_assoc written s.answers.items text ∙ ap (λ x. written ++ x) (sym said))
+        (ended_answers Commands start s.state t.state read (written ++ s.answers.items) text at.answered reply);
+    rest = subst (IsLine t.line) (ap (λ c. c.rest) (sym (cut_ended read))) empty;
+  }
+
+  -- bytes of a line were taken
+  pub taken_piece : (start : S) (all read written : List ℕ) (s t : Session S) (bytes : List ℕ) → read ++ bytes ≡ all → IsTaken Commands start read written s
+      → lacks 10 bytes ≡ true → t.answers.items ≡ s.answers.items → t.state ≡ s.state → IsLine t.line (rest_of read ++ bytes)
+      → IsTaken Commands start all written t
+  taken_piece start all read written s t bytes e at none said same rest =
+      let cuts = ap cut (sym e) ∙ cut_grown_all read bytes none in
+      let whole : whole_lines all ≡ whole_lines read = ap (λ c. c.whole) cuts in
+      record {
+        answered = rw (whole, said, same) at.answered;
+        rest = subst (IsLine t.line) (ap (λ c. c.rest) (sym cuts)) rest;
+      }
+
+  -- what is answered of a part are answers to the first lines of all
+  pub taken_part : (start : S) (all read more written : List ℕ) (s : Session S) (waiting : List ℕ) → read ++ more ≡ all → IsTaken Commands start read written s
+      → waiting ≡ s.answers.items → IsAnsweredInPart Commands start (whole_lines all) (written ++ waiting)
+  taken_part start all read more written s waiting e at same =
+      let rest = whole_more read more in
+      part_of_more Commands start (written ++ waiting) (whole_lines read) rest.0 _ (ap whole_lines (sym e) ∙ rest.1)
+      (part_whole Commands start s.state (whole_lines read) (written ++ s.answers.items) (written ++ waiting) at.answered (ap (λ x. written ++ x) (sym same)))
+
+  -- between two reads nothing waits
+  pub at_taken : (start : S) (read : List ℕ) (held holds : Option (List ℕ)) (s : Session S) → (at : IsAt Commands start read held holds s)
+      → IsTaken Commands start read at.written s
+  at_taken start read held holds s at = record {
+    answered = subst (λ x. Answered Commands start (whole_lines read) x s.state) (sym (ap (λ x. at.written ++ x) at.none ∙ append-nil at.written)) at.answered;
+    rest = at.rest;
+  }
+
+  -- what waited was written
+  pub flushed : (start : S) (read written : List ℕ) (held before holds : Option (List ℕ)) (s t : Session S) → IsTaken Commands start read written s
+      → Appends held before written → s.lines ≡ line_count written → Appends before holds s.answers.items
+      → t.answers.items ≡ [] → t.lines ≡ s.lines + line_count s.answers.items → t.state ≡ s.state → t.line ≡ s.line
+      → IsAt Commands start read held holds t
+  flushed start read written held before holds s t taken had counted wrote none more state line =
+      let both = line_count-append written s.answers.items in
+      record {
+        written = written ++ s.answers.items;
+        answered = subst (Answered Commands start (whole_lines read) (written ++ s.answers.items)) (sym state) taken.answered;
+        appended = Appends-trans held before holds _ _ had wrote;
+        counted = omega arith;
+        none = none;
+        rest = subst (λ l. IsLine l (rest_of read)) (sym line) taken.rest;
+      }
+
+  -- a part of what waited was written
+  pub flushed_part : (start : S) (asked : List (List ℕ)) (written waiting : List ℕ) (held before holds : Option (List ℕ)) (n had lines : ℕ)
+      → IsAnsweredInPart Commands start asked (written ++ waiting) → Appends held before written → had ≡ line_count written
+      → Appends before holds (take n waiting) → lines ≡ had + line_count (take n waiting)
+      → IsCutOff Commands start asked held holds lines
+  flushed_part start asked written waiting held before holds n had lines part kept counted wrote more =
+      let both = line_count-append written (take n waiting) in
+      record {
+        written = written ++ take n waiting;
+        appended = Appends-trans held before holds _ _ kept wrote;
+        part = part_less Commands start asked (written ++ waiting) (written ++ take n waiting) (drop n waiting)
+            (ap (λ t. written ++ t) (sym (take-append-drop n waiting)) ∙ sym (append_assoc written (take n waiting) (drop n waiting))) part;
+        counted = omega arith;
+      }
+
+  pub flushed_whole : (start : S) (asked : List (List ℕ)) (written waiting : List ℕ) (held before holds : Option (List ℕ)) (had lines : ℕ)
+      → IsAnsweredInPart Commands start asked (written ++ waiting) → Appends held before written → had ≡ line_count written
+      → Appends before holds waiting → lines ≡ had + line_count waiting
+      → IsCutOff Commands start asked held holds lines
+  flushed_whole start asked written waiting held before holds had lines part kept counted wrote more =
+      let both = line_count-append written waiting in
+      record { written = written ++ waiting; appended = Appends-trans held before holds _ _ kept wrote; part = part; counted = omega arith }
+
+  -- a run that has read nothing
+  pub at_start : (start : S) (held : Option (List ℕ)) (s : Session S) → s.state ≡ start → IsLine s.line [] → s.answers.items ≡ [] → s.lines ≡ 0 → IsAt Commands start [] held held s
+  at_start start held s same empty none zero = record {
+    written = [];
+    answered = (refl, same);
+    appended = Appends-nil held;
+    counted = zero;
+    none = none;
+    rest = empty;
+  }
+
+  pub at_first : (start : S) (unread held : Option (List ℕ)) (s : Session S) → s.state ≡ start → IsLine s.line [] → s.answers.items ≡ [] → s.lines ≡ 0
+      → HasAnswered Commands start unread unread held held s
+  at_first start unread held s same empty none zero = record {
+    read = [];
+    consumed = Consumes-nil unread;
+    at = at_start start held s same empty none zero;
+  }
+
+  -- a piece was read and answered
+  pub answered_more : (start : S) (unread left more held holds more_holds : Option (List ℕ)) (s t : Session S) (chunk : List ℕ)
+      → HasAnswered Commands start unread left held holds s → Consumes left more chunk
+      → ((read : List ℕ) → IsAt Commands start read held holds s → IsAt Commands start (read ++ chunk) held more_holds t)
+      → HasAnswered Commands start unread more held more_holds t
+  answered_more start unread left more held holds more_holds s t chunk has took step = record {
+    read = has.read ++ chunk;
+    consumed = Consumes-trans unread left more _ _ has.consumed took;
+    at = step has.read has.at;
+  }
+
+  -- nothing was read
+  pub answered_same : (start : S) (unread left more held holds : Option (List ℕ)) (s : Session S) (chunk : List ℕ)
+      → HasAnswered Commands start unread left held holds s → Consumes left more chunk → chunk ≡ [] → HasAnswered Commands start unread more held holds s
+  answered_same start unread left more held holds s chunk has took none = record {
+    read = has.read;
+    consumed = subst (Consumes unread more) (ap (λ c. has.read ++ c) none ∙ append-nil has.read) (Consumes-trans unread left more _ _ has.consumed took);
+    at = has.at;
+  }
+
+  pub answered_kept : (start : S) (unread left more held holds : Option (List ℕ)) (s : Session S)
+      → HasAnswered Commands start unread left held holds s → Keeps left more → HasAnswered Commands start unread more held holds s
+  answered_kept start unread left more held holds s has kept = record {
+    read = has.read;
+    consumed = Consumes-kept unread left more _ has.consumed kept;
+    at = has.at;
+  }
+
+module _ {S : Type 0} (Commands : List ℕ → S → List ℕ → S → Type 0) (network : S → Network) where
+  -- nothing was read, since memory was refused
+  pub ran_nothing : (start : S) (unread held : Option (List ℕ)) (fault : Option Fault) (lines : ℕ) (net : Option Network)
+      → lines ≡ 0 → fault ≡ Some OutOfMemory → net ≡ None → Ran Commands network start unread unread held held fault lines net
+  ran_nothing start unread held fault lines net zero some none = record {
+    read = [];
+    consumed = Consumes-nil unread;
+    written = [];
+    appended = Appends-nil held;
+    counted = zero;
+    outcome = subst (λ f. IsOutcome Commands network f start unread [] [] net) (sym some) (part_whole Commands start start [] [] [] (Answered-none Commands start) refl, none);
+  }
+
+  -- all was answered, and the network comes back or memory is refused for it
+  pub outcome_ended : (start after : S) (left : Option (List ℕ)) (read written : List ℕ) (fault : Option Fault) (net : Option Network)
+      → IsAtEnd left → Answered Commands start (lines_of read) written after → IsEnd network after fault net
+      → IsOutcome Commands network fault start left read written net
+  outcome_ended start after left read written None net at_end answered end = record { at_end = at_end; after = after; answered = answered; comes_back = end }
+  outcome_ended start after left read written (Some fault) net at_end answered end =
+      subst (λ f. IsOutcome Commands network (Some f) start left read written net) (sym end.0)
+      (part_whole Commands start after (lines_of read) written written answered refl, end.1)
+
+  pub ran_whole : (start : S) (unread left held holds : Option (List ℕ)) (s : Session S) (read ended : List ℕ) (fault : Option Fault) (lines : ℕ) (net : Option Network)
+      → lines_of read ≡ whole_lines ended → IsAt Commands start ended held holds s → Consumes unread left read → IsAtEnd left
+      → lines ≡ s.lines → IsEnd network s.state fault net
+      → Ran Commands network start unread left held holds fault lines net
+  ran_whole start unread left held holds s read ended fault lines net e at consumed at_end same end = record {
+    read = read;
+    consumed = consumed;
+    written = at.written;
+    appended = at.appended;
+    counted = same ∙ at.counted;
+    outcome = outcome_ended start s.state left read at.written fault net at_end
+        (subst (λ ls. Answered Commands start ls at.written s.state) (sym e) at.answered) end;
+  }
+
+  -- no more can be read
+  pub ran_unread : (start : S) (unread left held holds : Option (List ℕ)) (s : Session S) (fault : Option Fault) (lines : ℕ) (net : Option Network)
+      → HasAnswered Commands start unread left held holds s → lines ≡ s.lines → fault ≡ Some Read → net ≡ None
+      → Ran Commands network start unread left held holds fault lines net
+  ran_unread start unread left held holds s fault lines net has same some none = record {
+    read = has.read;
+    consumed = has.consumed;
+    written = has.at.written;
+    appended = has.at.appended;
+    counted = same ∙ has.at.counted;
+    outcome = subst (λ f. IsOutcome Commands network f start left has.read has.at.written net) (sym some) ((s.state, has.at.answered), none);
+  }
+
+  part_outcome : (fault : Fault) → CutsOff fault → (start : S) (left : Option (List ℕ)) (read written : List ℕ) (net : Option Network)
+      → IsAnsweredInPart Commands start (lines_of read) written → net ≡ None → IsOutcome Commands network (Some fault) start left read written net
+  part_outcome OutOfMemory cuts start left read written net part none = (part, none)
+  part_outcome Read cuts start left read written net part none = absurd cuts
+  part_outcome Write cuts start left read written net part none = (part, none)
+  part_outcome (Load e) cuts start left read written net part none = absurd cuts
+
+  -- the answers were cut off
+  pub ran_cut_off : (start : S) (unread left held holds : Option (List ℕ)) (read : List ℕ) (asked more : List (List ℕ)) (cause : Fault) (had : ℕ) (fault : Option Fault) (lines : ℕ) (net : Option Network)
+      → lines_of read ≡ asked ++ more → CutsOff cause → IsCutOff Commands start asked held holds had → Consumes unread left read
+      → lines ≡ had → fault ≡ Some cause → net ≡ None
+      → Ran Commands network start unread left held holds fault lines net
+  ran_cut_off start unread left held holds read asked more cause had fault lines net e cuts cut_off consumed same some none = record {
+    read = read;
+    consumed = consumed;
+    written = cut_off.written;
+    appended = cut_off.appended;
+    counted = same ∙ cut_off.counted;
+    outcome = subst (λ f. IsOutcome Commands network f start left read cut_off.written net) (sym some)
+        (part_outcome cause cuts start left read _ net (part_of_more Commands start _ asked more _ e cut_off.part) none);
+  }

@@ -1,0 +1,99 @@
+-- What a run of a script reads and writes, by whoever answers its lines.
+use Rattle.std.specs.Prelude.{◌≡◌, ℕ, ◌<◌, ◌≤◌, Bool, true, false, List, [], ◌++◌, length, Option, Some, None}
+use Rattle.std.specs.Io.KnownBytes.{Consumes, Appends, IsAtEnd}
+use Rattle.net_data.specs.Network.{Network}
+use Rattle.answers.specs.Text.{line_count}
+use Rattle.sessions.specs.Lines.{whole_lines, rest_of, lines_of}
+use Rattle.sessions.specs.Replies.{Answered}
+use Rattle.sessions.specs.declared.faults.Fault.{Fault}
+use Rattle.sessions.specs.declared.faults.Fault.TheVariants.{OutOfMemory, Read, Write, Load}
+use Rattle.sessions.specs.declared.lines.Line.{Line}
+use Rattle.sessions.specs.declared.session.Session.{Session}
+
+-- more could follow
+abbrev pub IsPrefixOf : List ℕ → List ℕ → Type 0
+IsPrefixOf front all = (more : List ℕ) × (all ≡ front ++ more)
+
+-- the bytes kept of a line so far, which do not count once it is too long
+abbrev pub IsKept : List ℕ → Bool → List ℕ → Type 0
+IsKept kept false rest = (kept ≡ rest) × (length rest ≤ 131073)
+IsKept kept true rest = 131073 < length rest
+
+-- the line so far
+abbrev pub IsLine : Line → List ℕ → Type 0
+IsLine line rest = IsKept line.bytes.items line.too_long rest
+
+-- a fault that cuts the answers off
+abbrev pub CutsOff : Fault → Type 0
+CutsOff OutOfMemory = Unit {0}
+CutsOff Read = ⊥
+CutsOff Write = Unit {0}
+CutsOff (Load e) = ⊥
+
+module _ {S : Type 0} (Commands : List ℕ → S → List ℕ → S → Type 0) where
+  -- between two bytes: what was written, and then what waits to be written, are the answers to all whole lines of what was read
+  pub record IsTaken (start : S) (read written : List ℕ) (s : Session S) : Type 0 where
+    pub answered : Answered Commands start (whole_lines read) (written ++ s.answers.items) s.state
+    pub rest : IsLine s.line (rest_of read)
+
+  -- between two reads: the answers to all whole lines of what was read are written
+  pub record IsAt (start : S) (read : List ℕ) (held holds : Option (List ℕ)) (s : Session S) : Type 0 where
+    pub written : List ℕ
+    pub answered : Answered Commands start (whole_lines read) written s.state
+    pub appended : Appends held holds written
+    pub counted : s.lines ≡ line_count written
+    pub none : s.answers.items ≡ []
+    pub rest : IsLine s.line (rest_of read)
+
+  -- some bytes were read, and the answers to their whole lines are written
+  pub record HasAnswered (start : S) (unread left held holds : Option (List ℕ)) (s : Session S) : Type 0 where
+    pub read : List ℕ
+    pub consumed : Consumes unread left read
+    pub at : IsAt start read held holds s
+
+  -- the first of some lines were answered, and this is a prefix of their answers
+  pub record IsAnsweredInPart (start : S) (asked : List (List ℕ)) (written : List ℕ) : Type 0 where
+    pub done : List (List ℕ)
+    pub left : List (List ℕ)
+    pub whole : asked ≡ done ++ left
+    pub text : List ℕ
+    pub after : S
+    pub answered : Answered Commands start done text after
+    pub front : IsPrefixOf written text
+
+  -- a run that ended within the answers to some lines
+  pub record IsCutOff (start : S) (asked : List (List ℕ)) (held holds : Option (List ℕ)) (lines : ℕ) : Type 0 where
+    pub written : List ℕ
+    pub appended : Appends held holds written
+    pub part : IsAnsweredInPart start asked written
+    pub counted : lines ≡ line_count written
+
+-- how a run ends that answered all: the network comes back, unless memory is refused for it
+abbrev pub IsEnd : {S : Type 0} → (S → Network) → S → Option Fault → Option Network → Type 0
+IsEnd network c None net = net ≡ Some (network c)
+IsEnd network c (Some fault) net = (fault ≡ OutOfMemory) × (net ≡ None)
+
+module _ {S : Type 0} (Commands : List ℕ → S → List ℕ → S → Type 0) (network : S → Network) where
+  -- all lines were answered to the end, and the network that comes back is the one after their events
+  pub record IsWhole (start : S) (left : Option (List ℕ)) (read written : List ℕ) (net : Option Network) : Type 0 where
+    pub at_end : IsAtEnd left
+    pub after : S
+    pub answered : Answered Commands start (lines_of read) written after
+    pub comes_back : net ≡ Some (network after)
+
+  -- what was written after these bytes were read, by the fault that ended the run, and the network that comes back
+  abbrev pub IsOutcome : Option Fault → S → Option (List ℕ) → List ℕ → List ℕ → Option Network → Type 0
+  IsOutcome None start left read written net = IsWhole start left read written net
+  IsOutcome (Some Read) start left read written net = ((after : S) × Answered Commands start (whole_lines read) written after) × (net ≡ None)
+  IsOutcome (Some Write) start left read written net = IsAnsweredInPart Commands start (lines_of read) written × (net ≡ None)
+  IsOutcome (Some OutOfMemory) start left read written net = IsAnsweredInPart Commands start (lines_of read) written × (net ≡ None)
+  IsOutcome (Some (Load e)) start left read written net = ⊥
+
+  -- a run from a start: some bytes were read, and the answers to them were written
+  pub record Ran (start : S) (unread left held holds : Option (List ℕ)) (fault : Option Fault) (lines : ℕ) (net : Option Network) : Type 0 where
+    pub read : List ℕ
+    pub consumed : Consumes unread left read
+    pub written : List ℕ
+    pub appended : Appends held holds written
+    pub counted : lines ≡ line_count written
+    pub outcome : IsOutcome fault start left read written net

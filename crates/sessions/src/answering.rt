@@ -1,0 +1,34 @@
+//! Who answers the lines of a script.
+
+use crate::faults::Fault;
+use net_data::Net;
+use std::alloc::{AllocError, Global};
+
+/// Who answers the lines of a script, one after the other.
+pub trait Answering: Drop {
+    ghost use Rattle.std.specs.Prelude.{◌≡◌, ℕ, List, IfOk, IfErr, string_bytes};
+    ghost use Rattle.net_data.specs.Network.{Network};
+    ghost use Rattle.answers.specs.Text.{line_count};
+    ghost use Rattle.sessions.specs.Run.{CutsOff};
+
+    // What a line does: the text of its answer, and what stands after it.
+    ghost commands: { List ℕ → Self → List ℕ → Self → Type 0 };
+
+    // The network after all accepted events.
+    ghost network: { Self → Network };
+
+    /// Does what a line says, which is neither too long nor silent, and gives the text of its answer, without a line
+    /// feed.
+    ///
+    /// # Errors
+    ///
+    /// A fault that cuts the answers off.
+    fn answer(&mut self, alloc: Global, line: &[u8]) -> Result<String, Fault>
+        ensures command { IfOk result (λ text. commands line.now self.old (string_bytes text) self.new) }
+        ensures plain { IfOk result (λ text. line_count (string_bytes text) ≡ 0) }
+        ensures fault { IfErr result CutsOff };
+
+    /// The network after all accepted events, given away. It fails if memory is refused.
+    fn into_net(self, alloc: Global) -> Result<Net, AllocError>
+        ensures { IfOk result (λ net. net ≡ network self) };
+}

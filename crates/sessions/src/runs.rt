@@ -1,0 +1,117 @@
+//! Runs of scripts from a reader to a writer.
+
+ghost use Rattle.std.specs.Prelude.{◌≡◌, ℕ, ◌+◌, ◌*◌, ◌^◌, ◌<◌, ◌≤◌, List, Option, Some, None};
+ghost use Rattle.std.specs.Io.KnownBytes.{IsAtEnd};
+ghost use Rattle.answers.specs.Text.{line_count};
+ghost use Rattle.sessions.specs.Run.{HasAnswered, IsEnd, Ran};
+
+use crate::answering::Answering;
+use crate::faults::Fault;
+use crate::session::Session;
+use net_data::Net;
+use std::alloc::Global;
+use std::io::{ErrorKind, Read, Write};
+
+/// How a run ended.
+#[derive(Drop)]
+pub struct ScriptEnd {
+    /// How many answers were written whole.
+    pub lines: u64,
+    /// Why the run ended early, if it did.
+    pub fault: Option<Fault>,
+    /// The network after all accepted events; none after a fault.
+    pub net: Option<Net>,
+}
+
+/// How many bytes are asked for in one read.
+pub const CHUNK: usize = 65536;
+
+/// The number of reads after which a run gives up.
+pub const READ_LIMIT: u64 = 4294967296;
+
+/// The end of a run by a fault, after that many answers.
+pub fn ended_by(fault: Fault, lines: u64) -> ScriptEnd
+    ensures lines { result.lines ≡ lines }
+    ensures fault { result.fault ≡ Some fault }
+    ensures net { result.net ≡ None }
+{
+    ScriptEnd {
+        lines,
+        fault: Some(fault),
+        net: None,
+    }
+}
+
+impl<A: Answering> Session<A> {
+    /// The end of a run that answered all. The network may still be refused, and then it is out of memory.
+    pub(crate) fn done(self, alloc: Global) -> ScriptEnd
+        ensures lines { result.lines ≡ self.lines }
+        ensures end { IsEnd A.network self.state result.fault result.net }
+    {
+        match self.state.into_net(alloc) {
+            Ok(net) => ScriptEnd {
+                lines: self.lines,
+                fault: None,
+                net: Some(net),
+            },
+            Err(_) => ended_by(Fault::OutOfMemory, self.lines),
+        }
+    }
+
+    /// The end of a run by a fault.
+    pub(crate) fn failed(self, fault: Fault) -> ScriptEnd
+        ensures lines { result.lines ≡ self.lines }
+        ensures fault { result.fault ≡ Some fault }
+        ensures net { result.net ≡ None }
+    {
+        ended_by(fault, self.lines)
+    }
+
+    /// Answers a last line that no line feed ends.
+    fn finish<W: Write>(mut self, alloc: Global, writer: &mut W) -> ScriptEnd
+        requires { self.lines + line_count self.answers.items + 1 < 2 ^ 64 }
+        ensures { (start : A) (unread left held : Option (List ℕ))
+            → HasAnswered A.commands start unread left held (W.contents writer.old) self → IsAtEnd left
+            → Ran A.commands A.network start unread left held (W.contents writer.new) result.fault result.lines result.net }
+    {
+        if !self.line.has_begun() {
+            return self.done(alloc);
+        }
+        match self.step(alloc, writer, b"\n".as_slice()) {
+            Ok(()) => self.done(alloc),
+            Err(fault) => self.failed(fault),
+        }
+    }
+
+    /// Reads on to the end of the script, and answers each line before more is read.
+    pub fn read_on<R: Read, W: Write>(
+        mut self,
+        alloc: Global,
+        reader: &mut R,
+        writer: &mut W,
+        reads: u64,
+    ) -> ScriptEnd
+        requires { self.lines + line_count self.answers.items ≤ reads * 65536 }
+        ensures { (start : A) (unread held : Option (List ℕ))
+            → HasAnswered A.commands start unread (R.remaining reader.old) held (W.contents writer.old) self
+            → Ran A.commands A.network start unread (R.remaining reader.new) held (W.contents writer.new) result.fault result.lines result.net }
+    {
+        let mut chunk = [0u8; CHUNK];
+        for _turn in reads..READ_LIMIT {
+            match reader.read(&mut chunk) {
+                Ok(0) => return self.finish(alloc, writer),
+                Ok(n) => {
+                    if let Err(fault) = self.step(alloc, writer, &chunk[..n]) {
+                        return self.failed(fault);
+                    }
+                }
+                Err(e) => {
+                    if e.kind() != ErrorKind::Interrupted {
+                        return self.failed(Fault::Read);
+                    }
+                }
+            }
+        }
+        self.failed(Fault::Read)
+    }
+}

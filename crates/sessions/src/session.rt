@@ -1,0 +1,172 @@
+//! A run of a script: the lines that are read, and their answers.
+
+ghost use Rattle.std.specs.Prelude.{◌≡◌, ℕ, ◌+◌, ◌^◌, ◌<◌, ◌≤◌, [], ◌∷◌, ◌++◌, List, length, take, IfOk, IfErr, OnOk, OnErr, Err, string_bytes, Option};
+ghost use Rattle.std.specs.Io.KnownBytes.{Appends};
+ghost use Rattle.sessions.specs.Lines.{whole_lines};
+ghost use Rattle.sessions.specs.Replies.{Replies};
+ghost use Rattle.answers.specs.Text.{line_count};
+ghost use Rattle.sessions.specs.Run.{IsLine, IsTaken, IsAt, IsAnsweredInPart, IsCutOff, CutsOff};
+
+use crate::answering::Answering;
+use crate::faults::Fault;
+use crate::lines::{LINE_LIMIT, Line, is_quiet, without_return};
+use point_codes::split_at_byte;
+use std::alloc::Global;
+use std::io::{ErrorKind, Write};
+
+/// Who answers, the line that is being read, the answers that wait to be written, and how many lines were written.
+#[derive(Drop)]
+pub struct Session<A> {
+    pub state: A,
+    pub line: Line,
+    pub answers: Vec<u8>,
+    pub lines: u64,
+}
+
+/// The number of writes after which a text is given up.
+const WRITE_LIMIT: u64 = 4294967296;
+
+/// Writes a text, and tells how many of its bytes were written: fewer than all if the writer refuses. An interrupted write
+/// is tried again.
+fn write_all<W: Write>(writer: &mut W, text: &[u8]) -> usize
+    ensures within { result ≤ length text.now }
+    ensures written { Appends (W.contents writer.old) (W.contents writer.new) (take result text.now) }
+{
+    let mut at = 0;
+    for _turn in 0..WRITE_LIMIT {
+        if at == text.len() {
+            return at;
+        }
+        match writer.write(&text[at..]) {
+            Ok(0) => return at,
+            Ok(n) => at += n,
+            Err(e) => {
+                if e.kind() != ErrorKind::Interrupted {
+                    return at;
+                }
+            }
+        }
+    }
+    at
+}
+
+/// How many lines a text ends.
+fn count_lines(text: &[u8]) -> usize
+    ensures { result ≡ line_count text.now }
+{
+    text.iter().filter(|b| **b == b'\n').count()
+}
+
+/// What a line that is whole now is answered with.
+fn reply<A: Answering>(alloc: Global, state: &mut A, line: &Line) -> Result<String, Fault>
+    ensures text { IfOk result (λ text. (rest : List ℕ) → IsLine line.now rest → Replies A.commands rest state.old (string_bytes text) state.new) }
+    ensures one { IfOk result (λ text. line_count (string_bytes text) ≤ 1) }
+    ensures fault { IfErr result CutsOff }
+{
+    let bytes = without_return(line.bytes.as_slice());
+    if line.too_long || bytes.len() > LINE_LIMIT {
+        return Ok(String::from_str(alloc, "refused 62 BadLine\n")?);
+    }
+    if is_quiet(bytes) {
+        return Ok(String::new(alloc));
+    }
+    let mut text = state.answer(alloc, bytes)?;
+    text.push('\n')?;
+    Ok(text)
+}
+
+impl<A: Answering> Session<A> {
+    /// A run that has read nothing.
+    pub fn new(alloc: Global, state: A) -> Session<A>
+        ensures state { result.state ≡ state }
+        ensures line { IsLine result.line [] }
+        ensures answers { result.answers.items ≡ [] }
+        ensures lines { result.lines ≡ 0 }
+    {
+        Session {
+            state,
+            line: Line::new(alloc),
+            answers: Vec::new(alloc),
+            lines: 0,
+        }
+    }
+
+    /// Ends the line: its answer waits with the others.
+    fn end_line(&mut self, alloc: Global) -> Result<(), Fault>
+        ensures ok { OnOk result ((start : A) (read written : List ℕ)
+            → IsTaken A.commands start read written self.old → IsTaken A.commands start (read ++ 10 ∷ []) written self.new) }
+        ensures err { OnErr result (self.new.answers.items ≡ self.old.answers.items) }
+        ensures fault { IfErr result CutsOff }
+        ensures one { line_count self.new.answers.items ≤ line_count self.old.answers.items + 1 }
+        ensures lines { self.new.lines ≡ self.old.lines }
+    {
+        let text = reply(alloc, &mut self.state, &self.line)?;
+        self.answers.extend_from_slice(text.as_bytes())?;
+        self.line.clear();
+        Ok(())
+    }
+
+    /// Takes the bytes of one read.
+    fn feed(&mut self, alloc: Global, chunk: &[u8]) -> Result<(), Fault>
+        ensures ok { OnOk result ((start : A) (read written : List ℕ)
+            → IsTaken A.commands start read written self.old → IsTaken A.commands start (read ++ chunk.now) written self.new) }
+        ensures front { (start : A) (read written : List ℕ) → IsTaken A.commands start read written self.old
+            → IsAnsweredInPart A.commands start (whole_lines (read ++ chunk.now)) (written ++ self.new.answers.items) }
+        ensures fault { IfErr result CutsOff }
+        ensures few { line_count self.new.answers.items ≤ line_count self.old.answers.items + length chunk.now }
+        ensures lines { self.new.lines ≡ self.old.lines }
+    {
+        let mut rest = chunk;
+        while let Some((front, after)) = split_at_byte(rest, b'\n') {
+            self.line.take_all(front)?;
+            self.end_line(alloc)?;
+            rest = after;
+        }
+        self.line.take_all(rest)?;
+        Ok(())
+    }
+
+    /// Writes the answers that wait.
+    fn flush<W: Write>(&mut self, writer: &mut W) -> Result<(), Fault>
+        requires { self.old.lines + line_count self.old.answers.items < 2 ^ 64 }
+        ensures ok { OnOk result (Appends (W.contents writer.old) (W.contents writer.new) self.old.answers.items
+            × (self.new.answers.items ≡ []) × (self.new.lines ≡ self.old.lines + line_count self.old.answers.items)) }
+        ensures err { OnErr result ((n : ℕ) × Appends (W.contents writer.old) (W.contents writer.new) (take n self.old.answers.items)
+            × (self.new.lines ≡ self.old.lines + line_count (take n self.old.answers.items))) }
+        ensures fault { OnErr result (result ≡ Err Fault.Write) }
+        ensures state { self.new.state ≡ self.old.state }
+        ensures line { self.new.line ≡ self.old.line }
+    {
+        let written = write_all(writer, self.answers.as_slice());
+        self.lines += count_lines(&self.answers[..written]) as u64;
+        if written < self.answers.len() {
+            return Err(Fault::Write);
+        }
+        self.answers.clear();
+        Ok(())
+    }
+
+    /// Takes the bytes of one read, and writes the answers to the lines that they end.
+    pub(crate) fn step<W: Write>(
+        &mut self,
+        alloc: Global,
+        writer: &mut W,
+        chunk: &[u8],
+    ) -> Result<(), Fault>
+        requires { self.old.lines + line_count self.old.answers.items + length chunk.now < 2 ^ 64 }
+        ensures ok { OnOk result ((start : A) (read : List ℕ) (held : Option (List ℕ))
+            → IsAt A.commands start read held (W.contents writer.old) self.old → IsAt A.commands start (read ++ chunk.now) held (W.contents writer.new) self.new) }
+        ensures err { OnErr result ((start : A) (read : List ℕ) (held : Option (List ℕ))
+            → IsAt A.commands start read held (W.contents writer.old) self.old
+            → IsCutOff A.commands start (whole_lines (read ++ chunk.now)) held (W.contents writer.new) self.new.lines) }
+        ensures fault { IfErr result CutsOff }
+        ensures none { OnOk result (self.new.answers.items ≡ []) }
+        ensures lines { self.new.lines ≤ self.old.lines + line_count self.old.answers.items + length chunk.now }
+    {
+        let fed = self.feed(alloc, chunk);
+        if let Err(fault) = self.flush(writer) {
+            return Err(fault);
+        }
+        fed
+    }
+}

@@ -1,0 +1,82 @@
+//! A client beside workers.
+
+ghost use Rattle.std.specs.Prelude.{◌≡◌};
+
+use crate::samples::{ended, fail, restore, wait_for, worked_desk};
+use desk_core::{Posted, Refusal};
+use std::alloc::Global;
+use std::marker::Brand;
+use std::process::Abort;
+use std::sync::{Condvar, Mutex, Wait};
+use std::thread::Threads;
+use versions::{ByClient, Client, Hub, Naming, UnnamedWithClient};
+use worker_pool::{Plain, run_pool};
+
+/// The client posts a change of the link 4 0.
+fn post<N: Naming, R: Wait>(
+    rt: &R,
+    alloc: Global,
+    hub: &Mutex<Hub<N, ByClient>>,
+    client: &mut Client<N>,
+    seq: u64,
+) -> Result<Posted, Refusal> {
+    let event = if seq % 2 == 1 {
+        fail(4, 0)
+    } else {
+        restore(4, 0)
+    };
+    client.post(rt, alloc, &mut *hub.lock(rt), 0, seq, event)
+}
+
+/// The client posts changes in turn, waits for each to be published, and comes back.
+fn drive<N: Naming, R: Wait + Abort>(
+    rt: &R,
+    alloc: Global,
+    hub: &Mutex<Hub<N, ByClient>>,
+    changed: &Condvar,
+    client: &mut Client<N>,
+) {
+    for seq in 1..21u64 {
+        let posted = post(rt, alloc, hub, client, seq);
+        changed.notify_all();
+        assert_eq!(rt; posted, Ok(Posted::Taken(seq)));
+        wait_for(rt, hub, changed, seq);
+        client.visit(rt, &mut *hub.lock(rt));
+    }
+}
+
+/// The client beside two workers.
+fn run_client<N: Naming + Send + Sync, R: Threads + Wait + Abort + Sync>(
+    rt: &R,
+    alloc: Global,
+    hub: &Mutex<Hub<N, ByClient>>,
+    client: &mut Client<N>,
+) {
+    let changed = Condvar::new();
+    run_pool(rt, alloc, 2, hub, &changed, &Plain, || {
+        drive(rt, alloc, hub, &changed, client)
+    });
+}
+
+/// A client at a new hub, with room for its posts.
+fn alone<N: Naming + Send + Sync, R: Threads + Wait + Abort + Sync>(
+    rt: &R,
+    alloc: Global,
+    unnamed: UnnamedWithClient,
+)
+    requires { (unnamed.state.shown.book ≡ N.book) × (unnamed.table ≡ N.table) }
+{
+    let (mut hub, mut client) = unnamed.named::<N>(alloc).expect(rt, "places");
+    let _ = client.reserve(rt, &mut hub, 20);
+    let hub = Mutex::new(hub);
+    run_client(rt, alloc, &hub, &mut client);
+    let spare = hub.lock(rt).desk().spare();
+    assert_eq!(rt; (spare, ended(rt, hub)), (0, (20, 20)));
+}
+
+#[test]
+fn a_client_posts_beside_workers(rt: HostRuntime) {
+    let desk = worked_desk(&rt, rt.alloc());
+    let unnamed = UnnamedWithClient::new(&rt, rt.alloc(), desk).expect(&rt, "memory");
+    alone::<Brand, _>(&rt, rt.alloc(), unnamed);
+}

@@ -1,0 +1,138 @@
+//! Collectors beside workers, and readers that were told.
+
+ghost use Rattle.std.specs.Prelude.{◌≡◌};
+
+use crate::samples::{ended, fail, restore, wait_for, worked_desk};
+use profile::Table;
+use route_choice::Far;
+use sample_nets::code;
+use std::alloc::Global;
+use std::marker::Brand;
+use std::process::Abort;
+use std::sync::{Condvar, Mutex, Wait};
+use std::thread::{Threads, join};
+use versions::{Hub, Naming, Note, Reader, Unnamed, Version};
+use worker_pool::{Plain, run_pool};
+
+/// A collector posts changes of the link 3 0 in turn.
+fn collect<N: Naming, R: Wait>(
+    rt: &R,
+    alloc: Global,
+    hub: &Mutex<Hub<N>>,
+    changed: &Condvar,
+    collector: u8,
+) {
+    for seq in 1..1001u64 {
+        let event = if seq % 2 == 1 {
+            fail(3, 0)
+        } else {
+            restore(3, 0)
+        };
+        let _ = hub.lock(rt).post(alloc, collector, seq, event);
+        changed.notify_all();
+    }
+}
+
+/// Four collectors post at once.
+fn collect_all<N: Naming + Sync, R: Threads + Wait + Sync>(
+    rt: &R,
+    alloc: Global,
+    hub: &Mutex<Hub<N>>,
+    changed: &Condvar,
+) {
+    let post = |collector: u8| collect(rt, alloc, hub, changed, collector);
+    join(
+        rt,
+        || join(rt, || post(0), || post(1)),
+        || join(rt, || post(2), || post(3)),
+    );
+}
+
+/// After the four a fifth collector posts, and a note tells when that is published.
+fn drive<N: Naming + Sync, R: Threads + Wait + Abort + Sync>(
+    rt: &R,
+    alloc: Global,
+    hub: &Mutex<Hub<N>>,
+    changed: &Condvar,
+) -> Note<N> {
+    collect_all(rt, alloc, hub, changed);
+    let _ = hub.lock(rt).post(alloc, 4, 1, fail(4, 0));
+    changed.notify_all();
+    wait_for(rt, hub, changed, 4001);
+    hub.lock(rt).note().expect(rt, "a note")
+}
+
+/// In a table, 2-10-2 leads restricted over its mate.
+fn expect_mate(rt: &impl Abort, table: &Table) {
+    let row = table.row(code("2-10-2").expect(rt, "a code"));
+    let row = row.expect(rt, "a row");
+    assert_eq!(rt; (row.choice.status, row.choice.class), (Far::Restricted, 5));
+}
+
+/// The table of 2-1-2 of a version.
+fn table_of(rt: &impl Abort, alloc: Global, version: &Version) -> Table {
+    let dest = code("2-1-2").expect(rt, "a code");
+    let table = version.table(alloc, dest).expect(rt, "memory");
+    table.expect(rt, "a plan")
+}
+
+/// A reader in another thread learns a note and looks.
+fn look_after<N: Naming, R: Abort>(rt: &R, alloc: Global, mut reader: Reader<N>, note: Note<N>) {
+    reader.learn(note);
+    let seen = reader.look().expect(rt, "a version");
+    assert!(rt; seen.number() >= 4001);
+    let table = table_of(rt, alloc, &seen);
+    expect_mate(rt, &table);
+}
+
+/// The collectors beside two workers.
+fn run_collectors<N: Naming + Send + Sync, R: Threads + Wait + Abort + Sync>(
+    rt: &R,
+    alloc: Global,
+    hub: &Mutex<Hub<N>>,
+) -> Note<N> {
+    let changed = Condvar::new();
+    run_pool(rt, alloc, 2, hub, &changed, &Plain, || {
+        drive(rt, alloc, hub, &changed)
+    })
+    .1
+}
+
+/// The sequence numbers of the last posts of the five.
+fn last_seqs<N: Naming>(hub: &Hub<N>) -> [u64; 5] {
+    let desk = hub.desk();
+    [
+        desk.last_seq(0),
+        desk.last_seq(1),
+        desk.last_seq(2),
+        desk.last_seq(3),
+        desk.last_seq(4),
+    ]
+}
+
+/// Collectors and workers at a new hub.
+fn collected<N: Naming + Send + Sync, R: Threads + Wait + Abort + Sync>(
+    rt: &R,
+    alloc: Global,
+    unnamed: Unnamed,
+)
+    requires { unnamed.shown.book ≡ N.book }
+{
+    let hub = unnamed.named::<N>(alloc).expect(rt, "places");
+    let reader = hub.reader().expect(rt, "a place");
+    let hub = Mutex::new(hub);
+    let note = run_collectors(rt, alloc, &hub);
+    join(rt, move || look_after(rt, alloc, reader, note), || ());
+    let seqs = last_seqs(&*hub.lock(rt));
+    assert_eq!(rt;
+        (seqs, ended(rt, hub)),
+        ([1000, 1000, 1000, 1000, 1], (4001, 4001))
+    );
+}
+
+#[test]
+fn collectors_post_beside_workers(rt: HostRuntime) {
+    let desk = worked_desk(&rt, rt.alloc());
+    let unnamed = Unnamed::new(desk).expect(&rt, "memory");
+    collected::<Brand, _>(&rt, rt.alloc(), unnamed);
+}

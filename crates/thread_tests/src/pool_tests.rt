@@ -1,0 +1,107 @@
+//! Pools: that two workers work at once, and that a worker whose memory is refused ends.
+
+ghost use Rattle.std.specs.Prelude.{◌≡◌};
+
+use crate::gates::{Holding, Refusing};
+use crate::samples::{ended, fail, posted, two_plans_desk, wait_for, worked_desk};
+use sample_nets::code;
+use std::alloc::Global;
+use std::marker::Brand;
+use std::process::Abort;
+use std::sync::{Condvar, Mutex, Wait};
+use std::thread::Threads;
+use versions::{Hub, Naming, Unnamed};
+use work_units::settle;
+use worker_pool::{PoolEnd, run_pool};
+
+/// Two workers beside a wait for the first version.
+fn run_two<N: Naming + Send + Sync, R: Threads + Wait + Sync>(
+    rt: &R,
+    alloc: Global,
+    hub: &Mutex<Hub<N>>,
+    gate: &Holding,
+) -> PoolEnd {
+    let changed = Condvar::new();
+    run_pool(rt, alloc, 2, hub, &changed, gate, || {
+        wait_for(rt, hub, &changed, 1)
+    })
+    .0
+}
+
+/// Two workers at one target: the gate holds the job of 2-1-2 until that of 2-1-3 has come through.
+fn held<N: Naming + Send + Sync, R: Threads + Wait + Abort + Sync>(
+    rt: &R,
+    alloc: Global,
+    unnamed: Unnamed,
+)
+    requires { unnamed.shown.book ≡ N.book }
+{
+    let hub = posted::<N>(rt, alloc, unnamed, fail(3, 0));
+    let gate = Holding::of(code("2-1-2").expect(rt, "a code"));
+    let end = run_two(rt, alloc, &hub, &gate);
+    assert_eq!(rt;
+        (end.started, end.memory, gate.seen(), ended(rt, hub)),
+        (2, 0, (2, false), (1, 1))
+    );
+}
+
+#[test]
+fn two_workers_work_at_once(rt: HostRuntime) {
+    let desk = two_plans_desk(&rt, rt.alloc());
+    let unnamed = Unnamed::new(desk).expect(&rt, "memory");
+    held::<Brand, _>(&rt, rt.alloc(), unnamed);
+}
+
+/// Waits until no worker lives.
+fn wait_alone<N: Naming, R: Wait>(rt: &R, hub: &Mutex<Hub<N>>, changed: &Condvar) {
+    for _ in rt.forever() {
+        let guard = hub.lock(rt);
+        if guard.living() == 0 {
+            return;
+        }
+        drop(changed.wait(rt, guard));
+    }
+    unreachable!()
+}
+
+/// Two workers whose memory is refused.
+fn run_refused<N: Naming + Send + Sync, R: Threads + Wait + Sync>(
+    rt: &R,
+    alloc: Global,
+    hub: &Mutex<Hub<N>>,
+) -> PoolEnd {
+    let changed = Condvar::new();
+    run_pool(rt, alloc, 2, hub, &changed, &Refusing, || {
+        wait_alone(rt, hub, &changed)
+    })
+    .0
+}
+
+/// The work, done in line.
+fn work_in_line<N: Naming, R: Wait + Abort>(rt: &R, alloc: Global, hub: &Mutex<Hub<N>>) {
+    let job = hub.lock(rt).take().expect(rt, "a job");
+    let settled = settle(alloc, job).ok().expect(rt, "a result");
+    let _ = hub.lock(rt).give(settled);
+    let _ = hub.lock(rt).publish(rt, alloc);
+}
+
+/// Each worker takes the job, is refused memory and gives the job back; then the work is done in line.
+fn refused<N: Naming + Send + Sync, R: Threads + Wait + Abort + Sync>(
+    rt: &R,
+    alloc: Global,
+    unnamed: Unnamed,
+)
+    requires { unnamed.shown.book ≡ N.book }
+{
+    let hub = posted::<N>(rt, alloc, unnamed, fail(4, 0));
+    let end = run_refused(rt, alloc, &hub);
+    work_in_line(rt, alloc, &hub);
+    assert_eq!(rt; (end.started, end.memory, ended(rt, hub)), (2, 2, (1, 1)));
+}
+
+#[test]
+fn refused_workers_end(rt: HostRuntime) {
+    let desk = worked_desk(&rt, rt.alloc());
+    let unnamed = Unnamed::new(desk).expect(&rt, "memory");
+    refused::<Brand, _>(&rt, rt.alloc(), unnamed);
+}

@@ -1,0 +1,5 @@
+pub mod ChainLemmas
+pub mod BookLemmas
+pub mod KeptLemmas
+pub mod WorkLemmas
+pub mod WorkedLemmas
