@@ -1,2 +1,1 @@
 pub mod HeadlineLemmas
-pub mod InputLemmas

@@ -1,3 +1,3 @@
-pub mod Input
+pub mod InLine
 pub mod Checking
 pub mod Headline

@@ -35,17 +35,19 @@ impl InLine {
 
 impl Answering for InLine {
     ghost use Rattle.desk_console.specs.Commands.{Commands};
-    ghost use Rattle.desk_console.specs.Console.{net_of};
+    ghost use Rattle.console.specs.InLine.{Leaves};
 
     ghost commands = { Commands };
 
-    ghost network = { net_of };
+    ghost leaves = { Leaves };
+
+    ghost needs_place = { ⊥ };
 
     fn answer(&mut self, alloc: Global, line: &[u8]) -> Result<String, Fault> {
         Ok(self.console.answer(alloc, line)?)
     }
 
-    fn into_net(self, _alloc: Global) -> Result<Net, AllocError> {
+    fn into_net(self, _alloc: Global) -> Result<Net, Fault> {
         Ok(self.console.into_net())
     }
 }

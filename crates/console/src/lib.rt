@@ -10,7 +10,7 @@
 //!    and answers `ok P` for P plans or `bad X Y c`: the destination of the first wrong table, and point and letter of
 //!    the first complaint about it.
 //!
-//! Stands on `all_tables`, `desk_console`, `sessions`. A change here also changes specs/ (Checking, Headline, Input),
+//! Stands on `all_tables`, `desk_console`, `sessions`. A change here also changes specs/ (Checking, Headline, InLine),
 //! proofs/ and must-fail/.
 #![tactic(auto)]
 

@@ -1,13 +1,14 @@
 //! A run of a script from a reader to a writer.
 
 ghost use Rattle.desk_console.specs.Commands.{Commands};
-ghost use Rattle.desk_console.specs.Console.{net_of, opening};
+ghost use Rattle.desk_console.specs.Console.{opening};
 ghost use Rattle.sessions.specs.Run.{Ran};
 ghost use Rattle.console.specs.Headline.{RanRight};
+ghost use Rattle.console.specs.InLine.{Leaves};
 
 use crate::in_line::InLine;
 use net_data::Net;
-use sessions::{Fault, ScriptEnd, Session, ended_by};
+use sessions::{Fault, ScriptEnd, ended_by, run_lines};
 use std::alloc::Global;
 use std::io::{Read, Write};
 
@@ -25,12 +26,12 @@ pub fn run_script<R: Read, W: Write>(
     writer: &mut W,
     net: Net,
 ) -> ScriptEnd
-    ensures ran { Ran Commands net_of (opening net) (R.remaining reader.old) (R.remaining reader.new)
+    ensures ran { Ran Commands Leaves ⊥ (opening net) (R.remaining reader.old) (R.remaining reader.new)
         (W.contents writer.old) (W.contents writer.new) result.fault result.lines result.net }
     ensures right { RanRight net (R.remaining reader.old) (R.remaining reader.new) (W.contents writer.old) (W.contents writer.new) }
 {
     match InLine::start(alloc, net) {
-        Ok(console) => Session::new(alloc, console).read_on(alloc, reader, writer, 0),
+        Ok(console) => run_lines(alloc, reader, writer, console),
         Err(_) => ended_by(Fault::OutOfMemory, 0),
     }
 }

@@ -24,4 +24,5 @@ mod slots;
 pub mod syncing;
 
 pub use console::Console;
+pub use obeying::has_memory;
 pub use syncing::sync;

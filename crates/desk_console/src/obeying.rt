@@ -26,7 +26,7 @@ use script_words::{Command, Question};
 use std::alloc::{AllocError, Global};
 
 /// Whether memory sufficed for a reply of the desk.
-pub(crate) fn has_memory<T>(reply: &Result<T, Refusal>) -> bool
+pub fn has_memory<T>(reply: &Result<T, Refusal>) -> bool
     ensures { IsTrue result ↔ HasMemory reply.now }
 {
     match reply {

@@ -1,5 +1,5 @@
 -- Where the network text ends and the script starts.
-use Rattle.std.proofs.Common.{◌≡◌, ℕ, ◌+◌, ◌-◌, ◌<◌, ◌≤◌, ◌==◌, Bool, true, false, cond, List, [], ◌∷◌, ◌++◌, length, take, drop, get_or, Option, Some, None, Err, inl, inr, sym, ap, subst, refl, ◌∙◌, arith, append_assoc, append-nil, length-append, length-drop}
+use Rattle.std.proofs.Common.{◌≡◌, ℕ, ◌+◌, ◌-◌, ◌<◌, ◌≤◌, ◌==◌, Bool, true, false, cond, List, [], ◌∷◌, ◌++◌, length, take, drop, get_or, Option, Some, None, Ok, Err, inl, inr, sym, ap, subst, refl, ◌∙◌, arith, append_assoc, append-nil, length-append, length-drop}
 use Rattle.std.proofs.lemmas.Bool.{eqb-true, true≢false}
 use Rattle.std.proofs.lemmas.List.{take-append-drop, take-append-le, drop-append-le, append_cancel_right, take_more, length-take-le, drop-take, take_all}
 use Rattle.std.proofs.Math.ListN.{drop_of_length-le}
@@ -10,13 +10,13 @@ use Rattle.std.proofs.KnownBytes.{Appends-nil}
 use Rattle.net_data.specs.Network.{Network}
 use Rattle.net_text.specs.Reading.{Says}
 use Rattle.sessions.specs.Replies.{Answered}
-use Rattle.sessions.specs.Run.{IsEnd, IsOutcome, Ran}
+use Rattle.sessions.specs.Run.{CutsOff, IsEnd, IsOutcome, Ran}
 use Rattle.sessions.specs.declared.faults.Fault.{Fault}
-use Rattle.sessions.specs.declared.faults.Fault.TheVariants.{OutOfMemory, Read, Write, Load}
+use Rattle.sessions.specs.declared.faults.Fault.TheVariants.{OutOfMemory, Read, Write, NoPlace, Load}
 use Rattle.sessions.specs.declared.input.Opening.{Opening}
-use Rattle.sessions.specs.Input.{is_mark, has_mark, before_mark, after_mark, joined, text_part, script_part, HasText, IsWithinLimit, IsLoadFault, IsUnloaded, IsSplit, IsOpening, IsOpenAt, IsMarkAt, RanAfter}
+use Rattle.sessions.specs.Input.{is_mark, has_mark, before_mark, after_mark, joined, text_part, script_part, HasText, IsWithinLimit, IsLoadFault, IsUnloaded, IsUnopened, IsSplit, IsOpening, IsOpenAt, IsMarkAt, RanAfter, RanInput}
 use Rattle.sessions.proofs.LineLemmas.{cut_joined, cut_ended, cut_grown}
-use Rattle.sessions.proofs.RunLemmas.{outcome_ended}
+use Rattle.sessions.proofs.RunLemmas.{outcome_ended, outcome_none}
 
 -- the lines and the rest are the text
 joined_put : (v : Bool) (b : ℕ) → (b == 10) ≡ v → (ws : List (List ℕ)) (r : List ℕ) → joined (put_before v b ws r).whole ++ (put_before v b ws r).rest ≡ b ∷ (joined ws ++ r)
@@ -215,6 +215,7 @@ pub load_cause : (cause : Fault) (read : List ℕ) (left : Option (List ℕ)) (t
 load_cause OutOfMemory read left text has within same is = tt
 load_cause Read read left text has within same is = absurd is
 load_cause Write read left text has within same is = absurd is
+load_cause NoPlace read left text has within same is = absurd is
 load_cause (Load e) read left text has within same is = (has, within, is.0, subst (λ t. Says t (Err e)) (sym same) is.1)
 
 -- what comes after some bytes was read in their place
@@ -229,11 +230,11 @@ pub consumes_first : (b : Option (List ℕ)) (rest : List ℕ) → Consumes (pre
 consumes_first None rest = tt
 consumes_first (Some y) rest = refl
 
-module _ {S : Type 0} (Commands : List ℕ → S → List ℕ → S → Type 0) (network : S → Network) where
+module _ {S : Type 0} (Commands : List ℕ → S → List ℕ → S → Type 0) (Leaves : S → Network → Type 0) (Place : Type 0) where
   -- the input ended with the network text
   pub after_ended : (unread left held : Option (List ℕ)) (o : Opening) (start : S) (fault : Option Fault) (lines : ℕ) (net : Option Network)
-      → IsOpening unread left o → o.script ≡ None → lines ≡ 0 → IsEnd network start fault net
-      → RanAfter Commands network (take o.text o.bytes.items) start unread left held held fault lines net
+      → IsOpening unread left o → o.script ≡ None → lines ≡ 0 → IsEnd Leaves Place start fault net
+      → RanAfter Commands Leaves Place (take o.text o.bytes.items) start unread left held held fault lines net
   after_ended unread left held o start fault lines net opening no_script zero end =
       let split : IsSplit None left o.bytes.items o.text = subst (λ s. IsSplit s left o.bytes.items o.text) no_script opening.split in
       let size = text_length o.bytes.items o.text split.1 opening.text in
@@ -247,15 +248,35 @@ module _ {S : Type 0} (Commands : List ℕ → S → List ℕ → S → Type 0) 
         whole = inr split.0;
         within = omega arith;
         text = split.1;
-        outcome = outcome_ended Commands network start start left (script_part o.bytes.items) [] fault net split.0
+        outcome = outcome_ended Commands Leaves Place start start left (script_part o.bytes.items) [] fault net split.0
             (subst (λ t. Answered Commands start (lines_of t) [] start) (sym split.2) (refl, refl)) end;
+      }
+
+  -- whoever answers couldn't start
+  pub after_none : (unread left held : Option (List ℕ)) (o : Opening) (start : S) (cause : Fault) (fault : Option Fault) (lines : ℕ) (net : Option Network)
+      → IsOpening unread left o → CutsOff Place cause → lines ≡ 0 → fault ≡ Some cause → net ≡ None
+      → RanAfter Commands Leaves Place (take o.text o.bytes.items) start unread left held held fault lines net
+  after_none unread left held o start cause fault lines net opening cuts zero some none =
+      let parts = split_text o.script left o.bytes.items o.text opening.split in
+      let size = text_length o.bytes.items o.text parts.1 opening.text in
+      let within = opening.within in
+      record {
+        read = o.bytes.items;
+        consumed = opening.consumed;
+        written = [];
+        appended = Appends-nil held;
+        counted = zero;
+        whole = parts.0;
+        within = omega arith;
+        text = parts.1;
+        outcome = subst (λ f. IsOutcome Commands Leaves Place f start left (script_part o.bytes.items) [] net) (sym some) (outcome_none Commands Leaves Place cause cuts start left (script_part o.bytes.items) net none);
       }
 
   -- the script was run
   pub after_script : (unread middle left held holds : Option (List ℕ)) (o : Opening) (script : ℕ) (start : S) (rest : List ℕ) (fault : Option Fault) (lines : ℕ) (net : Option Network)
       → IsOpening unread middle o → o.script ≡ Some script → rest ≡ drop script o.bytes.items
-      → Ran Commands network start (prepend_known rest middle) left held holds fault lines net
-      → RanAfter Commands network (take o.text o.bytes.items) start unread left held holds fault lines net
+      → Ran Commands Leaves Place start (prepend_known rest middle) left held holds fault lines net
+      → RanAfter Commands Leaves Place (take o.text o.bytes.items) start unread left held holds fault lines net
   after_script unread middle left held holds o script start rest fault lines net opening some from ran =
       let bytes = o.bytes.items in
       let split : IsSplit (Some script) middle bytes o.text = subst (λ s. IsSplit s middle bytes o.text) some opening.split in
@@ -274,8 +295,63 @@ module _ {S : Type 0} (Commands : List ℕ → S → List ℕ → S → Type 0) 
         whole = inl parts.0;
         within = omega arith;
         text = parts.1;
-        outcome = subst (λ t. IsOutcome Commands network fault start left t ran.written net) (sym parts.2) ran.outcome;
+        outcome = subst (λ t. IsOutcome Commands Leaves Place fault start left t ran.written net) (sym parts.2) ran.outcome;
       }
+
+module _ {S : Type 0} (Opens : Network → S → Type 0) (Commands : List ℕ → S → List ℕ → S → Type 0) (Leaves : S → Network → Type 0) (Place : Type 0) where
+  -- no network text was read
+  pub ran_unopened : (unread left held : Option (List ℕ)) (cause : Fault) (fault : Option Fault) (lines : ℕ) (net : Option Network)
+      → IsUnopened unread left cause → lines ≡ 0 → fault ≡ Some cause → net ≡ None → RanInput Opens Commands Leaves Place unread left held held fault lines net
+  ran_unopened unread left held cause fault lines net un zero some none = record {
+    read = un.read;
+    consumed = un.consumed;
+    written = [];
+    appended = Appends-nil held;
+    counted = zero;
+    outcome = inr (record { cause = subst (λ f. IsUnloaded f un.read left) (sym some) un.cause; none = refl; gone = none });
+  }
+
+  -- no network came of the text
+  pub ran_unloaded : (unread left held : Option (List ℕ)) (o : Opening) (text : List ℕ) (cause : Fault) (fault : Option Fault) (lines : ℕ) (net : Option Network)
+      → IsOpening unread left o → text ≡ take o.text o.bytes.items → IsLoadFault text cause → lines ≡ 0 → fault ≡ Some cause → net ≡ None
+      → RanInput Opens Commands Leaves Place unread left held held fault lines net
+  ran_unloaded unread left held o text cause fault lines net opening same is zero some none =
+      let parts = split_text o.script left o.bytes.items o.text opening.split in
+      let size = text_length o.bytes.items o.text parts.1 opening.text in
+      let within = opening.within in
+      record {
+        read = o.bytes.items;
+        consumed = opening.consumed;
+        written = [];
+        appended = Appends-nil held;
+        counted = zero;
+        outcome = inr (record {
+          cause = subst (λ f. IsUnloaded f o.bytes.items left) (sym some) (load_cause cause o.bytes.items left text parts.0 (omega arith) (parts.1 ∙ sym same) is);
+          none = refl;
+          gone = none;
+        });
+      }
+
+  -- the script was run from a start over the network that the text says
+  pub ran_after : (text : List ℕ) (over : Network) (start : S) (unread left held holds : Option (List ℕ)) (fault : Option Fault) (lines : ℕ) (net : Option Network)
+      → Says text (Ok over) → Opens over start → RanAfter Commands Leaves Place text start unread left held holds fault lines net
+      → RanInput Opens Commands Leaves Place unread left held holds fault lines net
+  ran_after text over start unread left held holds fault lines net says opens ran = record {
+    read = ran.read;
+    consumed = ran.consumed;
+    written = ran.written;
+    appended = ran.appended;
+    counted = ran.counted;
+    outcome = inl (record {
+      over = over;
+      start = start;
+      whole = ran.whole;
+      within = ran.within;
+      says = subst (λ t. Says t (Ok over)) (sym ran.text) says;
+      opens = opens;
+      outcome = ran.outcome;
+    });
+  }
 
 -- ---- an input that is put together
 

@@ -10,7 +10,7 @@ use Rattle.sessions.specs.Replies.{Replies, Answered}
 use Rattle.answers.specs.Text.{line_count}
 use Rattle.sessions.specs.Run.{IsLine, IsTaken, IsAt, HasAnswered, IsAnsweredInPart, IsCutOff, CutsOff, IsEnd, IsOutcome, Ran}
 use Rattle.sessions.specs.declared.faults.Fault.{Fault}
-use Rattle.sessions.specs.declared.faults.Fault.TheVariants.{OutOfMemory, Read, Write, Load}
+use Rattle.sessions.specs.declared.faults.Fault.TheVariants.{OutOfMemory, Read, Write, NoPlace, Load}
 use Rattle.sessions.specs.declared.session.Session.{Session}
 use Rattle.sessions.proofs.LineLemmas.{cut_ended, cut_grown_all, whole_more}
 use Rattle.sessions.proofs.AnswerLemmas.{Answered-none, ended_answers, part_whole, part_of_more, part_less}
@@ -142,32 +142,46 @@ module _ {S : Type 0} (Commands : List ℕ → S → List ℕ → S → Type 0) 
     at = has.at;
   }
 
-module _ {S : Type 0} (Commands : List ℕ → S → List ℕ → S → Type 0) (network : S → Network) where
-  -- nothing was read, since memory was refused
-  pub ran_nothing : (start : S) (unread held : Option (List ℕ)) (fault : Option Fault) (lines : ℕ) (net : Option Network)
-      → lines ≡ 0 → fault ≡ Some OutOfMemory → net ≡ None → Ran Commands network start unread unread held held fault lines net
-  ran_nothing start unread held fault lines net zero some none = record {
+module _ {S : Type 0} (Commands : List ℕ → S → List ℕ → S → Type 0) (Leaves : S → Network → Type 0) (Place : Type 0) where
+  -- a fault that cuts off
+  part_outcome : (fault : Fault) → CutsOff Place fault → (start : S) (left : Option (List ℕ)) (read written : List ℕ) (net : Option Network)
+      → IsAnsweredInPart Commands start (lines_of read) written → net ≡ None → IsOutcome Commands Leaves Place (Some fault) start left read written net
+  part_outcome OutOfMemory cuts start left read written net part none = (part, none)
+  part_outcome Read cuts start left read written net part none = absurd cuts
+  part_outcome Write cuts start left read written net part none = (part, none)
+  part_outcome NoPlace cuts start left read written net part none = (cuts, part, none)
+  part_outcome (Load e) cuts start left read written net part none = absurd cuts
+
+  -- nothing was written
+  pub outcome_none : (cause : Fault) → CutsOff Place cause → (start : S) (left : Option (List ℕ)) (read : List ℕ) (net : Option Network) → net ≡ None → IsOutcome Commands Leaves Place (Some cause) start left read [] net
+  outcome_none cause cuts start left read net none =
+      part_outcome cause cuts start left read [] net (part_of_more Commands start [] [] (lines_of read) _ refl (part_whole Commands start start [] [] [] (Answered-none Commands start) refl)) none
+
+  -- nothing was read, since a fault cut off
+  pub ran_nothing : (start : S) (unread held : Option (List ℕ)) (cause : Fault) (fault : Option Fault) (lines : ℕ) (net : Option Network)
+      → CutsOff Place cause → lines ≡ 0 → fault ≡ Some cause → net ≡ None → Ran Commands Leaves Place start unread unread held held fault lines net
+  ran_nothing start unread held cause fault lines net cuts zero some none = record {
     read = [];
     consumed = Consumes-nil unread;
     written = [];
     appended = Appends-nil held;
     counted = zero;
-    outcome = subst (λ f. IsOutcome Commands network f start unread [] [] net) (sym some) (part_whole Commands start start [] [] [] (Answered-none Commands start) refl, none);
+    outcome = subst (λ f. IsOutcome Commands Leaves Place f start unread [] [] net) (sym some) (outcome_none cause cuts start unread [] net none);
   }
 
-  -- all was answered, and the network comes back or memory is refused for it
+  -- all was answered, and the network comes back or a fault cuts it off
   pub outcome_ended : (start after : S) (left : Option (List ℕ)) (read written : List ℕ) (fault : Option Fault) (net : Option Network)
-      → IsAtEnd left → Answered Commands start (lines_of read) written after → IsEnd network after fault net
-      → IsOutcome Commands network fault start left read written net
-  outcome_ended start after left read written None net at_end answered end = record { at_end = at_end; after = after; answered = answered; comes_back = end }
+      → IsAtEnd left → Answered Commands start (lines_of read) written after → IsEnd Leaves Place after fault net
+      → IsOutcome Commands Leaves Place fault start left read written net
+  outcome_ended start after left read written None net at_end answered end =
+      record { at_end = at_end; after = after; answered = answered; network = end.0; is_left = end.1; comes_back = end.2 }
   outcome_ended start after left read written (Some fault) net at_end answered end =
-      subst (λ f. IsOutcome Commands network (Some f) start left read written net) (sym end.0)
-      (part_whole Commands start after (lines_of read) written written answered refl, end.1)
+      part_outcome fault end.0 start left read written net (part_whole Commands start after (lines_of read) written written answered refl) end.1
 
   pub ran_whole : (start : S) (unread left held holds : Option (List ℕ)) (s : Session S) (read ended : List ℕ) (fault : Option Fault) (lines : ℕ) (net : Option Network)
       → lines_of read ≡ whole_lines ended → IsAt Commands start ended held holds s → Consumes unread left read → IsAtEnd left
-      → lines ≡ s.lines → IsEnd network s.state fault net
-      → Ran Commands network start unread left held holds fault lines net
+      → lines ≡ s.lines → IsEnd Leaves Place s.state fault net
+      → Ran Commands Leaves Place start unread left held holds fault lines net
   ran_whole start unread left held holds s read ended fault lines net e at consumed at_end same end = record {
     read = read;
     consumed = consumed;
@@ -181,34 +195,27 @@ module _ {S : Type 0} (Commands : List ℕ → S → List ℕ → S → Type 0) 
   -- no more can be read
   pub ran_unread : (start : S) (unread left held holds : Option (List ℕ)) (s : Session S) (fault : Option Fault) (lines : ℕ) (net : Option Network)
       → HasAnswered Commands start unread left held holds s → lines ≡ s.lines → fault ≡ Some Read → net ≡ None
-      → Ran Commands network start unread left held holds fault lines net
+      → Ran Commands Leaves Place start unread left held holds fault lines net
   ran_unread start unread left held holds s fault lines net has same some none = record {
     read = has.read;
     consumed = has.consumed;
     written = has.at.written;
     appended = has.at.appended;
     counted = same ∙ has.at.counted;
-    outcome = subst (λ f. IsOutcome Commands network f start left has.read has.at.written net) (sym some) ((s.state, has.at.answered), none);
+    outcome = subst (λ f. IsOutcome Commands Leaves Place f start left has.read has.at.written net) (sym some) ((s.state, has.at.answered), none);
   }
-
-  part_outcome : (fault : Fault) → CutsOff fault → (start : S) (left : Option (List ℕ)) (read written : List ℕ) (net : Option Network)
-      → IsAnsweredInPart Commands start (lines_of read) written → net ≡ None → IsOutcome Commands network (Some fault) start left read written net
-  part_outcome OutOfMemory cuts start left read written net part none = (part, none)
-  part_outcome Read cuts start left read written net part none = absurd cuts
-  part_outcome Write cuts start left read written net part none = (part, none)
-  part_outcome (Load e) cuts start left read written net part none = absurd cuts
 
   -- the answers were cut off
   pub ran_cut_off : (start : S) (unread left held holds : Option (List ℕ)) (read : List ℕ) (asked more : List (List ℕ)) (cause : Fault) (had : ℕ) (fault : Option Fault) (lines : ℕ) (net : Option Network)
-      → lines_of read ≡ asked ++ more → CutsOff cause → IsCutOff Commands start asked held holds had → Consumes unread left read
+      → lines_of read ≡ asked ++ more → CutsOff Place cause → IsCutOff Commands start asked held holds had → Consumes unread left read
       → lines ≡ had → fault ≡ Some cause → net ≡ None
-      → Ran Commands network start unread left held holds fault lines net
+      → Ran Commands Leaves Place start unread left held holds fault lines net
   ran_cut_off start unread left held holds read asked more cause had fault lines net e cuts cut_off consumed same some none = record {
     read = read;
     consumed = consumed;
     written = cut_off.written;
     appended = cut_off.appended;
     counted = same ∙ cut_off.counted;
-    outcome = subst (λ f. IsOutcome Commands network f start left read cut_off.written net) (sym some)
+    outcome = subst (λ f. IsOutcome Commands Leaves Place f start left read cut_off.written net) (sym some)
         (part_outcome cause cuts start left read _ net (part_of_more Commands start _ asked more _ e cut_off.part) none);
   }

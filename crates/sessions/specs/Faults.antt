@@ -38,4 +38,5 @@ abbrev pub fault_text : Fault → List ℕ
 fault_text fault.OutOfMemory = codes "1 OutOfMemory"
 fault_text fault.Read = codes "63 Read"
 fault_text fault.Write = codes "64 Write"
+fault_text fault.NoPlace = codes "50 NoPlace"
 fault_text (fault.Load e) = load_text e

@@ -9,7 +9,7 @@ use Rattle.sessions.specs.Lines.{trimmed, whole_lines, rest_of}
 use Rattle.answers.specs.Text.{line_count}
 use Rattle.sessions.specs.Run.{IsOutcome}
 use Rattle.sessions.specs.declared.faults.Fault.{Fault}
-use Rattle.sessions.specs.declared.faults.Fault.TheVariants.{OutOfMemory, Read, Write, Load}
+use Rattle.sessions.specs.declared.faults.Fault.TheVariants.{OutOfMemory, Read, Write, NoPlace, Load}
 use Rattle.sessions.specs.declared.input.Opening.{Opening}
 
 -- the line between the network text and the script, `%%`
@@ -63,6 +63,7 @@ abbrev pub IsLoadFault : List ℕ → Fault → Type 0
 IsLoadFault text OutOfMemory = Unit {0}
 IsLoadFault text Read = ⊥
 IsLoadFault text Write = ⊥
+IsLoadFault text NoPlace = ⊥
 IsLoadFault text (Load e) = IsOfText e × Says text (Err e)
 
 -- why no network came of what was read
@@ -71,6 +72,7 @@ IsUnloaded None read left = ⊥
 IsUnloaded (Some OutOfMemory) read left = Unit {0}
 IsUnloaded (Some Read) read left = (has_mark (whole_lines read) ≡ false) ⊎ (134217728 < length (text_part read))
 IsUnloaded (Some Write) read left = ⊥
+IsUnloaded (Some NoPlace) read left = ⊥
 IsUnloaded (Some (Load e)) read left = HasText read left × IsWithinLimit (text_part read) × IsOfText e × Says (text_part read) (Err e)
 
 -- no whole line before a place is the mark, and the last line before it begins at another
@@ -118,6 +120,7 @@ abbrev pub EndsReading : List ℕ → Fault → Type 0
 EndsReading read OutOfMemory = IsWithinLimit read
 EndsReading read Read = length read ≤ 134217728 + 65536
 EndsReading read Write = ⊥
+EndsReading read NoPlace = ⊥
 EndsReading read (Load e) = ⊥
 
 -- not all bytes were read, but these
@@ -137,7 +140,7 @@ pub record HasNotLoaded (unread left : Option (List ℕ)) (fault : Fault) : Type
   pub cause : HasNotReadAll unread left fault ⊎ ((text : List ℕ) × HasReadAll unread left text × IsLoadFault text fault)
 
 -- a run of the script after a network text that was read: more bytes were read, and the answers to the script among all were written
-pub record RanAfter {S : Type 0} (Commands : List ℕ → S → List ℕ → S → Type 0) (network : S → Network) (front : List ℕ) (start : S) (unread left held holds : Option (List ℕ)) (fault : Option Fault) (lines : ℕ) (net : Option Network) : Type 0 where
+pub record RanAfter {S : Type 0} (Commands : List ℕ → S → List ℕ → S → Type 0) (Leaves : S → Network → Type 0) (Place : Type 0) (front : List ℕ) (start : S) (unread left held holds : Option (List ℕ)) (fault : Option Fault) (lines : ℕ) (net : Option Network) : Type 0 where
   pub read : List ℕ
   pub consumed : Consumes unread left read
   pub written : List ℕ
@@ -146,4 +149,31 @@ pub record RanAfter {S : Type 0} (Commands : List ℕ → S → List ℕ → S �
   pub whole : HasText read left
   pub within : IsWithinLimit (text_part read)
   pub text : text_part read ≡ front
-  pub outcome : IsOutcome Commands network fault start left (script_part read) written net
+  pub outcome : IsOutcome Commands Leaves Place fault start left (script_part read) written net
+
+-- nothing was written, since no network came of what was read
+pub record IsNothingWritten (fault : Option Fault) (read : List ℕ) (left : Option (List ℕ)) (written : List ℕ) (net : Option Network) : Type 0 where
+  pub cause : IsUnloaded fault read left
+  pub none : written ≡ []
+  pub gone : net ≡ None
+
+-- whoever answers starts over a network as `Opens` says it
+module _ {S : Type 0} (Opens : Network → S → Type 0) (Commands : List ℕ → S → List ℕ → S → Type 0) (Leaves : S → Network → Type 0) (Place : Type 0) where
+  -- the network text says a network, and the script was answered from a start over that
+  pub record IsScriptWritten (fault : Option Fault) (read : List ℕ) (left : Option (List ℕ)) (written : List ℕ) (net : Option Network) : Type 0 where
+    pub over : Network
+    pub start : S
+    pub whole : HasText read left
+    pub within : IsWithinLimit (text_part read)
+    pub says : Says (text_part read) (Ok over)
+    pub opens : Opens over start
+    pub outcome : IsOutcome Commands Leaves Place fault start left (script_part read) written net
+
+  -- a run of an input: some bytes were read, and the answers to the script among them were written
+  pub record RanInput (unread left held holds : Option (List ℕ)) (fault : Option Fault) (lines : ℕ) (net : Option Network) : Type 0 where
+    pub read : List ℕ
+    pub consumed : Consumes unread left read
+    pub written : List ℕ
+    pub appended : Appends held holds written
+    pub counted : lines ≡ line_count written
+    pub outcome : IsScriptWritten fault read left written net ⊎ IsNothingWritten fault read left written net

@@ -6,7 +6,7 @@ use Rattle.answers.specs.Text.{line_count}
 use Rattle.sessions.specs.Lines.{whole_lines, rest_of, lines_of}
 use Rattle.sessions.specs.Replies.{Answered}
 use Rattle.sessions.specs.declared.faults.Fault.{Fault}
-use Rattle.sessions.specs.declared.faults.Fault.TheVariants.{OutOfMemory, Read, Write, Load}
+use Rattle.sessions.specs.declared.faults.Fault.TheVariants.{OutOfMemory, Read, Write, NoPlace, Load}
 use Rattle.sessions.specs.declared.lines.Line.{Line}
 use Rattle.sessions.specs.declared.session.Session.{Session}
 
@@ -23,12 +23,13 @@ IsKept kept true rest = 131073 < length rest
 abbrev pub IsLine : Line → List ℕ → Type 0
 IsLine line rest = IsKept line.bytes.items line.too_long rest
 
--- a fault that cuts the answers off
-abbrev pub CutsOff : Fault → Type 0
-CutsOff OutOfMemory = Unit {0}
-CutsOff Read = ⊥
-CutsOff Write = Unit {0}
-CutsOff (Load e) = ⊥
+-- a fault that cuts the answers off: that there is no place only if whoever answers needs one
+abbrev pub CutsOff : Type 0 → Fault → Type 0
+CutsOff Place OutOfMemory = Unit {0}
+CutsOff Place Read = ⊥
+CutsOff Place Write = Unit {0}
+CutsOff Place NoPlace = Place
+CutsOff Place (Load e) = ⊥
 
 module _ {S : Type 0} (Commands : List ℕ → S → List ℕ → S → Type 0) where
   -- between two bytes: what was written, and then what waits to be written, are the answers to all whole lines of what was read
@@ -68,18 +69,20 @@ module _ {S : Type 0} (Commands : List ℕ → S → List ℕ → S → Type 0) 
     pub part : IsAnsweredInPart start asked written
     pub counted : lines ≡ line_count written
 
--- how a run ends that answered all: the network comes back, unless memory is refused for it
-abbrev pub IsEnd : {S : Type 0} → (S → Network) → S → Option Fault → Option Network → Type 0
-IsEnd network c None net = net ≡ Some (network c)
-IsEnd network c (Some fault) net = (fault ≡ OutOfMemory) × (net ≡ None)
+-- how a run ends that answered all: the network comes back that is left then, unless a fault cuts it off
+abbrev pub IsEnd : {S : Type 0} → (S → Network → Type 0) → Type 0 → S → Option Fault → Option Network → Type 0
+IsEnd Leaves Place c None net = (left : Network) × Leaves c left × (net ≡ Some left)
+IsEnd Leaves Place c (Some fault) net = CutsOff Place fault × (net ≡ None)
 
-module _ {S : Type 0} (Commands : List ℕ → S → List ℕ → S → Type 0) (network : S → Network) where
-  -- all lines were answered to the end, and the network that comes back is the one after their events
+module _ {S : Type 0} (Commands : List ℕ → S → List ℕ → S → Type 0) (Leaves : S → Network → Type 0) (Place : Type 0) where
+  -- all lines were answered to the end, and the network that comes back is one that is left then
   pub record IsWhole (start : S) (left : Option (List ℕ)) (read written : List ℕ) (net : Option Network) : Type 0 where
     pub at_end : IsAtEnd left
     pub after : S
     pub answered : Answered Commands start (lines_of read) written after
-    pub comes_back : net ≡ Some (network after)
+    pub network : Network
+    pub is_left : Leaves after network
+    pub comes_back : net ≡ Some network
 
   -- what was written after these bytes were read, by the fault that ended the run, and the network that comes back
   abbrev pub IsOutcome : Option Fault → S → Option (List ℕ) → List ℕ → List ℕ → Option Network → Type 0
@@ -87,6 +90,7 @@ module _ {S : Type 0} (Commands : List ℕ → S → List ℕ → S → Type 0) 
   IsOutcome (Some Read) start left read written net = ((after : S) × Answered Commands start (whole_lines read) written after) × (net ≡ None)
   IsOutcome (Some Write) start left read written net = IsAnsweredInPart Commands start (lines_of read) written × (net ≡ None)
   IsOutcome (Some OutOfMemory) start left read written net = IsAnsweredInPart Commands start (lines_of read) written × (net ≡ None)
+  IsOutcome (Some NoPlace) start left read written net = Place × IsAnsweredInPart Commands start (lines_of read) written × (net ≡ None)
   IsOutcome (Some (Load e)) start left read written net = ⊥
 
   -- a run from a start: some bytes were read, and the answers to them were written

@@ -2,7 +2,7 @@
 
 use crate::faults::Fault;
 use net_data::Net;
-use std::alloc::{AllocError, Global};
+use std::alloc::Global;
 
 /// Who answers the lines of a script, one after the other.
 pub trait Answering: Drop {
@@ -14,8 +14,11 @@ pub trait Answering: Drop {
     // What a line does: the text of its answer, and what stands after it.
     ghost commands: { List ℕ → Self → List ℕ → Self → Type 0 };
 
-    // The network after all accepted events.
-    ghost network: { Self → Network };
+    // The network that is left after the last line.
+    ghost leaves: { Self → Network → Type 0 };
+
+    // Whether it needs a place for a reader, which may be refused.
+    ghost needs_place: { Type 0 };
 
     /// Does what a line says, which is neither too long nor silent, and gives the text of its answer, without a line
     /// feed.
@@ -26,9 +29,14 @@ pub trait Answering: Drop {
     fn answer(&mut self, alloc: Global, line: &[u8]) -> Result<String, Fault>
         ensures command { IfOk result (λ text. commands line.now self.old (string_bytes text) self.new) }
         ensures plain { IfOk result (λ text. line_count (string_bytes text) ≡ 0) }
-        ensures fault { IfErr result CutsOff };
+        ensures fault { IfErr result (CutsOff needs_place) };
 
-    /// The network after all accepted events, given away. It fails if memory is refused.
-    fn into_net(self, alloc: Global) -> Result<Net, AllocError>
-        ensures { IfOk result (λ net. net ≡ network self) };
+    /// The network that is left after the last line, given away.
+    ///
+    /// # Errors
+    ///
+    /// A fault that cuts it off.
+    fn into_net(self, alloc: Global) -> Result<Net, Fault>
+        ensures net { IfOk result (leaves self) }
+        ensures fault { IfErr result (CutsOff needs_place) };
 }

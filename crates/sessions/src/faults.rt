@@ -12,6 +12,8 @@ pub enum Fault {
     Read,
     /// 64: the output can't be written.
     Write,
+    /// 50: there is no place for a reader, or a version can't be shared once more.
+    NoPlace,
     /// The network text is not one, by its own fault.
     Load(LoadFault),
 }

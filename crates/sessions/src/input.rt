@@ -204,7 +204,7 @@ impl Opening {
         requires script { IfSome self.script (λ at. at ≤ length self.bytes.items) }
         requires few { length self.bytes.items ≤ self.reads * 65536 }
         ensures { (unread : Option (List ℕ)) → IsOpening unread (R.remaining reader.old) self
-            → RanAfter A.commands A.network (take self.text self.bytes.items) start
+            → RanAfter A.commands A.leaves A.needs_place (take self.text self.bytes.items) start
             unread (R.remaining reader.new) (W.contents writer.old) (W.contents writer.new) result.fault result.lines result.net }
     {
         let mut session = Session::new(alloc, start);

@@ -33,5 +33,5 @@ pub use files::read_net;
 pub use input::{Opening, load_text, read_text};
 pub use laws::input_parts_law;
 pub use printed::write_fault;
-pub use runs::{ScriptEnd, ended_by};
+pub use runs::{ScriptEnd, ended_by, run_lines};
 pub use session::Session;

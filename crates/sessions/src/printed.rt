@@ -68,6 +68,7 @@ pub fn write_fault(alloc: Global, fault: Fault) -> Result<String, AllocError>
         Fault::OutOfMemory => String::from_str(alloc, "1 OutOfMemory"),
         Fault::Read => String::from_str(alloc, "63 Read"),
         Fault::Write => String::from_str(alloc, "64 Write"),
+        Fault::NoPlace => String::from_str(alloc, "50 NoPlace"),
         Fault::Load(fault) => write_load_fault(alloc, fault),
     }
 }

@@ -43,10 +43,10 @@ pub fn ended_by(fault: Fault, lines: u64) -> ScriptEnd
 }
 
 impl<A: Answering> Session<A> {
-    /// The end of a run that answered all. The network may still be refused, and then it is out of memory.
+    /// The end of a run that answered all. A fault may still cut the network off.
     pub(crate) fn done(self, alloc: Global) -> ScriptEnd
         ensures lines { result.lines ≡ self.lines }
-        ensures end { IsEnd A.network self.state result.fault result.net }
+        ensures end { IsEnd A.leaves A.needs_place self.state result.fault result.net }
     {
         match self.state.into_net(alloc) {
             Ok(net) => ScriptEnd {
@@ -54,7 +54,7 @@ impl<A: Answering> Session<A> {
                 fault: None,
                 net: Some(net),
             },
-            Err(_) => ended_by(Fault::OutOfMemory, self.lines),
+            Err(fault) => ended_by(fault, self.lines),
         }
     }
 
@@ -72,7 +72,7 @@ impl<A: Answering> Session<A> {
         requires { self.lines + line_count self.answers.items + 1 < 2 ^ 64 }
         ensures { (start : A) (unread left held : Option (List ℕ))
             → HasAnswered A.commands start unread left held (W.contents writer.old) self → IsAtEnd left
-            → Ran A.commands A.network start unread left held (W.contents writer.new) result.fault result.lines result.net }
+            → Ran A.commands A.leaves A.needs_place start unread left held (W.contents writer.new) result.fault result.lines result.net }
     {
         if !self.line.has_begun() {
             return self.done(alloc);
@@ -94,7 +94,7 @@ impl<A: Answering> Session<A> {
         requires { self.lines + line_count self.answers.items ≤ reads * 65536 }
         ensures { (start : A) (unread held : Option (List ℕ))
             → HasAnswered A.commands start unread (R.remaining reader.old) held (W.contents writer.old) self
-            → Ran A.commands A.network start unread (R.remaining reader.new) held (W.contents writer.new) result.fault result.lines result.net }
+            → Ran A.commands A.leaves A.needs_place start unread (R.remaining reader.new) held (W.contents writer.new) result.fault result.lines result.net }
     {
         let mut chunk = [0u8; CHUNK];
         for _turn in reads..READ_LIMIT {
@@ -114,4 +114,17 @@ impl<A: Answering> Session<A> {
         }
         self.failed(Fault::Read)
     }
+}
+
+/// Reads a script to its end, and has each line answered before more is read.
+pub fn run_lines<A: Answering, R: Read, W: Write>(
+    alloc: Global,
+    reader: &mut R,
+    writer: &mut W,
+    start: A,
+) -> ScriptEnd
+    ensures { Ran A.commands A.leaves A.needs_place start (R.remaining reader.old) (R.remaining reader.new)
+        (W.contents writer.old) (W.contents writer.new) result.fault result.lines result.net }
+{
+    Session::new(alloc, start).read_on(alloc, reader, writer, 0)
 }

@@ -61,7 +61,7 @@ fn count_lines(text: &[u8]) -> usize
 fn reply<A: Answering>(alloc: Global, state: &mut A, line: &Line) -> Result<String, Fault>
     ensures text { IfOk result (λ text. (rest : List ℕ) → IsLine line.now rest → Replies A.commands rest state.old (string_bytes text) state.new) }
     ensures one { IfOk result (λ text. line_count (string_bytes text) ≤ 1) }
-    ensures fault { IfErr result CutsOff }
+    ensures fault { IfErr result (CutsOff A.needs_place) }
 {
     let bytes = without_return(line.bytes.as_slice());
     if line.too_long || bytes.len() > LINE_LIMIT {
@@ -96,7 +96,7 @@ impl<A: Answering> Session<A> {
         ensures ok { OnOk result ((start : A) (read written : List ℕ)
             → IsTaken A.commands start read written self.old → IsTaken A.commands start (read ++ 10 ∷ []) written self.new) }
         ensures err { OnErr result (self.new.answers.items ≡ self.old.answers.items) }
-        ensures fault { IfErr result CutsOff }
+        ensures fault { IfErr result (CutsOff A.needs_place) }
         ensures one { line_count self.new.answers.items ≤ line_count self.old.answers.items + 1 }
         ensures lines { self.new.lines ≡ self.old.lines }
     {
@@ -112,7 +112,7 @@ impl<A: Answering> Session<A> {
             → IsTaken A.commands start read written self.old → IsTaken A.commands start (read ++ chunk.now) written self.new) }
         ensures front { (start : A) (read written : List ℕ) → IsTaken A.commands start read written self.old
             → IsAnsweredInPart A.commands start (whole_lines (read ++ chunk.now)) (written ++ self.new.answers.items) }
-        ensures fault { IfErr result CutsOff }
+        ensures fault { IfErr result (CutsOff A.needs_place) }
         ensures few { line_count self.new.answers.items ≤ line_count self.old.answers.items + length chunk.now }
         ensures lines { self.new.lines ≡ self.old.lines }
     {
@@ -159,7 +159,7 @@ impl<A: Answering> Session<A> {
         ensures err { OnErr result ((start : A) (read : List ℕ) (held : Option (List ℕ))
             → IsAt A.commands start read held (W.contents writer.old) self.old
             → IsCutOff A.commands start (whole_lines (read ++ chunk.now)) held (W.contents writer.new) self.new.lines) }
-        ensures fault { IfErr result CutsOff }
+        ensures fault { IfErr result (CutsOff A.needs_place) }
         ensures none { OnOk result (self.new.answers.items ≡ []) }
         ensures lines { self.new.lines ≤ self.old.lines + line_count self.old.answers.items + length chunk.now }
     {

@@ -1,8 +1,8 @@
 //! The life of a worker.
 
-use crate::gates::Gate;
+use crate::gates::{Gate, Plain};
 use crate::turns::{Turn, take_turn};
-use std::alloc::Global;
+use std::alloc::{AllocError, Global};
 use std::sync::{Condvar, Mutex, Wait};
 use versions::{Hub, Naming, Posters};
 use work_units::{Job, Settled};
@@ -50,6 +50,18 @@ fn settle_one<N: Naming, P: Posters, G: Gate, R: Wait>(
     done
 }
 
+/// Takes a turn, and tells the others.
+fn turn_once<N: Naming, P: Posters, R: Wait>(
+    rt: &R,
+    alloc: Global,
+    hub: &Mutex<Hub<N, P>>,
+    changed: &Condvar,
+) -> Turn {
+    let turn = take_turn(rt, alloc, &mut *hub.lock(rt));
+    changed.notify_all();
+    turn
+}
+
 /// Takes a turn, and tells the others if something changed; waits for a change if there is nothing to do.
 fn turn_and_tell<N: Naming, P: Posters, R: Wait>(
     rt: &R,
@@ -67,6 +79,30 @@ fn turn_and_tell<N: Naming, P: Posters, R: Wait>(
         }
     }
     turn
+}
+
+/// One turn in line, for who waits where no worker lives. Others who wait are told of what it changes.
+///
+/// # Errors
+///
+/// `AllocError` if memory is refused; a job is then abandoned.
+pub fn lend_a_hand<N: Naming, P: Posters, R: Wait>(
+    rt: &R,
+    alloc: Global,
+    hub: &Mutex<Hub<N, P>>,
+    changed: &Condvar,
+) -> Result<(), AllocError> {
+    match turn_once(rt, alloc, hub, changed) {
+        Turn::Memory => Err(AllocError),
+        Turn::Settle(job) => {
+            if settle_one(rt, alloc, hub, changed, &Plain, job) {
+                Ok(())
+            } else {
+                Err(AllocError)
+            }
+        }
+        _ => Ok(()),
+    }
 }
 
 /// Takes turns until it is asked to stop, or memory is refused.

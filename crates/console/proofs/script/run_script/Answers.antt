@@ -1,14 +1,13 @@
-use Rattle.std.proofs.Common.{◌∙◌}
 use Rattle.desk_console.specs.Commands.{Commands}
-use Rattle.desk_console.specs.Console.{net_of, opening}
-use Rattle.console.proofs.HeadlineLemmas.{ran_right}
-use Rattle.sessions.proofs.RunLemmas.{at_first, ran_nothing}
+use Rattle.desk_console.specs.Console.{opening}
+use Rattle.console.specs.InLine.{Leaves}
+use Rattle.console.proofs.HeadlineLemmas.{ran_right, ran_same}
+use Rattle.sessions.specs.declared.faults.Fault.TheVariants.{OutOfMemory}
+use Rattle.sessions.proofs.RunLemmas.{ran_nothing}
 use Rattle.console.proofs.script.run_script.Goals as goal
 
 pub returns-in-Ok-clause-ran : goal.returns-in-Ok-clause-ran
-returns-in-Ok-clause-ran g c =
-    let made = c.new.ensures in
-    c.read_on.ensures (opening c.args.net) _ _ (at_first Commands (opening c.args.net) _ _ c.new.result (made.state ∙ c.in-Ok.ensures) made.line made.answers made.lines)
+returns-in-Ok-clause-ran g c = ran_same _ _ _ _ _ _ _ _ _ c.in-Ok.ensures c.run_lines.ensures
 
 pub returns-in-Ok-clause-right : goal.returns-in-Ok-clause-right
 returns-in-Ok-clause-right g c = ran_right c.args.net _ _ _ _ _ _ _ (returns-in-Ok-clause-ran g c)
@@ -16,7 +15,7 @@ returns-in-Ok-clause-right g c = ran_right c.args.net _ _ _ _ _ _ _ (returns-in-
 pub returns-in-Err-clause-ran : goal.returns-in-Err-clause-ran
 returns-in-Err-clause-ran g c =
     let end = c.ended_by.ensures in
-    ran_nothing Commands net_of (opening c.args.net) _ _ _ _ _ end.lines end.fault end.net
+    ran_nothing Commands Leaves ⊥ (opening c.args.net) _ _ OutOfMemory _ _ _ tt end.lines end.fault end.net
 
 pub returns-in-Err-clause-right : goal.returns-in-Err-clause-right
 returns-in-Err-clause-right g c = ran_right c.args.net _ _ _ _ _ _ _ (returns-in-Err-clause-ran g c)

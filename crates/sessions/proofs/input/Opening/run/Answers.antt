@@ -8,23 +8,24 @@ use Rattle.sessions.proofs.input.Opening.run.Goals as goal
 
 pub returns-in-None : goal.returns-in-None
 returns-in-None g c = λ unread opening.
-    after_ended g.A.Answering.commands g.A.Answering.network unread _ _ c.args.self c.args.start _ _ _ opening c.in-None.is
+    after_ended g.A.Answering.commands g.A.Answering.leaves g.A.Answering.needs_place unread _ _ c.args.self c.args.start _ _ _ opening c.in-None.is
     (c.done.ensures.lines ∙ c.new-session.ensures.lines)
-    (subst (λ s. IsEnd g.A.Answering.network s c.done.result.fault c.done.result.net) c.new-session.ensures.state c.done.ensures.end)
+    (subst (λ s. IsEnd g.A.Answering.leaves g.A.Answering.needs_place s c.done.result.fault c.done.result.net) c.new-session.ensures.state c.done.ensures.end)
 
 pub returns-in-Err : goal.returns-in-Err
 returns-in-Err g c = λ unread opening.
     let commands = g.A.Answering.commands in
-    let network = g.A.Answering.network in
+    let leaves = g.A.Answering.leaves in
+    let place = g.A.Answering.needs_place in
     let middle = g.R.Read.remaining c.args.reader.now in
     let held = g.W.Write.contents c.args.writer.now in
     let s = c.new-session.result in
     let made = c.new-session.ensures in
     let rest = take (length c.deref.result.now - c.in-Some.at) (drop c.in-Some.at c.deref.result.now) in
     let first = at_start commands c.args.start held s made.state made.line made.answers made.lines in
-    after_script commands network unread middle middle held _ c.args.self c.in-Some.at c.args.start rest _ _ _ opening c.in-Some.is
+    after_script commands leaves place unread middle middle held _ c.args.self c.in-Some.at c.args.start rest _ _ _ opening c.in-Some.is
     (rest_slice_of c.args.self.bytes.items c.deref.result.now c.in-Some.at c.deref.ensures.value)
-    (ran_cut_off commands network c.args.start (prepend_known rest middle) middle held _ rest (whole_lines rest) (last_line (rest_of rest)) c.in-Err.fault _ _ _ _ refl
+    (ran_cut_off commands leaves place c.args.start (prepend_known rest middle) middle held _ rest (whole_lines rest) (last_line (rest_of rest)) c.in-Err.fault _ _ _ _ refl
     c.in-Err.ensures.fault (c.in-Err.ensures.err c.args.start [] held first) (consumes_first middle rest)
     c.failed.ensures.lines c.failed.ensures.fault c.failed.ensures.net)
 
@@ -37,7 +38,7 @@ returns g c = λ unread opening.
     let made = c.new-session.ensures in
     let rest = take (length c.deref.result.now - c.in-Some.at) (drop c.in-Some.at c.deref.result.now) in
     let first = at_first commands c.args.start (prepend_known rest middle) held s made.state made.line made.answers made.lines in
-    after_script commands g.A.Answering.network unread middle _ held _ c.args.self c.in-Some.at c.args.start rest _ _ _ opening c.in-Some.is
+    after_script commands g.A.Answering.leaves g.A.Answering.needs_place unread middle _ held _ c.args.self c.in-Some.at c.args.start rest _ _ _ opening c.in-Some.is
     (rest_slice_of c.args.self.bytes.items c.deref.result.now c.in-Some.at c.deref.ensures.value)
     (c.read_on.ensures c.args.start (prepend_known rest middle) held
     (answered_more commands c.args.start (prepend_known rest middle) (prepend_known rest middle) middle held held _ s c.step.new.self rest first (consumes_first middle rest)

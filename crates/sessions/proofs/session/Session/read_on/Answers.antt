@@ -22,13 +22,13 @@ pub returns-in-Err-step : goal.returns-in-Err-step
 returns-in-Err-step g c = λ start unread held has.
     let before = c.loop-turn.invariant.answered start unread held has in
     let read = before.read ++ take c.in-Ok.n c.read.new.buf in
-    ran_cut_off g.A.Answering.commands g.A.Answering.network start unread _ held _ read (whole_lines read) (last_line (rest_of read)) c.in-Err-step.fault _ _ _ _ refl c.in-Err-step.ensures.fault
+    ran_cut_off g.A.Answering.commands g.A.Answering.leaves g.A.Answering.needs_place start unread _ held _ read (whole_lines read) (last_line (rest_of read)) c.in-Err-step.fault _ _ _ _ refl c.in-Err-step.ensures.fault
     (c.in-Err-step.ensures.err start before.read held before.at) (Consumes-trans _ _ _ _ _ before.consumed c.in-Ok.ensures.bytes.0)
     c.failed.ensures.lines c.failed.ensures.fault c.failed.ensures.net
 
 pub returns-then-ne : goal.returns-then-ne
 returns-then-ne g c = λ start unread held has.
-    ran_unread g.A.Answering.commands g.A.Answering.network start unread _ held _ c.loop-turn.self _ _ _
+    ran_unread g.A.Answering.commands g.A.Answering.leaves g.A.Answering.needs_place start unread _ held _ c.loop-turn.self _ _ _
     (answered_kept g.A.Answering.commands start unread _ _ held _ _ (c.loop-turn.invariant.answered start unread held has) c.in-Err.ensures.bytes)
     c.failed-then-ne.ensures.lines c.failed-then-ne.ensures.fault c.failed-then-ne.ensures.net
 
@@ -53,5 +53,5 @@ loop-turn-preserved g c = elim c.match-read.branch [
 
 pub returns : goal.returns
 returns g c = λ start unread held has.
-    ran_unread g.A.Answering.commands g.A.Answering.network start unread _ held _ c.loop-turn.self _ _ _ (c.loop-turn.invariant.answered start unread held has)
+    ran_unread g.A.Answering.commands g.A.Answering.leaves g.A.Answering.needs_place start unread _ held _ c.loop-turn.self _ _ _ (c.loop-turn.invariant.answered start unread held has)
     c.failed-2.ensures.lines c.failed-2.ensures.fault c.failed-2.ensures.net

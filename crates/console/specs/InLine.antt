@@ -1,0 +1,12 @@
+-- A script that a console answers, whose desk is worked on in line (own).
+use Rattle.std.specs.Prelude.{◌≡◌}
+use Rattle.net_data.specs.Network.{Network}
+use Rattle.desk_console.specs.Console.{ConsoleValue, net_of, opening}
+
+-- it starts with a new desk over a network
+abbrev pub Opens : Network → ConsoleValue → Type 0
+Opens net c = c ≡ opening net
+
+-- the network that is left is the one after all accepted events
+abbrev pub Leaves : ConsoleValue → Network → Type 0
+Leaves c net = net ≡ net_of c
