@@ -61,9 +61,10 @@ prove_side_by_side() {
     tar c --exclude=out --exclude=must-fail crates.txt HANDLES crates | tar x -C "$copy"
     take_over . "$copy"
     stage "net_data, profile tokens command_line"
-    stage "transfer_state dirty_sets net_versions path_trace, script_words net_saving"
-    stage "desk_core all_tables, what_if answers"
-    stage "desk_console, sessions"
+    stage "transfer_state dirty_sets net_versions path_trace, script_words net_saving agreed"
+    stage "desk_core, what_if answers sessions"
+    stage "desk_console all_tables, versions worker_pool"
+    stage "console, beside"
     rm -rf "$copy"
 }
 

@@ -14,9 +14,9 @@ import tempfile
 from concurrent.futures import ThreadPoolExecutor
 
 sys.dont_write_bytecode = True
-from worked import HERE, examples_of
+from worked import HERE, examples_of, synced
 
-MEMORY, READ, WRITE = (b"route_desk: " + fault + b"\n" for fault in (b"1 OutOfMemory", b"63 Read", b"64 Write"))
+MEMORY, READ, WRITE, PLACE = (b"route_desk: " + fault + b"\n" for fault in (b"1 OutOfMemory", b"63 Read", b"64 Write", b"50 NoPlace"))
 # what `clap` says if the words of the command line can't be read for want of memory
 CLAP = (b"", b"error: out of memory\n", 2)
 # what is said of a word that isn't UTF-8
@@ -100,6 +100,14 @@ def memory(case):
             case.want(right, f"request {k} refused, all after it: {every}", got)
 
 
+def beside(case):
+    """Beside workers: the run does all that it should, however many of them are left, or ends with 1 or 50 after a prefix of it."""
+    for every in 0, 1:
+        for k, got in case.each("memory", all=every):
+            right = got in (case.wanted, CLAP) or case.is_prefix(got, MEMORY) or case.is_prefix(got, PLACE)
+            case.want(right, f"request {k} refused beside workers, all after it: {every}", got)
+
+
 def reads(case):
     """The run ends with 63 after the answers to the whole lines before; what isn't loaded is told only if it was read whole."""
     for k, got in case.each("read", 0, files=int(not case.text)):
@@ -163,6 +171,9 @@ def cases(short):
     every_word = examples_of(os.path.join(HERE, "every-word.txt"))[0]
     for form, ways in ("run", (memory, reads, writes, calls)), ("play", (memory, reads, calls)), ("save", (memory, reads, saves, calls)):
         yield case_of(every_word, form), ways
+    example = examples_of(os.path.join(HERE, "messages.txt"))[0]
+    script = "".join(line + "\n" for _, line, _ in synced(example.lines))
+    yield Case("beside workers", ["run", "-", "--workers", "2"], f"{example.network}%%\n{script}".encode("latin-1")), (beside,)
     network = {"network": every_word.network.encode()}
     yield Case("check", ["check", "network"], files=network, head=len(network["network"]) + 1), (memory, reads, writes, calls)
     for words in (["--help"], ["run", "--help"]):

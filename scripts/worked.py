@@ -4,7 +4,8 @@
 The files are those of examples/worked/, whose README says how an example is written. A script over a network is run in four ways:
 in one run over a pipe, with '\\r\\n' line ends, byte by byte (each answer has to come before the next line is sent), and from files
 with the last line end cut off. Then its network is saved: the saved text has to load as the same network and to save as the same
-text. An example that begins with `$` is one command line. The last line is 'N examples, M failed'."""
+text. Beside four workers it has to answer as in line, at once and line by line, with a `sync` before what it asks. An example that
+begins with `$` is one command line. The last line is 'N examples, M failed'."""
 import functools
 import os
 import re
@@ -18,6 +19,8 @@ from concurrent.futures import ThreadPoolExecutor
 HERE = os.path.join(os.path.dirname(os.path.abspath(__file__)), "..", "examples", "worked")
 # words that ask and change nothing
 QUESTIONS = ("status", "sls", "messages", "octets", "trace", "whatif", "audit")
+# words that are refused beside workers
+OF_WORKERS = ("open", "take", "give", "abandon", "publish")
 
 
 class Example:
@@ -146,10 +149,10 @@ def answer_of(pipe, place):
     return got
 
 
-def byte_by_byte(program, example):
+def byte_by_byte(program, example, *options):
     """Standard output, standard error and status if each byte is sent by itself, and each answer awaited."""
     with tempfile.TemporaryFile() as errors:
-        process = subprocess.Popen([program, "run", "-"], stdin=subprocess.PIPE, stdout=subprocess.PIPE, stderr=errors, bufsize=0)
+        process = subprocess.Popen([program, "run", "-", *options], stdin=subprocess.PIPE, stdout=subprocess.PIPE, stderr=errors, bufsize=0)
         got = b""
         head = [(None, line, None) for line in (example.network + "%%").split("\n")]
         try:
@@ -194,6 +197,34 @@ def try_saving(program, example, folder):
             raise Failure(f"{example.place}: the saved text is saved otherwise")
 
 
+def synced(lines):
+    """The lines with a `sync` between what is asked and the events before it; none if one is a worker's, or if more than 65,536 events
+    stand between two."""
+    found, events = [], 0
+    for place, line, answer in lines:
+        word = (line.split() or [""])[0]
+        if events and word in (*QUESTIONS, "version"):
+            found.append((place, "sync", ""))
+            events = 0
+        found.append((place, line, answer))
+        if word not in (*QUESTIONS, "version"):
+            events = 0 if word == "sync" else events + (answer is not None)
+        if word in OF_WORKERS or events > 65536:
+            return []
+    return found
+
+
+def try_beside(program, example):
+    """Runs a script beside four workers, at once and byte by byte, and wants what it writes in line."""
+    beside = Example(example.place, None)
+    beside.network, beside.lines = example.network, synced(example.lines)
+    if beside.lines:
+        text = beside.network + "%%\n" + beside.script()
+        wanted = run([program, "run", "-"], text)
+        compare(beside, run([program, "run", "-", "--workers", "4"], text), wanted)
+        compare(beside, byte_by_byte(program, beside, "--workers", "4"), wanted)
+
+
 def try_script(program, example):
     """Runs a script over a network in each way."""
     wanted = (example.answers(), example.errors, example.status)
@@ -210,6 +241,7 @@ def try_script(program, example):
         compare(example, run([program, "play", network, script], ""), wanted)
         if example.status == 0:
             try_saving(program, example, folder)
+            try_beside(program, example)
 
 
 def try_command(program, example):

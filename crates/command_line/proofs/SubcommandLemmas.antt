@@ -12,7 +12,7 @@ use Rattle.clap.specs.Takes.{is_given}
 use Rattle.clap.specs.Faults.{built_fault, check_fault, entered_fault, fault_of, level_fault, other_fault, step_fault, turn_fault, walk_fault, word_fault}
 use Rattle.clap.specs.declared.error.Error.{Error}
 use Rattle.clap.specs.declared.error.kind.ErrorKind.TheVariants.{DisplayHelp, InvalidSubcommand, MissingSubcommand}
-use Rattle.command_line.specs.Words.{net_rule, steps_rule, save_rule, check_app, desk_app, play_app, run_app, is_whole, IsWordFault}
+use Rattle.command_line.specs.Words.{net_rule, steps_rule, workers_rule, save_rule, check_app, desk_app, play_app, run_app, is_whole, IsWordFault}
 use Rattle.command_line.specs.declared.words.WordFault.TheVariants.{Clap}
 use Rattle.command_line.proofs.RowLemmas.{AllFill, Fills, none_of_both, set_fills, help_fills, level_filled, given_value}
 
@@ -133,6 +133,9 @@ net_fills = set_fills (rule_at 1 net_rule) refl refl
 steps_fills : Fills (rule_at 2 steps_rule)
 steps_fills = set_fills (rule_at 2 steps_rule) refl refl
 
+workers_fills : Fills (rule_at 2 workers_rule)
+workers_fills = set_fills (rule_at 2 workers_rule) refl refl
+
 save_fills : Fills (rule_at 2 save_rule)
 save_fills = set_fills (rule_at 2 save_rule) refl refl
 
@@ -140,7 +143,7 @@ asks_fills : Fills (rule_at 2 help_rule)
 asks_fills = help_fills (rule_at 2 help_rule) refl
 
 run_fills : AllFill run_built.rules
-run_fills = (net_fills, refl, (save_fills, refl, (asks_fills, refl, tt)))
+run_fills = (net_fills, refl, (workers_fills, refl, (save_fills, refl, (asks_fills, refl, tt))))
 
 play_fills : AllFill play_built.rules
 play_fills = (net_fills, refl, (steps_fills, refl, (save_fills, refl, (asks_fills, refl, tt))))

@@ -1,16 +1,21 @@
 -- The command line of the desk.
-use Rattle.std.specs.Prelude.{◌≡◌, ◌⊎◌, ◌&&◌, ◌||◌, [], List, Bool, Option, Some, None, true, is_some, codes, option_map}
+use Rattle.std.specs.Prelude.{◌≡◌, ◌≢◌, ◌<◌, ◌≤◌, ◌⊎◌, ◌&&◌, ◌||◌, ℕ, [], List, Bool, Option, Some, None, true, is_some, codes, option_map, length, slice_index}
+use Rattle.std.specs.Fmt.{decimal}
 use Rattle.std.specs.Str.{bytes_eq}
 use Rattle.clap.specs.Words.{App, Rule, Row, Text, new_app, new_rule, with_rule, with_subcommand, first_of, Kinds, HasKind, kind_of}
 use Rattle.clap.specs.declared.error.kind.ErrorKind.TheVariants.{MissingSubcommand}
 use Rattle.command_line.specs.declared.words.Order.{Order}
 use Rattle.command_line.specs.declared.words.Order.TheVariants.{Run, Play, Check}
 use Rattle.command_line.specs.declared.words.WordFault.{WordFault}
-use Rattle.command_line.specs.declared.words.WordFault.TheVariants.{Clap}
+use Rattle.command_line.specs.declared.words.WordFault.TheVariants.{Clap, Workers}
 
 -- NET is required
 abbrev pub net_rule : Rule
 net_rule = record (new_rule (codes "net")) { required = true; value_names = 1 }
+
+-- `--workers N`
+abbrev pub workers_rule : Rule
+workers_rule = record (new_rule (codes "workers")) { long = Some (codes "workers"); value_names = 1 }
 
 -- `--save FILE`
 abbrev pub save_rule : Rule
@@ -20,9 +25,13 @@ save_rule = record (new_rule (codes "save")) { long = Some (codes "save"); value
 abbrev pub net_app : Text → App
 net_app name = with_rule (new_app name) net_rule
 
--- `run NET --save FILE`
+-- `run NET --workers N`
+abbrev pub workers_app : App
+workers_app = with_rule (net_app (codes "run")) workers_rule
+
+-- `run NET --workers N --save FILE`
 abbrev pub run_app : App
-run_app = with_rule (net_app (codes "run")) save_rule
+run_app = with_rule workers_app save_rule
 
 -- STEPS is required
 abbrev pub steps_rule : Rule
@@ -52,14 +61,26 @@ desk_app_of_scripts = with_subcommand desk_app_of_run play_app.top
 abbrev pub desk_app : App
 desk_app = with_subcommand desk_app_of_scripts check_app.top
 
+-- what is given for N says this many workers; it says none if nothing is given
+abbrev pub IsWorkers : Option Text → ℕ → Type 0
+IsWorkers None n = n ≡ 0
+IsWorkers (Some text) n = (text ≡ decimal n) × (n ≤ 32)
+
 -- the order is what the subcommand's matches say
 abbrev pub IsOrder : Order → Option (Text × List Row) → Type 0
-IsOrder (Run net save) found =
-    (rows : List Row) × (found ≡ Some (codes "run", rows)) × (first_of (codes "net") rows ≡ Some net.now) × (first_of (codes "save") rows ≡ option_map (λ s. s.now) save)
+IsOrder (Run net workers save) found =
+    (rows : List Row) × (found ≡ Some (codes "run", rows)) × (first_of (codes "net") rows ≡ Some net.now)
+    × IsWorkers (first_of (codes "workers") rows) workers × (first_of (codes "save") rows ≡ option_map (λ s. s.now) save)
 IsOrder (Play net steps save) found =
     (rows : List Row) × (found ≡ Some (codes "play", rows)) × (first_of (codes "net") rows ≡ Some net.now)
     × (first_of (codes "steps") rows ≡ Some steps.now) × (first_of (codes "save") rows ≡ option_map (λ s. s.now) save)
 IsOrder (Check net) found = (rows : List Row) × (found ≡ Some (codes "check", rows)) × (first_of (codes "net") rows ≡ Some net.now)
+
+-- there are at most 32 workers
+abbrev pub IsWithin : Order → Type 0
+IsWithin (Run net workers save) = workers ≤ 32
+IsWithin (Play net steps save) = Unit {0}
+IsWithin (Check net) = Unit {0}
 
 -- whether the argument has a value
 abbrev pub has_value : Text → List Row → Bool
@@ -71,6 +92,24 @@ is_whole (name, rows) =
     ((bytes_eq name (codes "run") || bytes_eq name (codes "check")) && has_value (codes "net") rows)
     || (bytes_eq name (codes "play") && (has_value (codes "net") rows && has_value (codes "steps") rows))
 
--- memory was wanting, or the words have one of these faults, or they have none and name no subcommand
+-- the text begins with a plus or a zero, and goes on
+abbrev pub IsPadded : Text → Type 0
+IsPadded text = (1 < length text) × ((slice_index text 0 ≡ 43) ⊎ (slice_index text 0 ≡ 48))
+
+-- the text says no number of workers
+abbrev pub IsNoCount : Text → Type 0
+IsNoCount text = (n : ℕ) → n ≤ 32 → text ≢ decimal n
+
+-- N is given, and says no number of workers
+abbrev pub HasBadCount : List Row → Type 0
+HasBadCount rows = (text : Text) × (first_of (codes "workers") rows ≡ Some text) × IsNoCount text
+
+-- the subcommand is `run`, with such an N
+abbrev pub HasBadWorkers : Option (Text × List Row) → Type 0
+HasBadWorkers found = (rows : List Row) × (found ≡ Some (codes "run", rows)) × HasBadCount rows
+
+-- Clap: memory was wanting, or the words have one of these faults, or they have none and name no subcommand
+-- Workers: the words have no fault, and N of `run` says no number of workers
 abbrev pub IsWordFault : Kinds → Option (Text × List Row) → WordFault → Type 0
 IsWordFault kinds found (Clap e) = HasKind kinds e ⊎ ((kinds ≡ []) × (found ≡ None) × (kind_of e ≡ MissingSubcommand))
+IsWordFault kinds found Workers = (kinds ≡ []) × HasBadWorkers found

@@ -1,10 +1,11 @@
 //! The words of a command line.
 
-ghost use Rattle.std.specs.Prelude.{◌≡◌, Option, Some, ◌∷◌, codes, IfOk, IfErr, IfSome, OnOk, option_map, map, false, []};
+ghost use Rattle.std.specs.Prelude.{◌≡◌, ◌≤◌, ◌↔◌, IsTrue, Option, Some, ◌∷◌, codes, IfOk, IfErr, IfSome, OnOk, option_map, map, false, []};
+ghost use Rattle.std.specs.Fmt.{decimal};
 ghost use Rattle.clap.specs.declared.builder.command.Command.TheViews.{out-Command};
 ghost use Rattle.clap.specs.Words.{app_of, first_of, FailsBy, HasKind, fault_of, found_of, rows_of, rule_of, subcommand_of, subcommand_rows_of};
 ghost use Rattle.clap.specs.declared.error.kind.ErrorKind.TheVariants.{MissingSubcommand};
-ghost use Rattle.command_line.specs.Words.{net_rule, steps_rule, save_rule, net_app, run_app, files_app, play_app, check_app, desk_app_of_run, desk_app_of_scripts, desk_app, IsOrder, is_whole, IsWordFault};
+ghost use Rattle.command_line.specs.Words.{net_rule, steps_rule, workers_rule, save_rule, net_app, workers_app, run_app, files_app, play_app, check_app, desk_app_of_run, desk_app_of_scripts, desk_app, IsOrder, IsWithin, IsWorkers, IsPadded, IsNoCount, HasBadCount, HasBadWorkers, is_whole, IsWordFault};
 
 use clap::error::ErrorKind;
 use clap::{Arg, ArgMatches, Command, Error};
@@ -14,9 +15,11 @@ use std::alloc::{AllocError, Global};
 #[derive(Clone, Copy, Debug, PartialEq, Eq)]
 pub enum Order<'a> {
     /// To answer the script on standard input from the network of a file, or of standard input itself where the file's
-    /// name is `-`, and to write the network to a file then, if one is named.
+    /// name is `-`, with this many worker threads beside it, 0 to 32, and to write the network to a file then, if one is
+    /// named.
     Run {
         net: &'a str,
+        workers: u32,
         save: Option<&'a str>,
     },
     /// To answer the script of the file STEPS from the network of a file, and to write the network to a file then, if one is
@@ -37,6 +40,17 @@ pub enum Order<'a> {
 pub enum WordFault {
     /// It isn't one of the desk's, or asks for help; `clap` has the text and the exit status.
     Clap(Error),
+    /// The number of workers isn't a number 0 to 32, written without sign or leading zeros.
+    Workers,
+}
+
+/// Why matches are no order.
+#[derive(Clone, Copy)]
+enum NoOrder {
+    /// They name no subcommand of the desk's, or not each file that it needs.
+    NotWhole,
+    /// A text is given that says no number of workers.
+    Workers,
 }
 
 /// The argument NET, which is required.
@@ -59,6 +73,17 @@ fn steps_argument<'a>(alloc: Global) -> Arg<'a>
         .required(true)
         .value_name("STEPS")
         .help("File with the script")
+}
+
+/// The option `--workers N`.
+fn workers_argument<'a>(alloc: Global) -> Arg<'a>
+    ensures rule { rule_of result ≡ workers_rule }
+    ensures local { result.global ≡ false }
+{
+    Arg::new(alloc, "workers")
+        .long("workers")
+        .value_name("N")
+        .help("Threads that settle jobs beside the script, 0 to 32; 0 if it isn't given")
 }
 
 /// The option `--save FILE`.
@@ -86,9 +111,9 @@ fn net_command<'a>(
         .arg(net_argument(alloc, net_help))
 }
 
-/// The command `run`.
-fn run_command<'a>(alloc: Global) -> Result<Command<'a>, AllocError>
-    ensures app { IfOk result (λ c. app_of c ≡ run_app) }
+/// The command `run` with its network and its workers.
+fn workers_command<'a>(alloc: Global) -> Result<Command<'a>, AllocError>
+    ensures app { IfOk result (λ c. app_of c ≡ workers_app) }
     ensures local { IfOk result (λ c. (out-Command c).has_globals ≡ false) }
 {
     let command = net_command(
@@ -97,6 +122,15 @@ fn run_command<'a>(alloc: Global) -> Result<Command<'a>, AllocError>
         "Answer a script of commands, read from standard input",
         "File with the network, or - for standard input up to the line %%",
     )?;
+    command.arg(workers_argument(alloc))
+}
+
+/// The command `run`.
+fn run_command<'a>(alloc: Global) -> Result<Command<'a>, AllocError>
+    ensures app { IfOk result (λ c. app_of c ≡ run_app) }
+    ensures local { IfOk result (λ c. (out-Command c).has_globals ≡ false) }
+{
+    let command = workers_command(alloc)?;
     command.arg(save_argument(alloc))
 }
 
@@ -190,14 +224,55 @@ fn value_at<'a>(matches: &ArgMatches<'a>, id: &str) -> Option<&'a str>
     matches.get_str(id)
 }
 
-/// What the matches of `run` order.
-fn run_order<'a>(matches: &ArgMatches<'a>) -> Option<Order<'a>>
-    ensures some { IfSome result (λ order. IsOrder order (Some (codes "run", rows_of (found_of matches.now)))) }
-    ensures none { result ≡ None → is_whole (codes "run", rows_of (found_of matches.now)) ≡ false }
+/// Whether a text begins with a plus or a zero, and goes on. `parse` takes such texts of numbers too.
+fn is_padded(text: &str) -> bool
+    ensures { IsTrue result ↔ IsPadded text.now }
 {
-    let net = value_at(matches, "net")?;
+    match text.as_bytes() {
+        [first, _, ..] => *first == b'+' || *first == b'0',
+        _ => false,
+    }
+}
+
+/// The number of workers that a text says.
+fn worker_count(text: &str) -> Option<u32>
+    ensures some { IfSome result (λ n. (text.now ≡ decimal n) × (n ≤ 32)) }
+    ensures none { result ≡ None → IsNoCount text.now }
+{
+    if is_padded(text) {
+        return None;
+    }
+    match text.parse::<u32>() {
+        Ok(count) if count <= 32 => Some(count),
+        _ => None,
+    }
+}
+
+/// The number of workers that the matches of `run` say.
+fn workers_at(matches: &ArgMatches) -> Option<u32>
+    ensures some { IfSome result (IsWorkers (first_of (codes "workers") (rows_of (found_of matches.now)))) }
+    ensures none { result ≡ None → HasBadCount (rows_of (found_of matches.now)) }
+{
+    match value_at(matches, "workers") {
+        Some(text) => worker_count(text),
+        None => Some(0),
+    }
+}
+
+/// What the matches of `run` order.
+fn run_order<'a>(matches: &ArgMatches<'a>) -> Result<Order<'a>, NoOrder>
+    ensures order { IfOk result (λ order. IsOrder order (Some (codes "run", rows_of (found_of matches.now)))) }
+    ensures not_whole { result ≡ Err NoOrder.NotWhole → is_whole (codes "run", rows_of (found_of matches.now)) ≡ false }
+    ensures workers { result ≡ Err NoOrder.Workers → HasBadWorkers (Some (codes "run", rows_of (found_of matches.now))) }
+{
+    let Some(net) = value_at(matches, "net") else {
+        return Err(NoOrder::NotWhole);
+    };
+    let Some(workers) = workers_at(matches) else {
+        return Err(NoOrder::Workers);
+    };
     let save = value_at(matches, "save");
-    Some(Order::Run { net, save })
+    Ok(Order::Run { net, workers, save })
 }
 
 /// What the matches of `play` order.
@@ -221,16 +296,19 @@ fn check_order<'a>(matches: &ArgMatches<'a>) -> Option<Order<'a>>
 }
 
 /// What the matches order.
-fn order_of<'a>(matches: &ArgMatches<'a>) -> Option<Order<'a>>
-    ensures some { IfSome result (λ order. IsOrder order (subcommand_rows_of matches.now)) }
-    ensures none { result ≡ None → IfSome (subcommand_rows_of matches.now) (λ found. is_whole found ≡ false) }
+fn order_of<'a>(matches: &ArgMatches<'a>) -> Result<Order<'a>, NoOrder>
+    ensures order { IfOk result (λ order. IsOrder order (subcommand_rows_of matches.now)) }
+    ensures not_whole { result ≡ Err NoOrder.NotWhole → IfSome (subcommand_rows_of matches.now) (λ found. is_whole found ≡ false) }
+    ensures workers { result ≡ Err NoOrder.Workers → HasBadWorkers (subcommand_rows_of matches.now) }
 {
-    let (name, inner) = entered(matches)?;
+    let Some((name, inner)) = entered(matches) else {
+        return Err(NoOrder::NotWhole);
+    };
     match name {
         "run" => run_order(inner),
-        "play" => play_order(inner),
-        "check" => check_order(inner),
-        _ => None,
+        "play" => play_order(inner).ok_or(NoOrder::NotWhole),
+        "check" => check_order(inner).ok_or(NoOrder::NotWhole),
+        _ => Err(NoOrder::NotWhole),
     }
 }
 
@@ -250,9 +328,11 @@ fn missing(alloc: Global) -> Error
 }
 
 /// Reads the words of a command line, the program's name first. Words are refused for a fault of theirs that `clap` tells, for
-/// a missing subcommand where they have no fault and name none, or for want of memory.
+/// want of memory, or, if they have no fault, for a missing subcommand, or for a text that says no number of workers.
+#[tactic(auto, using(crate::proofs::CountLemmas::order_within))]
 pub fn read_words<'a>(alloc: Global, words: &'a [&'a str]) -> Result<Order<'a>, WordFault>
     ensures order { IfOk result (λ order. IsOrder order (subcommand_of desk_app (map (λ w. w.now) words.entry.now))) }
+    ensures within { IfOk result IsWithin }
     ensures accepted { OnOk result (fault_of desk_app (map (λ w. w.now) words.entry.now) ≡ []) }
     ensures fault { IfErr result (IsWordFault (fault_of desk_app (map (λ w. w.now) words.entry.now)) (subcommand_of desk_app (map (λ w. w.now) words.entry.now))) }
 {
@@ -261,7 +341,8 @@ pub fn read_words<'a>(alloc: Global, words: &'a [&'a str]) -> Result<Order<'a>, 
         Err(e) => return Err(WordFault::Clap(e)),
     };
     match order_of(&matches) {
-        Some(order) => Ok(order),
-        None => Err(WordFault::Clap(missing(alloc))),
+        Ok(order) => Ok(order),
+        Err(NoOrder::NotWhole) => Err(WordFault::Clap(missing(alloc))),
+        Err(NoOrder::Workers) => Err(WordFault::Workers),
     }
 }

@@ -4,7 +4,7 @@
 //!    standard output. `route_desk run -` reads the network text from standard input too, up to the line `%%`. With
 //!    `--save FILE` the network after all accepted events is written to that file after a script that ended without a
 //!    fault; a file that was there stays as it was if that fails. If FILE is a symbolic link, the file that it leads to
-//!    is written, and the link stays.
+//!    is written, and the link stays. With `--workers N`, from 1 to 32, that many threads settle jobs beside the script.
 //! 2. `route_desk play NET STEPS` does the same with the script of the file STEPS, which is opened once the network is
 //!    loaded.
 //! 3. `route_desk check NET` works out the tables of all planned destinations of that network, by as many threads as
@@ -12,15 +12,19 @@
 //!    wrong one.
 //! 4. It exits with 0 if the script was answered to its end: a refused line is no fault of a run; or if all
 //!    tables are right.
-//! 5. It exits with 1 if a table is wrong, if the network isn't loaded, or where memory, reading or writing ended
-//!    the run; in all but the first of these standard error has one line, `route_desk: ` and the fault. Memory that is
+//! 5. It exits with 1 if a table is wrong, if the network isn't loaded, or where memory, reading, writing or the want of a
+//!    place for a reader ended the run; in all but the first of these standard error has one line, `route_desk: ` and the fault. Memory that is
 //!    wanting while the arguments are fetched is such a fault.
 //! 6. It exits with 2 where the command line isn't read, with `clap`'s text on standard error, or one line if an argument
-//!    isn't UTF-8. Help is printed on standard output, with 0.
+//!    isn't UTF-8 or N is no number from 0 to 32. Help is printed on standard output, with 0.
 //!
-//! Stands on `net_saving`, `console`, `command_line`, `clap`. Nothing else changes with it.
+//! Stands on `net_saving`, `console`, `beside`, `command_line`, `clap`. Nothing else changes with it.
 #![tactic(auto)]
 
+ghost use Rattle.std.specs.Prelude.{◌≤◌};
+ghost use Rattle.command_line.specs.Words.{IsWithin};
+
+use beside::{run_beside, run_input_beside};
 use clap::Error;
 use command_line::{Order, WordFault, read_words};
 use console::{
@@ -32,8 +36,10 @@ use net_saving::save;
 use std::alloc::{AllocError, Global};
 use std::io::ErrorKind;
 use std::process::ExitCode;
+use std::sync::Wait;
 use std::thread::Threads;
 use std::{env, fs, io};
+use worker_pool::Plain;
 
 /// The words of the command line, the program's name first. It fails with `InvalidData` where one isn't UTF-8, and with
 /// `OutOfMemory`.
@@ -79,10 +85,33 @@ fn load_file(rt: &HostRuntime, name: &str) -> Result<Net, Fault> {
     }
 }
 
-/// Runs the script on standard input from the network of a file.
-fn run_file(rt: &HostRuntime, name: &str) -> Result<ScriptEnd, Fault> {
-    let net = load_file(rt, name)?;
-    Ok(run_script(rt.alloc(), &mut rt.reader(), &mut io::writer(rt), net))
+/// Runs the script on standard input from a network, in line or beside that many workers.
+fn run_from(
+    rt: &HostRuntime,
+    threads: &(impl Threads + Wait + Sync),
+    net: Net,
+    workers: u32,
+) -> ScriptEnd
+    requires { workers ≤ 32 }
+{
+    let alloc = rt.alloc();
+    if workers == 0 {
+        return run_script(alloc, &mut rt.reader(), &mut io::writer(rt), net);
+    }
+    let (reader, writer) = (rt.reader(), io::writer(rt));
+    run_beside(threads, alloc, workers, &Plain, reader, writer, net).end
+}
+
+/// Runs the network text and the script on standard input, in line or beside that many workers.
+fn run_whole(rt: &HostRuntime, threads: &(impl Threads + Wait + Sync), workers: u32) -> ScriptEnd
+    requires { workers ≤ 32 }
+{
+    let alloc = rt.alloc();
+    if workers == 0 {
+        return run_input(alloc, &mut rt.reader(), &mut io::writer(rt));
+    }
+    let (reader, writer) = (rt.reader(), io::writer(rt));
+    run_input_beside(threads, alloc, workers, &Plain, reader, writer).end
 }
 
 /// Runs the script of a file from the network of another.
@@ -95,11 +124,19 @@ fn play_file(rt: &HostRuntime, name: &str, steps: &str) -> Result<ScriptEnd, Fau
 }
 
 /// Runs the script on standard input, from the network of a file or from that of the text before the script.
-fn run_net(rt: &HostRuntime, net: &str) -> Result<ScriptEnd, Fault> {
+fn run_net(
+    rt: &HostRuntime,
+    threads: &(impl Threads + Wait + Sync),
+    net: &str,
+    workers: u32,
+) -> Result<ScriptEnd, Fault>
+    requires { workers ≤ 32 }
+{
     if net == "-" {
-        return Ok(run_input(rt.alloc(), &mut rt.reader(), &mut io::writer(rt)));
+        return Ok(run_whole(rt, threads, workers));
     }
-    run_file(rt, net)
+    let net = load_file(rt, net)?;
+    Ok(run_from(rt, threads, net, workers))
 }
 
 /// Whether a name is that of something else than a file, or leads to it, as to a device.
@@ -224,8 +261,16 @@ fn report_end(rt: &HostRuntime, end: Result<CheckEnd, Fault>) -> io::Result<Exit
 }
 
 /// Runs the script on standard input, saves the network if a file is named, and says how the run ended.
-fn run(rt: &HostRuntime, net: &str, save: Option<&str>) -> io::Result<ExitCode> {
-    report(rt, finish(rt, run_net(rt, net), save))
+fn run(
+    rt: &HostRuntime,
+    threads: &(impl Threads + Wait + Sync),
+    net: &str,
+    workers: u32,
+    save: Option<&str>,
+) -> io::Result<ExitCode>
+    requires { workers ≤ 32 }
+{
+    report(rt, finish(rt, run_net(rt, threads, net, workers), save))
 }
 
 /// The same for the script of a file.
@@ -233,10 +278,16 @@ fn play(rt: &HostRuntime, net: &str, steps: &str, save: Option<&str>) -> io::Res
     report(rt, finish(rt, play_file(rt, net, steps), save))
 }
 
-/// Does what the words of the command line ask for; a check takes threads.
-fn obey(rt: &HostRuntime, threads: &(impl Threads + Sync), order: Order) -> io::Result<ExitCode> {
+/// Does what the words of the command line ask for; a check and workers take threads.
+fn obey(
+    rt: &HostRuntime,
+    threads: &(impl Threads + Wait + Sync),
+    order: Order,
+) -> io::Result<ExitCode>
+    requires { IsWithin order }
+{
     match order {
-        Order::Run { net, save } => run(rt, net, save),
+        Order::Run { net, workers, save } => run(rt, threads, net, workers, save),
         Order::Play { net, steps, save } => play(rt, net, steps, save),
         Order::Check { net } => {
             report_end(rt, check_tables(threads, rt.alloc(), load_file(rt, net)))
@@ -247,12 +298,16 @@ fn obey(rt: &HostRuntime, threads: &(impl Threads + Sync), order: Order) -> io::
 /// Reads the words of the command line, and does what they ask for.
 fn serve(
     rt: &HostRuntime,
-    threads: &(impl Threads + Sync),
+    threads: &(impl Threads + Wait + Sync),
     words: &[&str],
 ) -> io::Result<ExitCode> {
     match read_words(rt.alloc(), words) {
         Ok(order) => obey(rt, threads, order),
         Err(WordFault::Clap(error)) => refuse(rt, &error),
+        Err(WordFault::Workers) => {
+            eprintln!(rt; "route_desk: workers")?;
+            Ok(ExitCode::from(2))
+        }
     }
 }
 

@@ -1,6 +1,6 @@
 //! Tests with running threads: a hub between collectors, workers and readers, and a pool of workers.
 //!
-//! Stands on `worker_pool`, `sample_nets`. Nothing else changes with it.
+//! Stands on `beside`, `sample_nets`. Nothing else changes with it.
 #![tactic(auto)]
 
 #[cfg(test)]
@@ -15,3 +15,5 @@ mod hub_tests;
 mod pool_tests;
 #[cfg(test)]
 mod samples;
+#[cfg(test)]
+mod script_tests;

@@ -3,7 +3,7 @@
 ghost use Rattle.std.specs.Prelude.{◌≡◌};
 
 use crate::gates::{Holding, Refusing};
-use crate::samples::{ended, fail, posted, two_plans_desk, wait_for, worked_desk};
+use crate::samples::{desk_over, ended, fail, posted, two_plans, wait_for, worked_desk};
 use sample_nets::code;
 use std::alloc::Global;
 use std::marker::Brand;
@@ -47,7 +47,7 @@ fn held<N: Naming + Send + Sync, R: Threads + Wait + Abort + Sync>(
 
 #[test]
 fn two_workers_work_at_once(rt: HostRuntime) {
-    let desk = two_plans_desk(&rt, rt.alloc());
+    let desk = desk_over(&rt, rt.alloc(), two_plans(&rt, rt.alloc()));
     let unnamed = Unnamed::new(desk).expect(&rt, "memory");
     held::<Brand, _>(&rt, rt.alloc(), unnamed);
 }

@@ -41,11 +41,11 @@ fn plan_of_third(rt: &impl Abort, alloc: Global) -> Event {
     event.expect(rt, "an event")
 }
 
-/// A desk over the worked network with a plan of 2-1-3 too.
-pub(crate) fn two_plans_desk(rt: &impl Abort, alloc: Global) -> Desk {
+/// The worked network with a plan of 2-1-3 too.
+pub(crate) fn two_plans(rt: &impl Abort, alloc: Global) -> Net {
     let mut net = worked(alloc).expect(rt, "a network");
     let _ = net.apply(alloc, &plan_of_third(rt, alloc));
-    desk_over(rt, alloc, net)
+    net
 }
 
 /// A hub for its lock, to which collector 0 has posted an event.

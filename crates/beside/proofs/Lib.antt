@@ -1,0 +1,4 @@
+pub mod BesideLemmas
+pub mod RightLemmas
+pub mod SyncedLemmas
+pub mod ToldLemmas

@@ -1,0 +1,565 @@
+-- At each line of a script beside workers all versions are the ones of their numbers.
+use Rattle.std.proofs.Common.{◌≡◌, ℕ, ◌+◌, ◌-◌, ◌≤◌, Bool, true, false, List, [], ◌∷◌, ◌++◌, Option, Some, None, Result, Ok, Err, inl, inr, map, refl, sym, ap, ◌∙◌, subst, length, take, drop, arith, length-append, append-nil, append_assoc}
+use Rattle.std.specs.Prelude.{◌⊎◌, if◌then◌else◌}
+use Rattle.std.specs.Option.{MatchOption, option_map_or}
+use Rattle.std.proofs.lemmas.List.{take-append-le}
+use mathlib.Core.List.{IsPrefix}
+use Rattle.net_data.specs.declared.events.Event.{Event}
+use Rattle.net_data.specs.Edits.{replay}
+use Rattle.net_data.specs.Network.{Network}
+use Rattle.net_versions.specs.Versions.{VersionValue, settled_tables, settled_version}
+use Rattle.path_trace.specs.Traces.{trace_at}
+use Rattle.tokens.specs.Words.{words_of}
+use Rattle.script_words.specs.Commands.{command_of}
+use Rattle.script_words.specs.declared.commands.Command.{Command}
+use Rattle.script_words.specs.declared.commands.Command.TheVariants as command
+use Rattle.work_units.specs.declared.replies.Posted.{Posted}
+use Rattle.work_units.specs.declared.replies.Posted.TheVariants.{Taken}
+use Rattle.work_units.specs.declared.replies.Refusal.{Refusal}
+use Rattle.desk_core.specs.declared.posts.Last.{Last}
+use Rattle.desk_core.specs.declared.steps.Step.{Step}
+use Rattle.desk_core.specs.declared.steps.Step.TheVariants as step
+use Rattle.desk_core.specs.declared.steps.Reply.{Reply}
+use Rattle.desk_core.specs.declared.steps.Reply.TheVariants as reply
+use Rattle.desk_core.specs.Desk.{DeskValue, OpenTarget, accepted, net_now, new_desk}
+use Rattle.desk_core.specs.Steps.{IsNext, IsPost, IsReply, Posts, Publishes, is_last, last_of, post_refusal, publish_refusal, repeated, with_post, with_version}
+use Rattle.desk_core.specs.Runs.{IsRightVersion, IsRunOf, IsSteadyDesk, Numbers, Runs, Steps, accepted_by, accepted_in, event_taken, events_up_to, first_numbers, numbers_after, numbers_by}
+use Rattle.desk_core.proofs.ReplayLemmas.{replay-append, replay-push}
+use Rattle.desk_core.proofs.RunLemmas.{right_after, run_none, run_one, run_then, runs-push}
+use Rattle.answers.specs.Replies.{posted_text}
+use Rattle.desk_console.specs.Commands.{Obeys}
+use Rattle.desk_console.specs.Console.{ConsoleValue}
+use Rattle.desk_console.specs.Does.{Calls, PostsAfter}
+use Rattle.desk_console.specs.Right.{IsRightDesk}
+use Rattle.desk_console.specs.Taken.{event_of, says_taken, taken_by}
+use Rattle.desk_console.proofs.RunLemmas.{line_runs}
+use Rattle.sessions.specs.Lines.{is_silent, is_too_long, trimmed}
+use Rattle.sessions.specs.Replies.{Answered, IsReply as IsAnswer, Replies}
+use Rattle.versions.specs.Chains.{ChainPrefixValue, EndsWith, IsChain}
+use Rattle.versions.specs.Hubs.{IsHub, with_next}
+use Rattle.versions.specs.Worked.{LosesNothing}
+use Rattle.versions.specs.Working.{AreWorks, IsOfWorker, IsWorkedOn, Works, shown_after}
+use Rattle.versions.specs.declared.state.DeskAndChain.{DeskAndChain}
+use Rattle.versions.proofs.ChainLemmas.{goes_on}
+use Rattle.versions.proofs.KeptLemmas.{abandoned, gave, next_follows, opened, took}
+use Rattle.versions.proofs.WorkedLemmas.{worked_keeps}
+use Rattle.beside.specs.Beside.{BesideValue, CommandsBeside, DoesAt, Finds, Leaves, Looks, ObeysBeside, Opens, at_console}
+use Rattle.beside.specs.Right.{AreRight, AreRightMoments, IsRightAt, IsRightBeside, IsRightScript, Moment, texts}
+
+-- ---- versions after more events
+
+-- the version of a number stays it
+right_grown : (start : DeskValue) (es more : List Event) (numbers : Numbers) (v : VersionValue) → numbers.now ≤ start.published.number + length (start.pending ++ es) → IsRightVersion start es numbers v
+    → IsRightVersion start (es ++ more) numbers v
+right_grown start es more numbers v within h = record {
+  number = h.number;
+  batch = h.batch ∙ batch numbers.before;
+  network = h.network ∙ ap (replay start.published.network) same;
+  tables = h.tables ∙ ap (λ (l : List Event). settled_tables (replay start.published.network l)) same;
+  traces = λ y x k. h.traces y x k ∙ ap (λ (l : List Event). trace_at (replay start.published.network l) y x k) same;
+}
+  where
+    same : events_up_to start es numbers.now ≡ events_up_to start (es ++ more) numbers.now
+    same =
+        sym (take-append-le (numbers.now - start.published.number) (start.pending ++ es) more (omega arith))
+        ∙ ap (take (numbers.now - start.published.number)) (append_assoc start.pending es more)
+
+    batch : (before : Option ℕ) → option_map_or (λ low. drop (low - start.published.number) (events_up_to start es numbers.now)) before start.published.batch
+        ≡ option_map_or (λ low. drop (low - start.published.number) (events_up_to start (es ++ more) numbers.now)) before start.published.batch
+    batch None = refl
+    batch (Some low) = ap (drop (low - start.published.number)) same
+
+at_grown : (start : DeskValue) (es more : List Event) (before : Option ℕ) (v : VersionValue) → IsRightAt start es before v → IsRightAt start (es ++ more) before v
+at_grown start es more before v h =
+    let within = h.within in
+    let longer : length (start.pending ++ (es ++ more)) ≡ length (start.pending ++ es) + length more =
+    ap (length {A = Event}) (sym (append_assoc start.pending es more)) ∙ length-append (start.pending ++ es) more in
+    record { right = right_grown start es more (record { now = v.number; before = before }) v within h.right; within = omega arith }
+
+are_grown : (start : DeskValue) (es more : List Event) (before : Option ℕ) (chain : List VersionValue) → AreRight start es before chain → AreRight start (es ++ more) before chain
+are_grown start es more before [] are = tt
+are_grown start es more before (v ∷ later) are = (at_grown start es more before v are.0, are_grown start es more (Some v.number) later are.1)
+
+-- ---- parts of a chain
+
+module _ (start : DeskValue) (es : List Event) where
+  front_right : (before : Option ℕ) (xs ys : List VersionValue) → AreRight start es before (xs ++ ys) → AreRight start es before xs
+  front_right before [] ys are = tt
+  front_right before (v ∷ xs) ys are = (are.0, front_right (Some v.number) xs ys are.1)
+
+  -- the versions of a beginning
+  prefix_right : (before : Option ℕ) (xs ys : List VersionValue) → IsPrefix xs ys → AreRight start es before ys → AreRight start es before xs
+  prefix_right before xs ys front are = front_right before xs front.0 (subst (AreRight start es before) (sym front.1) are)
+
+  -- one version more
+  pushed_right : (before : Option ℕ) (older : List VersionValue) (last next : VersionValue) → AreRight start es before (older ++ last ∷ []) → IsRightAt start es (Some last.number) next
+      → AreRight start es before ((older ++ last ∷ []) ++ next ∷ [])
+  pushed_right before [] last next are at = (are.0, (at, tt))
+  pushed_right before (v ∷ older) last next are at = (are.0, pushed_right (Some v.number) older last next are.1 at)
+
+  -- the last version
+  pub last_right : (before : Option ℕ) (older : List VersionValue) (last : VersionValue) → AreRight start es before (older ++ last ∷ []) → (b : Option ℕ) × IsRightAt start es b last
+  last_right before [] last are = (before, are.0)
+  last_right before (v ∷ older) last are = last_right (Some v.number) older last are.1
+
+-- ---- what a desk has accepted after some steps
+
+-- the desk is steady, and its accepted events are those before and these
+pub record Counts (old : DeskValue) (es : List Event) (new : DeskValue) : Type 0 where
+  pub steady : IsSteadyDesk new
+  pub count : accepted new ≡ accepted old + length es
+  pub net : net_now new ≡ replay (net_now old) es
+
+unchanged : (s t : DeskValue) → IsSteadyDesk s → t ≡ s → Counts s [] t
+unchanged s t steady same = subst (Counts s []) (sym same) (record { steady = steady; count = omega arith; net = refl })
+
+-- one event more
+grown : (s : DeskValue) (collector seq : ℕ) (event : Event) → IsSteadyDesk s → Counts s (event ∷ []) (with_post s collector seq event)
+grown s collector seq event steady =
+    let longer : length (s.pending ++ event ∷ []) ≡ length s.pending + 1 = length-append s.pending (event ∷ []) in
+    record {
+      steady = record { ahead = ahead s.target steady.ahead; version = steady.version };
+      count = omega arith;
+      net = replay-push s.published.network s.pending event;
+    }
+  where
+    ahead : (o : Option OpenTarget) → MatchOption o (Unit {0}) (λ t. (s.published.number ≤ t.number) × (t.number ≤ accepted s))
+        → MatchOption o (Unit {0}) (λ t. (s.published.number ≤ t.number) × (t.number ≤ s.published.number + length (s.pending ++ event ∷ [])))
+    ahead None is = tt
+    ahead (Some target) is =
+        let longer : length (s.pending ++ event ∷ []) ≡ length s.pending + 1 = length-append s.pending (event ∷ []) in
+        let within = is.1 in (is.0, omega arith)
+
+-- a post leaves all as it was, or its event is accepted
+abbrev pub IsPosted : DeskValue → ℕ → ℕ → Event → Result Posted Refusal → DeskValue → Type 0
+IsPosted s collector seq event result t =
+    ((event_taken event (reply.Post result) ≡ []) × (t ≡ s)) ⊎ ((event_taken event (reply.Post result) ≡ event ∷ []) × (t ≡ with_post s collector seq event))
+
+pub post_is : (s : DeskValue) (collector seq : ℕ) (event : Event) (result : Result Posted Refusal) (t : DeskValue) → Posts s collector seq event result t → IsPosted s collector seq event result t
+post_is s collector seq event result t = go (is_last s collector seq)
+  where
+    fresh : (o : Option Refusal) (result : Result Posted Refusal) → IsReply o (λ answer after. (answer ≡ Taken (accepted s + 1)) × (after ≡ with_post s collector seq event)) s result t
+        → IsPosted s collector seq event result t
+    fresh (Some refusal) result is = inl (ap (λ (r : Result Posted Refusal). event_taken event (reply.Post r)) is.0, is.1)
+    fresh None (Ok p) is = inr (ap (λ (q : Posted). event_taken event (reply.Post (Ok q))) is.0, is.1)
+    fresh None (Err e) is = inl (refl, is.1)
+
+    again : (last : Last) (same : Bool) → result ≡ repeated last same → event_taken event (reply.Post result) ≡ []
+    again last true is = ap (λ (r : Result Posted Refusal). event_taken event (reply.Post r)) is
+    again last false is = ap (λ (r : Result Posted Refusal). event_taken event (reply.Post r)) is
+
+    go : (b : Bool) → IsPost b s collector seq event result t → IsPosted s collector seq event result t
+    go true is = inl (again (last_of s collector) is.0 is.2, is.3)
+    go false is = fresh (post_refusal s collector seq event) result is
+
+-- a post leaves the published version
+post_publishes_none : (s : DeskValue) (collector seq : ℕ) (event : Event) (result : Result Posted Refusal) (t : DeskValue) → Posts s collector seq event result t → t.published ≡ s.published
+post_publishes_none s collector seq event result t is = go (post_is s collector seq event result t is)
+  where
+    go : IsPosted s collector seq event result t → t.published ≡ s.published
+    go (inl same) = ap (λ (x : DeskValue). x.published) same.1
+    go (inr put) = ap (λ (x : DeskValue). x.published) put.1
+
+post_counts : (s : DeskValue) (collector seq : ℕ) (event : Event) (result : Result Posted Refusal) (t : DeskValue) → IsSteadyDesk s → Posts s collector seq event result t
+    → Counts s (event_taken event (reply.Post result)) t
+post_counts s collector seq event result t steady is = go (post_is s collector seq event result t is)
+  where
+    go : IsPosted s collector seq event result t → Counts s (event_taken event (reply.Post result)) t
+    go (inl same) = subst (λ (es : List Event). Counts s es t) (sym same.0) (unchanged s t steady same.1)
+    go (inr put) = subst (λ (es : List Event). Counts s es t) (sym put.0) (subst (Counts s (event ∷ [])) (sym put.1) (grown s collector seq event steady))
+
+-- a desk beside a chain
+abbrev beside_chain : DeskValue → ChainPrefixValue → DeskAndChain
+beside_chain s shown = record { desk = s; shown = shown }
+
+-- a chain of no version
+abbrev no_chain : ChainPrefixValue
+no_chain = record { book = record { number = 0; log_name = 0; cells_name = 0 }; chain = [] }
+
+-- a step of a worker accepts nothing
+work_counts : (s t : DeskValue) (one : Step) (answer : Reply) → IsSteadyDesk s → IsOfWorker one → Steps s one answer t → Counts s [] t
+work_counts s t one answer steady of is =
+    let old : DeskAndChain = beside_chain s no_chain in
+    let new : DeskAndChain = beside_chain t (shown_after answer t.published no_chain) in
+    let works : Works old one answer new = record { of_worker = of; made = is; shown = refl } in
+    let h : LosesNothing s t = (worked_keeps old new steady (one ∷ [], answer ∷ [], (new, works, refl))).desk in
+    let same = h.accepted in record { steady = h.steady; count = omega arith; net = h.net }
+
+step_counts : (s t : DeskValue) (one : Step) (answer : Reply) → IsSteadyDesk s → Steps s one answer t → Counts s (accepted_by one answer) t
+step_counts s t (step.Post collector seq event) answer steady is =
+    subst (λ (a : Reply). Counts s (event_taken event a) t) (sym is.1) (post_counts s collector seq event is.0 t steady is.2)
+step_counts s t step.Open answer steady is = work_counts s t step.Open answer steady tt is
+step_counts s t step.Take answer steady is = work_counts s t step.Take answer steady tt is
+step_counts s t (step.Give work) answer steady is = work_counts s t (step.Give work) answer steady tt is
+step_counts s t (step.Abandon version dest) answer steady is = work_counts s t (step.Abandon version dest) answer steady tt is
+step_counts s t step.Publish answer steady is = work_counts s t step.Publish answer steady tt is
+
+-- one after the other
+counts_then : (a b c : DeskValue) (es fs : List Event) → Counts a es b → Counts b fs c → Counts a (es ++ fs) c
+counts_then a b c es fs one two =
+    let first = one.count in
+    let second = two.count in
+    let longer : length (es ++ fs) ≡ length es + length fs = length-append es fs in
+    record { steady = two.steady; count = omega arith; net = two.net ∙ ap (λ (net : Network). replay net fs) one.net ∙ sym (replay-append (net_now a) es fs) }
+
+runs_count : (s t : DeskValue) (steps : List Step) (replies : List Reply) → IsSteadyDesk s → Runs s steps replies t → Counts s (accepted_in steps replies) t
+runs_count s t [] [] steady run = unchanged s t steady run
+runs_count s t [] (r ∷ rs) steady run = absurd run
+runs_count s t (x ∷ xs) [] steady run = absurd run
+runs_count s t (x ∷ xs) (r ∷ rs) steady run =
+    let one : Counts s (accepted_by x r) run.0 = step_counts s run.0 x r steady run.1 in
+    counts_then s run.0 t (accepted_by x r) (accepted_in xs rs) one (runs_count run.0 t xs rs one.steady run.2)
+
+pub run_counts : (s t : DeskValue) (es : List Event) → IsSteadyDesk s → IsRunOf s es t → Counts s es t
+run_counts s t es steady run = subst (λ (l : List Event). Counts s l t) run.accepts (runs_count s t run.steps run.replies steady run.runs)
+
+-- ---- a publication
+
+numbers_push : (numbers : Numbers) (replies : List Reply) (answer : Reply) → numbers_after numbers (replies ++ answer ∷ []) ≡ numbers_by (numbers_after numbers replies) answer
+numbers_push numbers [] answer = refl
+numbers_push numbers (r ∷ replies) answer = numbers_push (numbers_by numbers r) replies answer
+
+accepted_push : (old mid : DeskValue) (steps : List Step) (replies : List Reply) (one : Step) (answer : Reply) → Runs old steps replies mid
+    → accepted_in (steps ++ one ∷ []) (replies ++ answer ∷ []) ≡ accepted_in steps replies ++ accepted_by one answer
+accepted_push old mid [] [] one answer run = append-nil (accepted_by one answer)
+accepted_push old mid (s ∷ steps) (r ∷ replies) one answer run =
+    ap (λ (es : List Event). accepted_by s r ++ es) (accepted_push run.0 mid steps replies one answer run.2) ∙ sym (append_assoc (accepted_by s r) (accepted_in steps replies) (accepted_by one answer))
+accepted_push old mid [] (r ∷ replies) one answer run = absurd run
+accepted_push old mid (s ∷ steps) [] one answer run = absurd run
+
+-- a number after another
+abbrev numbers_of : ℕ → ℕ → Numbers
+numbers_of now before = record { now = now; before = Some before }
+
+module _ (start : DeskValue) (steady : IsSteadyDesk start) (es : List Event) (old new : DeskValue) (came : IsRunOf start es old) where
+  -- the published version of a run is the one of its number, after the version before
+  published_right : (number : ℕ) → Steps old step.Publish (reply.Publish (Ok number)) new → IsRightVersion start es (numbers_of new.published.number old.published.number) new.published
+  published_right number is =
+      let steps : List Step = came.steps ++ step.Publish ∷ [] in
+      let replies : List Reply = came.replies ++ reply.Publish (Ok number) ∷ [] in
+      let before : Numbers = numbers_after (first_numbers start) came.replies in
+      let run : Runs start steps replies new = runs-push start old new came.steps came.replies step.Publish (reply.Publish (Ok number)) came.runs is in
+      let right : IsRightVersion start (accepted_in steps replies) (numbers_after (first_numbers start) replies) new.published = right_after start steady steps replies new run in
+      let events : accepted_in steps replies ≡ es =
+      accepted_push start old came.steps came.replies step.Publish (reply.Publish (Ok number)) came.runs ∙ append-nil (accepted_in came.steps came.replies) ∙ came.accepts in
+      let pushed : numbers_after (first_numbers start) replies ≡ numbers_of number before.now = numbers_push (first_numbers start) came.replies (reply.Publish (Ok number)) in
+      let now : number ≡ new.published.number = sym (right.number ∙ ap (λ (n : Numbers). n.now) pushed) in
+      let low : before.now ≡ old.published.number = sym (right_after start steady came.steps came.replies old came.runs).number in
+      let numbers : numbers_after (first_numbers start) replies ≡ numbers_of new.published.number old.published.number =
+      pushed ∙ ap (λ (n : ℕ). numbers_of n before.now) now ∙ ap (numbers_of new.published.number) low in
+      subst (λ (n : Numbers). IsRightVersion start es n new.published) numbers
+      (subst (λ (l : List Event). IsRightVersion start l (numbers_after (first_numbers start) replies) new.published) events right)
+
+-- ---- a desk and its chain
+
+-- some steps led from a start to this desk and accepted these events, and the chain of its published versions, each the one of its number, ends with the last
+pub record Keeps (start : DeskValue) (es : List Event) (s : DeskAndChain) : Type 0 where
+  pub came : IsRunOf start es s.desk
+  pub are : AreRight start es None s.shown.chain
+  pub is_chain : IsChain s.shown.chain
+  pub ends : EndsWith s.shown.chain s.desk.published
+
+-- the chain of a reply
+shown_by : (s t : DeskAndChain) (answer known : Reply) → t.shown ≡ shown_after answer t.desk.published s.shown → answer ≡ known → t.shown ≡ shown_after known t.desk.published s.shown
+shown_by s t answer known shown is = shown ∙ ap (λ (a : Reply). shown_after a t.desk.published s.shown) is
+
+-- the chain ends as it did
+ends_same : (s t : DeskAndChain) → EndsWith s.shown.chain s.desk.published → t.shown ≡ s.shown → t.desk.published ≡ s.desk.published → EndsWith t.shown.chain t.desk.published
+ends_same s t ends shown published =
+    subst (λ (x : ChainPrefixValue). EndsWith x.chain t.desk.published) (sym shown) (subst (EndsWith s.shown.chain) (sym published) ends)
+
+module _ (start : DeskValue) (steady : IsSteadyDesk start) (es : List Event) where
+  -- the desk goes on, and nothing is published
+  keeps_stay : (more : List Event) (s t : DeskAndChain) → Keeps start es s → IsRunOf s.desk more t.desk → t.shown ≡ s.shown → EndsWith t.shown.chain t.desk.published → Keeps start (es ++ more) t
+  keeps_stay more s t h run shown ends = record {
+    came = run_then start s.desk t.desk es more h.came run;
+    are = subst (λ (x : ChainPrefixValue). AreRight start (es ++ more) None x.chain) (sym shown) (are_grown start es more None s.shown.chain h.are);
+    is_chain = subst (λ (x : ChainPrefixValue). IsChain x.chain) (sym shown) h.is_chain;
+    ends = ends;
+  }
+
+  -- a step that accepts nothing
+  still : (s t : DeskAndChain) (one : Step) (answer : Reply) → Keeps start es s → Steps s.desk one answer t.desk → accepted_by one answer ≡ [] → t.shown ≡ s.shown → EndsWith t.shown.chain t.desk.published → Keeps start es t
+  still s t one answer h made none shown ends =
+      let run : IsRunOf s.desk [] t.desk = subst (λ (l : List Event). IsRunOf s.desk l t.desk) none (run_one s.desk t.desk one answer made) in
+      subst (λ (l : List Event). Keeps start l t) (append-nil es) (keeps_stay [] s t h run shown ends)
+
+  -- such a desk and chain are a hub's
+  keeps_hub : (s : DeskAndChain) → Keeps start es s → IsHub s.shown.book s None
+  keeps_hub s h = record { own = refl; is_chain = h.is_chain; ends = h.ends; is_ahead = tt }
+
+  -- the version of the target is published
+  adds : (s t : DeskAndChain) (number : ℕ) (version : VersionValue) → Keeps start es s → Steps s.desk step.Publish (reply.Publish (Ok number)) t.desk → IsNext s.desk version → t.desk ≡ with_version s.desk version
+      → t.shown ≡ with_next s.shown t.desk.published → Keeps start es t
+  adds s t number version h made next is shown =
+      let came : IsRunOf start es t.desk =
+      subst (λ (l : List Event). IsRunOf start l t.desk) (append-nil es) (run_then start s.desk t.desk es [] h.came (run_one s.desk t.desk step.Publish (reply.Publish (Ok number)) made)) in
+      let published : t.desk.published ≡ version = ap (λ (x : DeskValue). x.published) is in
+      let before : Counts start es s.desk = run_counts start s.desk es steady h.came in
+      let after : Counts start es t.desk = run_counts start t.desk es steady came in
+      let count = after.count in
+      let longer : length (start.pending ++ es) ≡ length start.pending + length es = length-append start.pending es in
+      let chain : t.shown.chain ≡ s.shown.chain ++ t.desk.published ∷ [] = ap (λ (x : ChainPrefixValue). x.chain) shown in
+      let split : s.shown.chain ≡ h.ends.0 ++ s.desk.published ∷ [] = h.ends.1 in
+      let at : IsRightAt start es (Some s.desk.published.number) t.desk.published =
+      record { right = published_right start steady es s.desk t.desk h.came number made; within = omega arith } in
+      let are : AreRight start es None ((h.ends.0 ++ s.desk.published ∷ []) ++ t.desk.published ∷ []) =
+      pushed_right start es None h.ends.0 s.desk.published t.desk.published (subst (AreRight start es None) split h.are) at in
+      record {
+        came = came;
+        are = subst (AreRight start es None) (sym (chain ∙ ap (λ (c : List VersionValue). c ++ t.desk.published ∷ []) split)) are;
+        is_chain = subst IsChain (sym (chain ∙ ap (λ (v : VersionValue). s.shown.chain ++ v ∷ []) published))
+            (goes_on s.shown.chain h.ends.0 s.desk.published version h.is_chain split (next_follows s.desk version before.steady next));
+        ends = (s.shown.chain, chain);
+      }
+
+  -- a publication
+  publishes : (s t : DeskAndChain) (result : Result ℕ Refusal) → Keeps start es s → Publishes s.desk result t.desk → t.shown ≡ shown_after (reply.Publish result) t.desk.published s.shown → Keeps start es t
+  publishes s t result h is = go (publish_refusal s.desk) result is is
+    where
+      Changes : ℕ → DeskValue → Type 0
+      Changes number after = (version : VersionValue) × IsNext s.desk version × (number ≡ version.number) × (after ≡ with_version s.desk version)
+
+      refused : (e : Refusal) → t.desk ≡ s.desk → Publishes s.desk (Err e) t.desk → t.shown ≡ s.shown → Keeps start es t
+      refused e same made shown = still s t step.Publish (reply.Publish (Err e)) h (Err e, refl, made) refl shown (ends_same s t h.ends shown (ap (λ (x : DeskValue). x.published) same))
+
+      go : (o : Option Refusal) (result : Result ℕ Refusal) → IsReply o Changes s.desk result t.desk → Publishes s.desk result t.desk → t.shown ≡ shown_after (reply.Publish result) t.desk.published s.shown → Keeps start es t
+      go (Some refusal) (Ok number) is made shown = absurd (cc (is.0))
+      go (Some refusal) (Err e) is made shown = refused e is.1 made shown
+      go None (Ok number) is made shown = adds s t number is.0 h (Ok number, refl, made) is.1 is.3 shown
+      go None (Err e) is made shown = refused e is.1 made shown
+
+  -- a step of a worker
+  keeps_step : (s t : DeskAndChain) (one : Step) (answer : Reply) → Keeps start es s → Works s one answer t → Keeps start es t
+  keeps_step s t one answer h is = go one is.of_worker is.made
+    where
+      go : (one : Step) → IsOfWorker one → Steps s.desk one answer t.desk → Keeps start es t
+      go (step.Post collector seq event) of made = absurd of
+      go step.Open of made =
+          let shown : t.shown ≡ s.shown = shown_by s t answer (reply.Open made.0) is.shown made.1 in
+          still s t step.Open answer h made refl shown (opened s.shown.book s t None (keeps_hub s h) made.0 shown made.2).ends
+      go step.Take of made =
+          let shown : t.shown ≡ s.shown = shown_by s t answer (reply.Take made.0) is.shown made.1 in
+          still s t step.Take answer h made refl shown (took s.shown.book s t None (keeps_hub s h) made.0 shown made.2).ends
+      go (step.Give work) of made =
+          let shown : t.shown ≡ s.shown = shown_by s t answer (reply.Give made.0) is.shown made.1 in
+          still s t (step.Give work) answer h made refl shown (gave s.shown.book s t None (keeps_hub s h) work made.0 shown made.2).ends
+      go (step.Abandon version dest) of made =
+          let shown : t.shown ≡ s.shown = shown_by s t answer (reply.Abandon made.0) is.shown made.1 in
+          still s t (step.Abandon version dest) answer h made refl shown (abandoned s.shown.book s t None (keeps_hub s h) version dest made.0 shown made.2).ends
+      go step.Publish of made = publishes s t made.0 h made.2 (shown_by s t answer (reply.Publish made.0) is.shown made.1)
+
+  keeps_steps : (steps : List Step) (replies : List Reply) (s t : DeskAndChain) → Keeps start es s → AreWorks s steps replies t → Keeps start es t
+  keeps_steps [] [] s t h are = subst (Keeps start es) (sym are) h
+  keeps_steps [] (r ∷ rs) s t h are = absurd are
+  keeps_steps (x ∷ xs) [] s t h are = absurd are
+  keeps_steps (x ∷ xs) (r ∷ rs) s t h are = keeps_steps xs rs are.0 t (keeps_step s are.0 x r h are.1) are.2
+
+  pub keeps_worked : (s t : DeskAndChain) → Keeps start es s → IsWorkedOn s t → Keeps start es t
+  keeps_worked s t h worked = keeps_steps worked.0 worked.1 s t h worked.2
+
+-- ---- a line
+
+-- the script's thread comes to the hub, publishes nothing there, and its desk accepts these events
+pub record Acts (old : BesideValue) (taken : List Event) (found : DeskAndChain) (new : BesideValue) : Type 0 where
+  pub finds : Finds old found
+  pub shown : new.left.shown ≡ found.shown
+  pub told : new.seen ≡ found.shown.chain
+  pub published : new.left.desk.published ≡ found.desk.published
+  pub runs : IsRunOf found.desk taken new.left.desk
+
+-- what a line does, by the events that it is taken for
+pub data Moves (old : BesideValue) (taken : List Event) (new : BesideValue) : Type 0 where
+  stays : taken ≡ [] → new ≡ old → Moves old taken new
+  acts : (found : DeskAndChain) → Acts old taken found new → Moves old taken new
+  looks : (version : VersionValue) → taken ≡ [] → Looks old version new → Moves old taken new
+
+-- posts publish nothing
+calls_publish_none : (s t : DeskValue) (collector seq : ℕ) (event : Event) (text : List ℕ) → Calls (λ s. Posts s collector seq event) posted_text (at_console s) text (at_console t) → t.published ≡ s.published
+calls_publish_none s t collector seq event text is = post_publishes_none s collector seq event is.0 t is.1
+
+posts_publish_none : (s t : DeskValue) (event : Event) (text : List ℕ) (b : Bool) → PostsAfter b event (at_console s) text (at_console t) → t.published ≡ s.published
+posts_publish_none s t event text true is = ap (λ (c : ConsoleValue). c.desk.published) is.1
+posts_publish_none s t event text false is = calls_publish_none s t 0 ((last_of s 0).seq + 1) event text is
+
+abbrev no_events : List Event
+no_events = []
+
+nothing_taken : (b : Bool) → (if b then no_events else no_events) ≡ no_events
+nothing_taken true = refl
+nothing_taken false = refl
+
+module _ (line : List ℕ) (old : BesideValue) (text : List ℕ) (new : BesideValue) where
+  -- a command that posts nothing is taken for no event
+  none_taken : (o : Option Command) → command_of (words_of line) ≡ o → option_map_or event_of o [] ≡ [] → taken_by line text ≡ []
+  none_taken o is none =
+      ap (λ (c : Option Command). if says_taken text then option_map_or event_of c [] else []) is
+      ∙ ap (λ (es : List Event). if says_taken text then es else []) none ∙ nothing_taken (says_taken text)
+
+  -- a command that is done under the lock
+  done_there : (o : Option Command) → command_of (words_of line) ≡ o → (found : DeskAndChain) → DoesAt (Obeys o) old found text new → new.left.desk.published ≡ found.desk.published → Moves old (taken_by line text) new
+  done_there o is found does published = acts found (record {
+    finds = does.finds;
+    shown = does.shown;
+    told = does.told;
+    published = published;
+    runs = line_runs line (at_console found.desk) text (at_console new.left.desk) (subst (λ (c : Option Command). Obeys c (at_console found.desk) text (at_console new.left.desk)) (sym is) does.done);
+  })
+
+  obeyed : (o : Option Command) → command_of (words_of line) ≡ o → ObeysBeside o old text new → Moves old (taken_by line text) new
+  obeyed None e is = stays (none_taken None e refl) is.1
+  obeyed (Some (command.Event event)) e is = done_there (Some (command.Event event)) e is.0 is.1 (posts_publish_none is.0.desk new.left.desk event text _ is.1.done)
+  obeyed (Some (command.Post collector seq event)) e is = done_there (Some (command.Post collector seq event)) e is.0 is.1 (calls_publish_none is.0.desk new.left.desk collector seq event text is.1.done)
+  obeyed (Some command.Open) e is = stays (none_taken (Some command.Open) e refl) is.1
+  obeyed (Some (command.Take k)) e is = stays (none_taken (Some (command.Take k)) e refl) is.1
+  obeyed (Some (command.Give k)) e is = stays (none_taken (Some (command.Give k)) e refl) is.1
+  obeyed (Some (command.Abandon k)) e is = stays (none_taken (Some (command.Abandon k)) e refl) is.1
+  obeyed (Some command.Publish) e is = stays (none_taken (Some command.Publish) e refl) is.1
+  obeyed (Some command.Sync) e is = looks is.0 (none_taken (Some command.Sync) e refl) is.1
+  obeyed (Some command.Version) e is = done_there (Some command.Version) e is.0 is.1 (ap (λ (c : ConsoleValue). c.desk.published) is.1.done.1)
+  obeyed (Some (command.About asked y x)) e is = looks is.0 (none_taken (Some (command.About asked y x)) e refl) is.1
+  obeyed (Some (command.Trace y x s)) e is = looks is.0 (none_taken (Some (command.Trace y x s)) e refl) is.1
+  obeyed (Some (command.WhatIf events)) e is = looks is.0 (none_taken (Some (command.WhatIf events)) e refl) is.1
+  obeyed (Some command.Audit) e is = looks is.0 (none_taken (Some command.Audit) e refl) is.1
+
+-- a line feed more doesn't matter
+says_ended : (answer : List ℕ) → says_taken answer ≡ says_taken (answer ++ 10 ∷ [])
+says_ended [] = refl
+says_ended (a ∷ []) = refl
+says_ended (a ∷ b ∷ []) = refl
+says_ended (a ∷ b ∷ c ∷ []) = refl
+says_ended (a ∷ b ∷ c ∷ d ∷ []) = refl
+says_ended (a ∷ b ∷ c ∷ d ∷ e ∷ []) = refl
+says_ended (a ∷ b ∷ c ∷ d ∷ e ∷ f ∷ rest) = refl
+
+taken_ended : (line answer : List ℕ) → taken_by line answer ≡ taken_by line (answer ++ 10 ∷ [])
+taken_ended line answer = ap (λ (b : Bool). if b then option_map_or event_of (command_of (words_of line)) [] else []) (says_ended answer)
+
+pub line_moves : (line : List ℕ) (old : BesideValue) (text : List ℕ) (new : BesideValue) → Replies CommandsBeside line old text new → Moves old (taken_by (trimmed line) text) new
+line_moves line old text new = go (is_too_long (trimmed line)) (is_silent (trimmed line))
+  where
+    go : (long quiet : Bool) → IsAnswer CommandsBeside long quiet (trimmed line) old text new → Moves old (taken_by (trimmed line) text) new
+    go true quiet is = stays (ap (taken_by (trimmed line)) is.0) is.1
+    go false true is = stays (ap (taken_by (trimmed line)) is.0) is.1
+    go false false is =
+        subst (λ (es : List Event). Moves old es new) (taken_ended (trimmed line) is.0 ∙ ap (taken_by (trimmed line)) (sym is.2))
+        (obeyed (trimmed line) old is.0 new (command_of (words_of (trimmed line))) refl is.1)
+
+-- ---- what is found later
+
+-- what begins a beginning
+prefix_then : (xs ys zs : List VersionValue) → IsPrefix xs ys → IsPrefix ys zs → IsPrefix xs zs
+prefix_then xs ys zs p q = (p.0 ++ q.0, sym (append_assoc xs p.0 q.0) ∙ (ap (λ (l : List VersionValue). l ++ q.0) p.1 ∙ q.1))
+
+-- the script's thread comes to the hub once more
+abbrev pub Later : BesideValue → Type 0
+Later b = (found : DeskAndChain) × Finds b found
+
+-- before a line too
+later_before : (old : BesideValue) (taken : List Event) (new : BesideValue) → Moves old taken new → Later new → Later old
+later_before old taken new (stays none same) later = subst Later same later
+later_before old taken new (acts found is) later = (found, is.finds)
+later_before old taken new (looks version none is) later = (
+  later.0,
+  record {
+    worked = subst (λ (s : DeskAndChain). IsWorkedOn s later.0) is.left later.1.worked;
+    seen = prefix_then old.seen new.seen later.0.shown.chain is.seen later.1.seen;
+  },
+)
+
+-- before all lines that are still answered
+pub finds_later : (old : BesideValue) (lines : List (List ℕ)) (text : List ℕ) (new : BesideValue) → Answered CommandsBeside old lines text new → Later new → Later old
+finds_later old [] text new is later = subst Later is.1 later
+finds_later old (line ∷ lines) text new is later =
+    later_before old (taken_by (trimmed line) is.0) is.1 (line_moves line old is.0 is.1 is.3) (finds_later is.1 lines is.2 new is.4 later)
+
+-- ---- all lines
+
+module _ (start : DeskValue) (steady : IsSteadyDesk start) (es : List Event) where
+  -- no event more
+  keeps_no_more : (taken : List Event) (s : DeskAndChain) → taken ≡ [] → Keeps start es s → Keeps start (es ++ taken) s
+  keeps_no_more taken s none h = subst (λ (l : List Event). Keeps start l s) (sym (ap (λ (l : List Event). es ++ l) none ∙ append-nil es)) h
+
+  -- after a line
+  pub keeps_moved : (old : BesideValue) (taken : List Event) (new : BesideValue) → Keeps start es old.left → Moves old taken new → Keeps start (es ++ taken) new.left
+  keeps_moved old taken new h (stays none same) = subst (λ (b : BesideValue). Keeps start (es ++ taken) b.left) (sym same) (keeps_no_more taken old.left none h)
+  keeps_moved old taken new h (acts found is) =
+      let kept : Keeps start es found = keeps_worked start steady es old.left found h is.finds.worked in
+      keeps_stay start steady es taken found new.left kept is.runs is.shown (ends_same found new.left kept.ends is.shown is.published)
+  keeps_moved old taken new h (looks version none is) = subst (Keeps start (es ++ taken)) (sym is.left) (keeps_no_more taken old.left none h)
+
+  -- all that the reader knows is right
+  pub seen_right : (b : BesideValue) → Keeps start es b.left → Later b → AreRight start es None b.seen
+  seen_right b h later = prefix_right start es None b.seen later.0.shown.chain later.1.seen (keeps_worked start steady es b.left later.0 h later.1.worked).are
+
+-- a new desk is steady
+pub new_is_steady : (start : Network) → IsSteadyDesk (new_desk start)
+new_is_steady start = record { ahead = tt; version = refl }
+
+-- a desk that some steps led to is right
+right_desk : (start : Network) (events : List Event) (desk : DeskValue) → IsRunOf (new_desk start) events desk → IsRightDesk start events desk
+right_desk start events desk came = record {
+  came = came;
+  right =
+      subst (λ (es : List Event). IsRightVersion (new_desk start) es (numbers_after (first_numbers (new_desk start)) came.replies) desk.published) came.accepts
+      (right_after (new_desk start) (new_is_steady start) came.steps came.replies desk came.runs);
+}
+
+-- a start
+pub keeps_first : (start : Network) (b : BesideValue) → Opens start b → Keeps (new_desk start) [] b.left
+keeps_first start b opens =
+    let first : DeskValue = new_desk start in
+    let at : IsRightAt first [] None (settled_version 0 [] start) = record { right = right_after first (new_is_steady start) [] [] first refl; within = omega arith } in
+    let are : AreRight first [] None (settled_version 0 [] start ∷ []) = (at, tt) in
+    record {
+      came = subst (IsRunOf first []) (sym opens.desk) (run_none first);
+      are = subst (AreRight first [] None) (sym opens.shown) are;
+      is_chain = subst IsChain (sym opens.shown) tt;
+      ends = ([], opens.shown ∙ ap (λ (d : DeskValue). d.published ∷ []) (sym opens.desk));
+    }
+
+module _ (start : Network) where
+  right_beside : (es : List Event) (b : BesideValue) → Keeps (new_desk start) es b.left → Later b → IsRightBeside start es b
+  right_beside es b h later = record {
+    desk = right_desk start es b.left.desk h.came;
+    left = h.are;
+    seen = seen_right (new_desk start) (new_is_steady start) es b h later;
+  }
+
+  -- lines that were answered make moments
+  record Made (es : List Event) (b : BesideValue) (lines : List (List ℕ)) (text : List ℕ) : Type 0 where
+    moments : List Moment
+    asked : lines ≡ map (λ (m : Moment). m.line) moments
+    told : text ≡ texts moments
+    each : AreRightMoments start es b moments
+
+  made : (es : List Event) (b : BesideValue) → Keeps (new_desk start) es b.left → (lines : List (List ℕ)) (text : List ℕ) (new : BesideValue) → Answered CommandsBeside b lines text new → Later new → Made es b lines text
+  made es b h [] text new is later = record { moments = []; asked = refl; told = is.0; each = tt }
+  made es b h (line ∷ lines) text new is later =
+      let taken : List Event = taken_by (trimmed line) is.0 in
+      let after : Keeps (new_desk start) (es ++ taken) is.1.left = keeps_moved (new_desk start) (new_is_steady start) es b taken is.1 h (line_moves line b is.0 is.1 is.3) in
+      let right : IsRightBeside start (es ++ taken) is.1 = right_beside (es ++ taken) is.1 after (finds_later is.1 lines is.2 new is.4 later) in
+      let rest : Made (es ++ taken) is.1 lines is.2 = made (es ++ taken) is.1 after lines is.2 new is.4 later in
+      record {
+        moments = record { line = line; text = is.0; after = is.1 } ∷ rest.moments;
+        asked = ap (λ (ls : List (List ℕ)). line ∷ ls) rest.asked;
+        told = is.5 ∙ ap (λ (t : List ℕ). is.0 ++ t) rest.told;
+        each = (is.3, right, rest.each);
+      }
+
+-- a script that was answered to its end
+pub script_right : (start : Network) (b : BesideValue) (lines : List (List ℕ)) (text : List ℕ) (after : BesideValue) (left : Network)
+    → Opens start b → Answered CommandsBeside b lines text after → Leaves after left → IsRightScript start lines text
+script_right start b lines text after left opens answered leaves =
+    let later : Later after = (leaves.0, leaves.1) in
+    let first : Keeps (new_desk start) [] b.left = keeps_first start b opens in
+    let m : Made start [] b lines text = made start [] b first lines text after answered later in
+    record {
+      opening = b;
+      opens = opens;
+      moments = m.moments;
+      asked = m.asked;
+      told = m.told;
+      first = right_beside start [] b first (finds_later b lines text after answered later);
+      each = m.each;
+    }

@@ -1,0 +1,107 @@
+-- What the lines of a script do beside workers (own).
+use Rattle.std.specs.Prelude.{◌≡◌, ◌≤◌, ℕ, List, [], ◌∷◌, Option, Some, None, replicate}
+use mathlib.Core.List.{IsPrefix}
+use Rattle.net_data.specs.Network.{Network}
+use Rattle.net_versions.specs.Versions.{VersionValue, settled_version}
+use Rattle.tokens.specs.Words.{words_of}
+use Rattle.script_words.specs.Commands.{command_of}
+use Rattle.script_words.specs.declared.commands.Command.{Command}
+use Rattle.script_words.specs.declared.commands.Command.TheVariants as command
+use Rattle.desk_core.specs.Desk.{DeskValue, accepted, net_now, new_desk}
+use Rattle.answers.specs.Plain.{bad_line}
+use Rattle.answers.specs.Replies.{synced_text}
+use Rattle.desk_console.specs.Console.{ConsoleValue}
+use Rattle.desk_console.specs.Does.{Does}
+use Rattle.versions.specs.Chains.{EndsWith, IsChain}
+use Rattle.versions.specs.Working.{IsWorkedOn}
+use Rattle.versions.specs.declared.state.DeskAndChain.{DeskAndChain}
+
+-- how the script's thread left the hub, and the chain that its reader has seen or was told of
+pub record BesideValue : Type 0 where
+  pub left : DeskAndChain
+  pub seen : List VersionValue
+
+-- it starts with a new desk over a network, whose version 0 alone is published and known
+pub record Opens (net : Network) (b : BesideValue) : Type 0 where
+  pub desk : b.left.desk ≡ new_desk net
+  pub shown : b.left.shown.chain ≡ settled_version 0 [] net ∷ []
+  pub seen : b.seen ≡ settled_version 0 [] net ∷ []
+
+-- ---- under the lock
+
+-- the script's thread comes back to the hub: workers made steps since it left, and no others, and the published chain begins with all that its reader knows
+pub record Finds (old : BesideValue) (found : DeskAndChain) : Type 0 where
+  pub worked : IsWorkedOn old.left found
+  pub seen : IsPrefix old.seen found.shown.chain
+
+-- a console with this desk, whose slots are empty
+abbrev pub at_console : DeskValue → ConsoleValue
+at_console s = record { desk = s; slots = replicate 32 None }
+
+-- it finds the hub so, something is done at its desk, and it leaves with the published chain, of which the reader is told
+pub record DoesAt (Done : ConsoleValue → List ℕ → ConsoleValue → Type 0) (old : BesideValue) (found : DeskAndChain) (text : List ℕ) (new : BesideValue) : Type 0 where
+  pub finds : Finds old found
+  pub shown : new.left.shown ≡ found.shown
+  pub told : new.seen ≡ found.shown.chain
+  pub done : Done (at_console found.desk) text (at_console new.left.desk)
+
+-- the same, however it finds the hub
+abbrev pub DoesThere : (ConsoleValue → List ℕ → ConsoleValue → Type 0) → BesideValue → List ℕ → BesideValue → Type 0
+DoesThere Done old text new = (found : DeskAndChain) × DoesAt Done old found text new
+
+-- the network that is left is the one after all accepted events
+abbrev pub Leaves : BesideValue → Network → Type 0
+Leaves b net = (found : DeskAndChain) × Finds b found × (net ≡ net_now found.desk)
+
+-- ---- by a look, without the lock
+
+-- the version is the last of a chain that begins with all that the reader knew
+pub record Looks (old : BesideValue) (version : VersionValue) (new : BesideValue) : Type 0 where
+  pub left : new.left ≡ old.left
+  pub seen : IsPrefix old.seen new.seen
+  pub is_chain : IsChain new.seen
+  pub ends : EndsWith new.seen version
+
+-- a console at whose desk this version is published, and nothing is pending
+abbrev pub showing : VersionValue → ConsoleValue
+showing version = at_console (record { published = version; pending = []; lasts = []; target = None; spare = 0 })
+
+-- what is asked is answered from the version of a look
+abbrev pub Asks : Command → BesideValue → List ℕ → BesideValue → Type 0
+Asks asked old text new = (version : VersionValue) × Looks old version new × Does asked (showing version) text (showing version)
+
+-- a look shows a version with all events that had been accepted when the script's thread left the hub, and its number is told
+abbrev pub Syncs : BesideValue → List ℕ → BesideValue → Type 0
+Syncs old text new = (version : VersionValue) × Looks old version new × (accepted old.left.desk ≤ version.number) × (text ≡ synced_text version.number)
+
+-- ---- all commands
+
+-- a text is told, and nothing changes
+abbrev pub Tells : List ℕ → BesideValue → List ℕ → BesideValue → Type 0
+Tells told old text new = (text ≡ told) × (new ≡ old)
+
+-- what a command does: posts and `version` do under the lock what they do in line, `sync` and what is asked go by a look, and the workers' own commands are
+-- refused
+abbrev pub DoesBeside : Command → BesideValue → List ℕ → BesideValue → Type 0
+DoesBeside (command.Event event) = DoesThere (Does (command.Event event))
+DoesBeside (command.Post collector seq event) = DoesThere (Does (command.Post collector seq event))
+DoesBeside command.Open = Tells bad_line
+DoesBeside (command.Take k) = Tells bad_line
+DoesBeside (command.Give k) = Tells bad_line
+DoesBeside (command.Abandon k) = Tells bad_line
+DoesBeside command.Publish = Tells bad_line
+DoesBeside command.Sync = Syncs
+DoesBeside command.Version = DoesThere (Does command.Version)
+DoesBeside (command.About asked y x) = Asks (command.About asked y x)
+DoesBeside (command.Trace y x s) = Asks (command.Trace y x s)
+DoesBeside (command.WhatIf events) = Asks (command.WhatIf events)
+DoesBeside command.Audit = Asks command.Audit
+
+-- what a command does, and a line that is none
+abbrev pub ObeysBeside : Option Command → BesideValue → List ℕ → BesideValue → Type 0
+ObeysBeside None = Tells bad_line
+ObeysBeside (Some command) = DoesBeside command
+
+-- what a line does beside workers: the text of its answer, and what stands after it
+abbrev pub CommandsBeside : List ℕ → BesideValue → List ℕ → BesideValue → Type 0
+CommandsBeside line = ObeysBeside (command_of (words_of line))

@@ -1,0 +1,5 @@
+pub mod Beside
+pub mod Runs
+pub mod Right
+pub mod Synced
+pub mod Told

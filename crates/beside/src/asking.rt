@@ -1,0 +1,71 @@
+//! What is asked of the published version: it is answered from a look, without the lock.
+
+ghost use Rattle.std.specs.Prelude.{◌≡◌, ◌<◌, IfErr, IfOk, string_bytes};
+ghost use Rattle.answers.specs.Text.{line_count};
+ghost use Rattle.sessions.specs.Run.{CutsOff};
+ghost use Rattle.beside.specs.Beside.{Asks};
+ghost use Rattle.script_words.specs.declared.commands.Command.TheVariants as command;
+
+use crate::visitor::Visitor;
+use answers::{answer_about, answer_audit, answer_trace, answer_what_if};
+use net_data::Event;
+use point_codes::PointCode;
+use script_words::Question;
+use sessions::Fault;
+use std::alloc::Global;
+use versions::Naming;
+
+impl<N: Naming> Visitor<N> {
+    /// What is asked of the row of a point.
+    pub(crate) fn ask_row(
+        &mut self,
+        alloc: Global,
+        asked: Question,
+        point: PointCode,
+        dest: PointCode,
+    ) -> Result<String, Fault>
+        ensures text { IfOk result (λ text. Asks (command.About asked point dest) self.old (string_bytes text) self.new) }
+        ensures plain { IfOk result (λ text. line_count (string_bytes text) ≡ 0) }
+        ensures fault { IfErr result (CutsOff (Unit {0})) }
+    {
+        let version = self.look()?;
+        Ok(answer_about(alloc, asked, &version, point, dest)?)
+    }
+
+    /// A trace.
+    pub(crate) fn ask_trace(
+        &mut self,
+        alloc: Global,
+        point: PointCode,
+        dest: PointCode,
+        s: u8,
+    ) -> Result<String, Fault>
+        requires { s < 16 }
+        ensures text { IfOk result (λ text. Asks (command.Trace point dest s) self.old (string_bytes text) self.new) }
+        ensures plain { IfOk result (λ text. line_count (string_bytes text) ≡ 0) }
+        ensures fault { IfErr result (CutsOff (Unit {0})) }
+    {
+        let version = self.look()?;
+        Ok(answer_trace(alloc, &version, point, dest, s)?)
+    }
+
+    /// What events would change.
+    pub(crate) fn ask_what_if(&mut self, alloc: Global, events: &[Event]) -> Result<String, Fault>
+        ensures text { IfOk result (λ text. Asks (command.WhatIf events.now) self.old (string_bytes text) self.new) }
+        ensures plain { IfOk result (λ text. line_count (string_bytes text) ≡ 0) }
+        ensures fault { IfErr result (CutsOff (Unit {0})) }
+    {
+        let version = self.look()?;
+        Ok(answer_what_if(alloc, &version, events)?)
+    }
+
+    /// A check of all tables.
+    pub(crate) fn ask_audit(&mut self, alloc: Global) -> Result<String, Fault>
+        ensures text { IfOk result (λ text. Asks command.Audit self.old (string_bytes text) self.new) }
+        ensures plain { IfOk result (λ text. line_count (string_bytes text) ≡ 0) }
+        ensures fault { IfErr result (CutsOff (Unit {0})) }
+    {
+        let version = self.look()?;
+        Ok(answer_audit(alloc, &version)?)
+    }
+}

@@ -1,0 +1,25 @@
+//! A script beside worker threads (all own).
+//!
+//! 1. A script is run as `sessions` says it, from a new desk over a network, while workers open targets, settle jobs and
+//!    publish versions.
+//! 2. An event, `post` and `version` are done under the lock, at the desk as it is found: as the script's thread left it, after
+//!    steps of workers and no others. There they do what they do in line. The script's reader is told of what is published.
+//! 3. What is asked of the published version (`status`, `sls`, `messages`, `octets`, `trace`, `whatif`, `audit`) is answered
+//!    from a look, without the lock: from the last version of a chain that begins with all that was seen before.
+//! 4. `sync` waits for a look that shows all events that were taken, and tells its number. If no worker lives, the script's
+//!    thread does their work meanwhile.
+//! 5. `open`, `take`, `give`, `abandon` and `publish` are the workers' own, and answered `refused 62 BadLine`.
+//! 6. A run without a fault gives back the network after all accepted events. It may also end with 50, if there is no place
+//!    for the reader.
+//!
+//! Stands on `sessions`, `desk_console`, `worker_pool`. A change here also changes specs/ (Beside, Runs), proofs/ and
+//! must-fail/.
+#![tactic(auto)]
+
+mod answering;
+mod asking;
+mod running;
+mod visitor;
+
+pub use answering::Beside;
+pub use running::{BesideEnd, run_beside, run_input_beside};
