@@ -1,6 +1,7 @@
 # make demo      builds the program, if its sources have changed, and runs it on the networks of examples/
 # make test      the gate: every proof from nothing, the edits that must be refused, the tests, the stored run, the transcripts
 #                of the pages, the worked examples, and a part of the hostile runs
+# make soak      runs many threads at one hub, ten million events, and tells what became of them
 # make hostile   takes memory away from the program and breaks its input and output, at each place in turn
 
 PROGRAM = crates/route_desk/out/route_desk
@@ -8,7 +9,7 @@ PROGRAM = crates/route_desk/out/route_desk
 BUILT = crates/route_desk/out/built
 SOURCES = crates.txt $(shell find crates \( -name out -o -name must-fail \) -prune -o -type f \( -name '*.rt' -o -name '*.antt' \) -print)
 
-.PHONY: demo build test hostile
+.PHONY: demo build test soak hostile
 
 demo: build
 	@scripts/demo.sh $(PROGRAM)
@@ -21,6 +22,9 @@ $(BUILT): $(SOURCES)
 
 test:
 	@scripts/gate.sh $(PROGRAM)
+
+soak:
+	@scripts/soak.sh
 
 hostile: build
 	@scripts/hostile.py $(PROGRAM)

@@ -1,11 +1,35 @@
 #!/bin/bash
 # gate.sh PROGRAM: the gate. Every crate and its tests are proved from nothing, the wrong edits tried, the tests and the stored run
 # compared; then the program that was just built runs the transcripts of the pages and the worked examples, and is deprived of memory,
-# input and output. The last line is 'N passed, M failed'.
+# input and output. The line before the last tells the processor time of all this, and with MEASURE=1 also how many times that of a
+# first check of net_items at one job it is, which is made before. The last line is 'N passed, M failed'.
 cd "$(dirname "$0")/.."
 log=$(mktemp)
 trap 'rm -f "$log"' EXIT
 
+# the processor time of a command and what it starts, in whole seconds; what it says goes to standard error
+seconds() {
+    local TIMEFORMAT='%U %S'
+    { time "$@" > /dev/null 2>&1; } 2>&1 | awk '{ printf "%d\n", $1 + $2 }'
+}
+
+# the processor time of a first check of net_items at one job, over its libraries, in a tree of its own
+first_check() {
+    local tree crate
+    tree=$(mktemp -d) || return
+    mkdir "$tree/crates"
+    cp HANDLES "$tree"
+    for crate in point_codes link_state net_items; do
+        cp -r "crates/$crate" "$tree/crates"
+        rm -rf "$tree/crates/$crate/out"
+        grep "^$crate:" crates.txt
+    done > "$tree/crates.txt"
+    for crate in point_codes link_state; do (cd "$tree/crates/$crate" && rt lib > /dev/null 2>&1); done
+    (cd "$tree/crates/net_items" && seconds rt check --jobs 1)
+    rm -rf "$tree"
+}
+
+[ -n "$MEASURE" ] && unit=$(first_check)
 rt ci | tee "$log"
 status=${PIPESTATUS[0]}
 read -r passed failed <<< "$(tail -1 "$log" | sed -n 's/^\([0-9]*\) passed, \([0-9]*\) failed$/\1 \2/p')"
@@ -28,5 +52,8 @@ add() {
 add scripts/transcripts.py "$1" README.md docs/*.md
 add scripts/worked.py "$1"
 add scripts/hostile.py --short "$1"
+times > "$log"
+spent=$(tail -1 "$log" | awk -F'[ms ]+' '{ print int($1 * 60 + $2 + $3 * 60 + $4) }')
+echo "processor time: $spent s${unit:+, $((spent / unit)) times the first check of net_items ($unit s)}"
 echo "$passed passed, $failed failed"
 [ $failed -eq 0 ]
