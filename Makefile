@@ -1,7 +1,7 @@
 # make demo      builds the program, if its sources have changed, and runs it on the networks of examples/
 # make test      the gate: every proof from nothing, the edits that must be refused, the tests, the stored run, the transcripts
 #                of the pages, the worked examples, and a part of the hostile runs
-# make soak      runs many threads at one hub, ten million events, and tells what became of them
+# make soak      runs many threads at one hub, thirty million events, and tells what became of them
 # make hostile   takes memory away from the program and breaks its input and output, at each place in turn
 
 PROGRAM = crates/route_desk/out/route_desk

@@ -30,6 +30,8 @@ first_check() {
 }
 
 [ -n "$MEASURE" ] && unit=$(first_check)
+# a check of less than half a minute took over what another check on this machine had proved
+[ "${unit:-0}" -ge 30 ] || unit=
 rt ci | tee "$log"
 status=${PIPESTATUS[0]}
 read -r passed failed <<< "$(tail -1 "$log" | sed -n 's/^\([0-9]*\) passed, \([0-9]*\) failed$/\1 \2/p')"
