@@ -1,4 +1,5 @@
 pub mod BesideLemmas
+pub mod CountLemmas
 pub mod RightLemmas
 pub mod SyncedLemmas
 pub mod ToldLemmas

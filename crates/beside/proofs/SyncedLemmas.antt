@@ -44,7 +44,8 @@ use Rattle.beside.specs.Beside.{BesideValue, CommandsBeside, DoesAt, Finds, Leav
 use Rattle.beside.specs.Right.{AreRight, IsRightAt}
 use Rattle.beside.specs.Synced.{IsSynced, MayCome, command_in, events_after, said_by}
 use Rattle.desk_console.specs.Taken.{taken_by}
-use Rattle.beside.proofs.RightLemmas.{Counts, IsPosted, Keeps, Later, finds_later, keeps_first, keeps_moved, keeps_worked, last_right, line_moves, new_is_steady, post_is, run_counts, seen_right}
+use Rattle.beside.proofs.CountLemmas.{Counts, IsPosted, last_right, post_is, run_counts}
+use Rattle.beside.proofs.RightLemmas.{Keeps, Later, finds_later, keeps_first, keeps_moved, keeps_worked, line_moves, new_is_steady, seen_right}
 
 -- ---- numbers along a chain
 
