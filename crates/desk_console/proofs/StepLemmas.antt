@@ -1,7 +1,7 @@
 -- The steps that settle an open target, and what each leaves of the desk.
 use Rattle.std.proofs.Common.{◌≡◌, ℕ, ◌<◌, Bool, true, false, List, [], ◌∷◌, Option, Some, None, is_some, Result, Ok, Err, refl, sym, ap, ◌∙◌, subst, length, arith}
 use Rattle.std.specs.Prelude.{IsTrue, ◌↔◌}
-use Rattle.std.specs.Option.{option_map, option_and_then}
+use Rattle.std.specs.Option.{MatchOption, option_map, option_and_then}
 use Rattle.std.proofs.lemmas.Bool.{eq-eqb}
 use Rattle.net_items.specs.declared.items.Plan.{Plan}
 use Rattle.net_items.specs.Lookups.{plan_at}
@@ -11,9 +11,9 @@ use Rattle.work_units.specs.Work.{Work}
 use Rattle.dirty_sets.specs.Waiting.{Task, waiting_task, out, is_out, least, taken, without_task}
 use Rattle.dirty_sets.proofs.ChangeLemmas.{key_of}
 use Rattle.work_units.specs.declared.replies.Refusal.{Refusal}
-use Rattle.work_units.specs.declared.replies.Refusal.TheVariants.{OutOfMemory}
+use Rattle.work_units.specs.declared.replies.Refusal.TheVariants.{Nothing, OutOfMemory}
 use Rattle.desk_core.specs.Desk.{DeskValue, OpenTarget, net_at}
-use Rattle.desk_core.specs.Steps.{IsGiveReply, IsGiven, IsOfTarget, IsAbandonReply, Abandons, Gives, Takes, tasks_left, out_refusal, target_number}
+use Rattle.desk_core.specs.Steps.{IsGiveReply, IsGiven, IsJobOf, IsOfTarget, IsAbandonReply, IsReply, Abandons, Gives, Takes, first_of, tasks_left, out_refusal, target_number, with_tasks}
 use Rattle.desk_console.specs.Settling.{HasOnlyTasks, out_count, waiting_count}
 use Rattle.desk_console.proofs.TaskLemmas.{first_is_out, first_waits, none_left, out_put_last, out_without_none, waiting_without_le}
 
@@ -137,6 +137,21 @@ take_open result new s n tasks none some =
 
 pub take_one : (d : DeskValue) (result : Result Work Refusal) (new : DeskValue) → TakesOne result new d
 take_one d result new none some = at_open (TakesOne result new) d (take_open result new d) (waits_open d some) none some
+
+-- the target's network has what the job read
+pub took_of_target : (d mid : DeskValue) (result : Result Work Refusal) (job settled : Work) → result ≡ Ok job → Takes d result mid → settled ≡ job → IsOfTarget mid settled
+took_of_target d mid result job settled is takes same = subst (IsOfTarget mid) (sym same) (go (first_of d) (subst (λ r. Takes d r mid) is takes))
+  where
+    there : (o : Option OpenTarget) (x : ℕ) → MatchOption o ⊥ (λ t. (job.version ≡ t.number) × (excerpt_at (net_at d t.number) x ≡ Some job.excerpt))
+        → MatchOption (option_map (λ (t : OpenTarget). record t { tasks = taken t.tasks }) o) ⊥ (λ t. content_at (net_at d t.number) job.excerpt.plan.dest ≡ Some (content_of job.excerpt))
+    there None x is = is
+    there (Some t) x is =
+        let of = excerpt_of (net_at d t.number) x job.excerpt is.1 in
+        subst (λ (y : ℕ). content_at (net_at d t.number) y ≡ Some (content_of job.excerpt)) (sym of.0) of.1
+
+    go : (o : Option ℕ) → MatchOption o ((Ok job ≡ Err Nothing) × (mid ≡ d)) (λ x. IsReply None (λ job after. IsJobOf d x job × (after ≡ with_tasks d taken)) d (Ok job) mid) → IsOfTarget mid job
+    go None is = absurd (let wrong = is.0 in cc)
+    go (Some x) is = subst (λ (s : DeskValue). IsOfTarget s job) (sym is.1) (there d.target x is.0)
 
 -- ---- its result
 

@@ -104,7 +104,7 @@ fn settle_next(alloc: Global, desk: &mut Desk) -> Result<(), AllocError>
         Ok(settled) => settled,
         Err((_, refused)) => return Err(refused),
     };
-    match desk.give(settled) {
+    match desk.give_own(settled) {
         Ok(()) => Ok(()),
         Err(_) => unreachable!(),
     }

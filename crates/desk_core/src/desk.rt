@@ -6,9 +6,10 @@ ghost use Rattle.net_data.specs.Kinds.{is_link};
 ghost use Rattle.net_data.specs.Edits.{refusal_of};
 ghost use Rattle.net_versions.specs.Versions.{settled_version};
 ghost use Rattle.desk_core.specs.Desk.{accepted, net_now, new_desk, no_post};
-ghost use Rattle.desk_core.specs.Steps.{Abandons, Gives, IsNext, IsUnready, Opens, Posts, Publishes, Repeats, Takes, tasks_left, out_refusal, post_refusal, publish_refusal, with_post, with_version};
+ghost use Rattle.desk_core.specs.Steps.{IsNext, IsUnready, Opens, Posts, Publishes, Repeats, Takes, tasks_left, post_refusal, publish_refusal, with_post, with_version};
 
 mod reading;
+mod results;
 
 use crate::following::{drop_front, follow_with_copy};
 use crate::opening::new_target;
@@ -17,11 +18,10 @@ use crate::targets::Target;
 use dirty_sets::Touched;
 use net_data::{Event, Net};
 use net_versions::Version;
-use point_codes::PointCode;
 use std::alloc::{AllocError, Global};
 use std::marker::Model;
 use std::sync::Arc;
-use work_units::{Job, Opened, Posted, Refusal, Settled};
+use work_units::{Job, Opened, Posted, Refusal};
 
 /// How many accepted events may stand unpublished.
 const BACKLOG_LIMIT: usize = 65536;
@@ -293,59 +293,6 @@ impl Desk {
         match &mut self.target {
             Some(target) => target.take(),
             None => Err(Refusal::Nothing),
-        }
-    }
-
-    /// Why a result or an abandonment is refused, but for what it read.
-    fn refusal_out(&self, version: u64, dest: PointCode) -> Option<Refusal>
-        ensures { result ≡ out_refusal self.now version dest }
-    {
-        match &self.target {
-            Some(target) => {
-                if target.number() != version {
-                    Some(Refusal::Stale(Some(target.number())))
-                } else if !target.is_out(dest) {
-                    Some(Refusal::Unasked)
-                } else {
-                    None
-                }
-            }
-            None => Some(Refusal::Stale(None)),
-        }
-    }
-
-    /// Takes in a result, or hands it back. It takes no memory.
-    pub fn give(&mut self, settled: Settled) -> Result<(), (Settled, Refusal)>
-        ensures { Gives self.old settled result self.new }
-    {
-        if let Some(refusal) = self.refusal_out(settled.version(), settled.dest()) {
-            return Err((settled, refusal));
-        }
-        match &mut self.target {
-            Some(target) => {
-                if !target.is_of(&settled) {
-                    return Err((settled, Refusal::Differs));
-                }
-                target.fill(settled);
-                Ok(())
-            }
-            None => Err((settled, Refusal::Stale(None))),
-        }
-    }
-
-    /// A destination that is out waits again, last. It takes no memory.
-    pub fn abandon(&mut self, version: u64, dest: PointCode) -> Result<(), Refusal>
-        ensures { Abandons self.old version dest result self.new }
-    {
-        if let Some(refusal) = self.refusal_out(version, dest) {
-            return Err(refusal);
-        }
-        match &mut self.target {
-            Some(target) => {
-                target.put_back(dest);
-                Ok(())
-            }
-            None => Err(Refusal::Stale(None)),
         }
     }
 
