@@ -150,8 +150,8 @@ fn set_of(ids: &[u16], collector: u8) -> u16 {
     }
 }
 
-/// Readers and collectors beside the workers; ends when all is published.
-fn drive<N: Naming + Send + Sync, R: Threads + Wait + Sync>(
+/// The collectors post their events.
+fn post_all<N: Naming + Send + Sync, R: Threads + Wait + Sync>(
     rt: &R,
     alloc: Global,
     hub: &Mutex<Hub<N>>,
@@ -162,11 +162,6 @@ fn drive<N: Naming + Send + Sync, R: Threads + Wait + Sync>(
 ) {
     let share = load.events / u64::from(load.collectors.max(1));
     thread::scope(thread::scope_env(), rt, |scope| {
-        for _ in 0..load.readers {
-            if let Ok(reader) = hub.lock(rt).reader() {
-                let _ = scope.spawn(move || watch(rt, reader, tally));
-            }
-        }
         for collector in 0..load.collectors {
             let id = set_of(ids, collector);
             let started = scope.spawn(move || {
@@ -176,13 +171,42 @@ fn drive<N: Naming + Send + Sync, R: Threads + Wait + Sync>(
                 collect(rt, alloc, hub, changed, tally, collector, id, share);
             }
         }
-        wait_for(
-            rt,
-            hub,
-            changed,
-            share.saturating_mul(u64::from(load.collectors)),
-        );
-        tally.done.store(true, Ordering::SeqCst);
+    });
+}
+
+/// Posts all, and waits until all is published.
+fn post_and_wait<N: Naming + Send + Sync, R: Threads + Wait + Sync>(
+    rt: &R,
+    alloc: Global,
+    hub: &Mutex<Hub<N>>,
+    changed: &Condvar,
+    tally: &Tally,
+    load: Soak,
+    ids: &[u16],
+) {
+    post_all(rt, alloc, hub, changed, tally, load, ids);
+    let accepted = hub.lock(rt).desk().accepted();
+    wait_for(rt, hub, changed, accepted);
+    tally.done.store(true, Ordering::SeqCst);
+}
+
+/// Readers and collectors beside the workers; ends when all is published.
+fn drive<N: Naming + Send + Sync, R: Threads + Wait + Sync>(
+    rt: &R,
+    alloc: Global,
+    hub: &Mutex<Hub<N>>,
+    changed: &Condvar,
+    tally: &Tally,
+    load: Soak,
+    ids: &[u16],
+) {
+    thread::scope(thread::scope_env(), rt, |scope| {
+        for _ in 0..load.readers {
+            if let Ok(reader) = hub.lock(rt).reader() {
+                let _ = scope.spawn(move || watch(rt, reader, tally));
+            }
+        }
+        post_and_wait(rt, alloc, hub, changed, tally, load, ids);
     });
 }
 

@@ -1,12 +1,13 @@
 -- Beginnings of one chain.
-use Rattle.std.proofs.Common.{◌≡◌, ◌==◌, ℕ, Bool, true, false, ◌+◌, ◌≤◌, List, [], ◌∷◌, ◌++◌, length, refl, sym, ◌∙◌, subst, arith, length-append}
+use Rattle.std.proofs.Common.{◌≡◌, ◌==◌, ℕ, Bool, true, false, ◌+◌, ◌≤◌, List, [], ◌∷◌, ◌++◌, length, refl, sym, ap, ◌∙◌, subst, arith, length-append}
+use Rattle.logbook.specs.Pages.{Book}
 use Rattle.std.specs.Prelude.{MatchBool}
 use Rattle.std.proofs.lemmas.Bool.Decides.{nat_tests}
 use lib.Dec.{leb}
 use mathlib.Core.List.{IsPrefix}
 use Rattle.net_versions.specs.Versions.{VersionValue}
 use Rattle.std.proofs.lemmas.List.{append-nil}
-use Rattle.versions.specs.Chains.{Finds, Follows, GoOn, IsChain, MayFollow, IsChainTo}
+use Rattle.versions.specs.Chains.{ChainPrefixValue, Finds, Follows, GoOn, IsChain}
 
 module _ {A : Type 0} where
   -- of two beginnings of one list the shorter begins the longer
@@ -46,16 +47,28 @@ goes_on chain [] last next h e f = subst (λ c. IsChain (c ++ next ∷ [])) (sym
 goes_on chain (x ∷ older) last next h e f =
     subst (λ c. IsChain (c ++ next ∷ [])) (sym e) (go_on x older last next (subst IsChain e h) f)
 
--- a prefix and a version more
-pub next_prefix : (last next : VersionValue) (position : ℕ) (chain : List VersionValue) → IsChainTo last position chain → MayFollow chain next → IsChainTo next (position + 1) (chain ++ next ∷ [])
-next_prefix last next position chain h m =
-    let same : m.0 ≡ last = one_end m.1.0 h.ends.0 m.0 last (sym m.1.1 ∙ h.ends.1) in
-    let f : Follows last next = subst (λ x. Follows x next) same m.2 in
-    let position_is = h.position_is in record {
-      is_chain = goes_on chain h.ends.0 last next h.is_chain h.ends.1 f;
-      ends = (chain, refl);
-      position_is = omega (arith, length-append chain (next ∷ []));
-    }
+-- a list with one item more
+pub one_longer : (chain : List VersionValue) (next : VersionValue) (position : ℕ) → length chain ≡ position + 1 → length (chain ++ next ∷ []) ≡ (position + 1) + 1
+one_longer chain next position is = omega (arith, is, length-append chain (next ∷ []))
+
+-- two beginnings of one chain that are as long as each other are the same
+pub same_beginnings : (xs ys both : List VersionValue) (a b : ℕ) → length xs ≡ a + 1 → length ys ≡ b + 1 → IsPrefix xs both → IsPrefix ys both → a ≡ b → xs ≡ ys
+same_beginnings xs ys both a b la lb p q same =
+    whole xs ys (shorter xs ys both p q (omega arith)) (omega arith)
+
+same_prefixes : (one other : ChainPrefixValue) → one.book ≡ other.book → one.chain ≡ other.chain → one ≡ other
+same_prefixes one other book chain =
+    ap (λ (b : Book). record { book = b; chain = one.chain }) book ∙ ap (λ (c : List VersionValue). record { book = other.book; chain = c }) chain
+
+by_equal : (one other : ChainPrefixValue) (both : List VersionValue) (a b : ℕ) → other.book ≡ one.book → length one.chain ≡ a + 1 → length other.chain ≡ b + 1 → IsPrefix one.chain both → IsPrefix other.chain both
+    → (t : Bool) → (a == b) ≡ t → MatchBool t (one ≡ other) (Unit {0})
+by_equal one other both a b book la lb p q true is =
+    let same : a ≡ b = grind (arith, nat_tests) in
+    same_prefixes one other (sym book) (same_beginnings one.chain other.chain both a b la lb p q same)
+by_equal one other both a b book la lb p q false is = tt
+
+pub either_same : (one other : ChainPrefixValue) (both : List VersionValue) (a b : ℕ) → other.book ≡ one.book → length one.chain ≡ a + 1 → length other.chain ≡ b + 1 → IsPrefix one.chain both → IsPrefix other.chain both → MatchBool (a == b) (one ≡ other) (Unit {0})
+either_same one other both a b book la lb p q = by_equal one other both a b book la lb p q (a == b) refl
 
 -- of two prefixes of one book the one begins the other
 by_test : (xs ys both : List VersionValue) (a b : ℕ) → length xs ≡ a + 1 → length ys ≡ b + 1 → IsPrefix xs both → IsPrefix ys both

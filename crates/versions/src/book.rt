@@ -4,6 +4,7 @@
 ghost use Rattle.std.specs.Prelude.{◌≡◌, ◌∷◌, []};
 ghost use Rattle.versions.specs.Book.{head_of};
 
+use desk_core::Desk;
 use logbook::{Gain, Opening, Plain, Play, Rule, Seen, Start, Word};
 use net_versions::Version;
 use std::marker::{Brand, Model};
@@ -54,13 +55,14 @@ impl Play<Version, u64> for Add {
     ghost then = { AddsTo };
 }
 
-/// What the step asks for: the version.
-impl Plain<Version, Version, u64> for Add {
+/// What the step asks for: the version that a desk's open target becomes.
+impl Plain<Desk, Version, u64> for Add {
     ghost use Rattle.std.specs.Prelude.{None};
+    ghost use Rattle.versions.specs.Tickets.{coming};
 
-    ghost ask = { λ version. version };
+    ghost ask = { λ desk. coming desk };
 
-    ghost state = { λ version. None };
+    ghost state = { λ desk. None };
 }
 
 /// Which hub it is: its book, and the pair on which its client and it agree, if it has a client. Each call of a program picks them.

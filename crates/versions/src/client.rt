@@ -55,8 +55,16 @@ impl UnnamedWithClient {
     fn over<R: Wait>(rt: &R, alloc: Global, hub: Unnamed) -> Result<UnnamedWithClient, AllocError>
         ensures { IfOk result (λ p. p.state ≡ hub) }
     {
-        let (lead, keeper) = Lead::new(rt, alloc, hub.state())?;
-        Ok(UnnamedWithClient { hub, keeper, lead })
+        Lead::new(rt, alloc, hub.state()).map(
+            |pair: (Lead<DeskAndChain>, ByClient)| -> UnnamedWithClient
+                requires table { pair.0.table ≡ pair.1.table }
+                requires said { (pair.0.said ≡ hub ∷ []) × (pair.1.said ≡ hub ∷ []) }
+                ensures { result.state ≡ hub }
+            {
+                let (lead, keeper) = pair;
+                UnnamedWithClient { hub, keeper, lead }
+            },
+        )
     }
 
     /// The hub, with 64 places for readers, and its client.

@@ -4,10 +4,10 @@ ghost use Rattle.std.specs.Prelude.{◌≡◌, ◌≢◌, ◌+◌, ◌-◌, ◌�
 ghost use Rattle.std.specs.Arc.{arc_value};
 ghost use mathlib.Core.List.{IsPrefix};
 ghost use Rattle.net_data.specs.Kinds.{is_link};
-ghost use Rattle.desk_core.specs.Steps.{Abandons, Gives, IsNext, Opens, Posts, Publishes, Takes};
+ghost use Rattle.desk_core.specs.Steps.{Abandons, Gives, Opens, Posts, Takes};
 ghost use Rattle.versions.specs.Book.{head_of};
 ghost use Rattle.versions.specs.Chains.{EndsWith, IsChain};
-ghost use Rattle.versions.specs.Hubs.{Adds, IsHub, WithDesk, with_next};
+ghost use Rattle.versions.specs.Hubs.{IsHub, WithDesk};
 ghost use Rattle.versions.specs.Working.{AreKept};
 
 use crate::book::{Head, Naming, open_book};
@@ -101,10 +101,16 @@ impl Unnamed {
         ensures { IfOk result (λ h. h ≡ record { state = self; stopping = false; living = 0 }) }
     {
         let Unnamed { state, head } = self;
-        match Shelf::start(alloc, head, &state.shown) {
-            Ok(shelf) => Ok(Hub::over(state, posters, shelf)),
-            Err(_) => Err(NoPlace),
-        }
+        Shelf::start(alloc, head, &state.shown)
+            .map(
+                |shelf: Shelf<N>| -> Hub<N, P>
+                    requires shelf { shelf ≡ record { shown = state.shown; ahead = None } }
+                    requires state { IsHub N.book state None }
+                    requires kept { AreKept N.table state (P.kept posters) }
+                    ensures { result ≡ record { state = state; stopping = false; living = 0 } }
+                { Hub::over(state, posters, shelf) },
+            )
+            .map_err(|_| NoPlace)
     }
 }
 
@@ -115,7 +121,7 @@ impl Unnamed {
 pub struct Hub<N: Naming, P: Posters = Anyone> {
     pub(crate) state: DeskAndChain,
     pub(crate) posters: P,
-    shelf: Shelf<N>,
+    pub(crate) shelf: Shelf<N>,
     stopping: bool,
     living: u32,
 }
@@ -252,44 +258,6 @@ impl<N: Naming, P: Posters> Hub<N, P> {
         ensures rest { WithDesk self.old self.new }
     {
         self.state.desk.abandon(version, dest)
-    }
-
-    /// Writes the version of the target into the book, and gives the chain that ends with it, twice.
-    fn announced(&mut self, next: &Arc<Version>) -> Result<(ChainPrefix, ChainPrefix), AllocError>
-        requires { IsNext self.old.state.desk (arc_value next.now) }
-        ensures same { self.new ≡ self.old }
-        ensures first { IfOk result (λ p. p.0 ≡ with_next self.old.state.shown (arc_value next.now)) }
-        ensures second { IfOk result (λ p. p.1 ≡ with_next self.old.state.shown (arc_value next.now)) }
-    {
-        let again = Arc::try_clone(next)?;
-        self.state.desk.steady();
-        self.shelf.announce(&self.state.shown, again);
-        let (first, second) = self.shelf.next_twice()?;
-        Ok((first, second))
-    }
-
-    /// Publishes the target, as `Desk::publish`, and puts its version at the end of the chain.
-    ///
-    /// # Errors
-    ///
-    /// Those of `Desk::publish`; the hub is then as it was.
-    pub fn publish<R: Wait>(&mut self, rt: &R, alloc: Global) -> Result<u64, Refusal>
-        ensures step { Publishes self.old.state.desk result self.new.state.desk }
-        ensures chain { IfOk result (λ _. Adds self.old.state self.new.state) }
-        ensures rest { (self.new.stopping ≡ self.old.stopping) × (self.new.living ≡ self.old.living) }
-        ensures err { OnErr result (self.new ≡ self.old) }
-    {
-        let next = self.state.desk.ready(alloc)?;
-        let Ok((shown, copy)) = self.announced(&next) else {
-            return Err(Refusal::OutOfMemory);
-        };
-        let Ok(()) = self.shelf.show(rt, copy) else {
-            return Err(Refusal::OutOfMemory);
-        };
-        let number = next.number();
-        self.state.desk.steady();
-        self.state.seal(next, shown);
-        Ok(number)
     }
 
     /// A reader that was told of the published chain.

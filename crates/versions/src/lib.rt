@@ -9,9 +9,11 @@
 //! 4. To a hub either anyone posts, or one client alone. To a client's hub others may open, take, give, abandon and publish: so
 //!    the client that comes back finds the desk that it left, after steps of workers and no others, and in the chain what these
 //!    published.
+//! 5. A job that was just taken gets a ticket. A result that comes with the ticket of its job isn't compared with the target's
+//!    network, as long as that target is open.
 //!
 //! Stands on `desk_core`, `agreed`, `left_right`, `logbook`. A change here also changes specs/ (Book, Chains, Hubs,
-//! Worked, Working), proofs/ and must-fail/.
+//! Tickets, Worked, Working), proofs/ and must-fail/.
 #![tactic(auto)]
 
 mod book;
@@ -20,9 +22,11 @@ mod hub;
 mod laws;
 mod posters;
 mod prefix;
+mod publishing;
 mod reader;
 mod shelf;
 mod state;
+mod tickets;
 
 pub use book::Naming;
 pub use client::{Client, UnnamedWithClient};
@@ -32,3 +36,4 @@ pub use net_versions::Version;
 pub use posters::{Anyone, ByClient, Posters};
 pub use reader::{NoPlace, Note, Reader};
 pub use state::DeskAndChain;
+pub use tickets::Ticket;

@@ -1,13 +1,16 @@
-//! A prefix: a beginning of a book's chain, with its last version. It is what a hub publishes.
+//! A prefix: a beginning of a book's chain, with its last version. It is what a hub publishes. And one whose last version isn't
+//! made yet, since its target is open.
 
 ghost use Rattle.std.specs.Prelude.{◌≡◌, ◌∷◌, ◌++◌, [], IfOk, IfSome, MatchBool};
 ghost use Rattle.std.specs.Arc.{arc_value};
 ghost use mathlib.Core.List.{IsPrefix};
 ghost use Rattle.versions.specs.Book.{head_of};
 ghost use Rattle.versions.specs.Chains.{EndsWith, IsChain, MayFollow};
+ghost use Rattle.versions.specs.Tickets.{coming};
 
 use crate::book::{Add, Head, Known, Law, Naming, Nothing};
 use crossbeam_utils::rule::{Outcome, Protocol};
+use desk_core::Desk;
 use left_right::Absorb;
 use logbook::Offer;
 use net_versions::Version;
@@ -78,17 +81,16 @@ impl ChainPrefix {
         self.position <= other.position
     }
 
-    /// This one with a further version, which stands in the book from now on. `None` if the book had gone on already.
-    pub(crate) fn extended(&self, head: &Head, next: Arc<Version>) -> Option<ChainPrefix>
+    /// This one with the version that the desk's open target becomes, which stands in the book from now on. `None` if the book
+    /// had gone on already.
+    pub(crate) fn with_coming(&self, head: &Head, desk: &Desk) -> Option<Coming>
         requires head { head.now ≡ head_of self.now.book }
-        requires next { MayFollow self.now.chain (arc_value next) }
-        ensures { IfSome result (λ f. f ≡ record self.now { chain = self.now.chain ++ arc_value next ∷ [] }) }
+        requires next { MayFollow self.now.chain (coming desk.now) }
+        ensures { IfSome result (λ f. f ≡ record self.now { chain = self.now.chain ++ coming desk.now ∷ [] }) }
     {
         let after = self.position.checked_add(1)?;
         let mut known = self.known.again();
-        let mut offer: Offer<Version, u64, Law, Nothing> = known.plain::<Nothing, Version, Add>(
-            &next,
-        );
+        let mut offer: Offer<Version, u64, Law, Nothing> = known.plain::<Nothing, Desk, Add>(desk);
         let mut pen = known.no_pen();
         let position = self.position;
         let found = head
@@ -97,11 +99,63 @@ impl ChainPrefix {
         if found != position {
             return None;
         }
-        Some(ChainPrefix {
-            version: next,
+        Some(Coming {
             position: after,
             known,
         })
+    }
+}
+
+/// A beginning of a book's chain whose last version isn't made yet: it is the one that a desk's open target becomes.
+#[derive(Drop)]
+pub(crate) struct Coming {
+    /// So many versions come before that one.
+    position: u64,
+    known: Known,
+}
+
+impl Model for Coming {
+    ghost use Rattle.std.specs.Prelude.{◌≡◌, ◌+◌, length};
+    ghost use Rattle.versions.specs.Chains.{ChainPrefixValue};
+
+    ghost Value = { ChainPrefixValue };
+
+    ghost view = { λ p. record { book = p.known.book; chain = p.known.log } };
+
+    ghost invariant = { λ p. length p.known.log ≡ p.position + 1 };
+}
+
+impl Coming {
+    /// The same once more.
+    pub(crate) fn again(&self) -> Coming
+        ensures { result ≡ self.now }
+    {
+        Coming {
+            position: self.position,
+            known: self.known.again(),
+        }
+    }
+
+    /// The same, now that its last version is made.
+    pub(crate) fn with_version(&self, version: Arc<Version>) -> ChainPrefix
+        requires { IsChain self.now.chain × EndsWith self.now.chain (arc_value version) }
+        ensures { result ≡ self.now }
+    {
+        ChainPrefix {
+            version,
+            position: self.position,
+            known: self.known.again(),
+        }
+    }
+
+    /// Whether two of one book are the same.
+    pub(crate) fn equals(&self, other: &Coming) -> bool
+        requires { other.now.book ≡ self.now.book }
+        ensures { MatchBool result (self.now ≡ other.now) (Unit {0}) }
+    {
+        let mut both = self.known.again();
+        both.learn(&other.known);
+        self.position == other.position
     }
 }
 

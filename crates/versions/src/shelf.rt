@@ -1,16 +1,18 @@
 //! The shelf: the chain that readers are shown, and the book in which it stands.
 
-ghost use Rattle.std.specs.Prelude.{◌≡◌, [], None, Some, IfOk, OnErr, OnOk, MatchResult};
+ghost use Rattle.std.specs.Prelude.{◌≡◌, [], None, Some, IfOk, IfSome, OnErr, OnOk, MatchBool, MatchResult};
 ghost use Rattle.std.specs.Arc.{arc_value};
 ghost use Rattle.left_right.specs.Sides.{view};
 ghost use Rattle.versions.specs.Book.{head_of};
-ghost use Rattle.versions.specs.Chains.{MayFollow};
+ghost use Rattle.versions.specs.Chains.{EndsWith, IsChain, MayFollow};
 ghost use Rattle.versions.specs.Hubs.{IsAnnounced, with_next};
+ghost use Rattle.versions.specs.Tickets.{coming};
 
 use crate::book::{Head, Naming};
-use crate::prefix::{ChainPrefix, Entered, Own};
+use crate::prefix::{ChainPrefix, Coming, Entered, Own};
 use crate::reader::{NoPlace, Seat};
 use core::mem::replace_with;
+use desk_core::Desk;
 use left_right::writer;
 use net_versions::Version;
 use std::alloc::{AllocError, Global};
@@ -28,8 +30,8 @@ const PLACES: usize = 64;
 pub(crate) struct Shelf<N: Naming> {
     head: Head,
     writer: Writer<N>,
-    /// The chain with one more version, if that stands in the book and wasn't shown yet.
-    ahead: Option<ChainPrefix>,
+    /// The chain with the version of the open target, if that stands in the book.
+    ahead: Option<Coming>,
 }
 
 impl<N: Naming> Model for Shelf<N> {
@@ -90,23 +92,52 @@ impl<N: Naming> Shelf<N> {
         })
     }
 
-    /// Writes a further version into the book, unless one stands there beyond what is shown.
-    pub(crate) fn announce(&mut self, shown: &ChainPrefix, next: Arc<Version>)
-        requires { (shown.now.book ≡ N.book) × MayFollow shown.now.chain (arc_value next) }
+    /// Writes the version that the desk's open target becomes into the book, unless one stands there beyond what is shown.
+    pub(crate) fn announce(&mut self, shown: &ChainPrefix, desk: &Desk)
+        requires { (shown.now.book ≡ N.book) × MayFollow shown.now.chain (coming desk.now) }
         ensures shown { self.new.shown ≡ self.old.shown }
-        ensures ahead { IsAnnounced self.old.ahead (with_next shown.now (arc_value next)) self.new.ahead }
+        ensures ahead { IsAnnounced self.old.ahead (with_next shown.now (coming desk.now)) self.new.ahead }
     {
         if self.ahead.is_none() {
-            self.ahead = shown.extended(&self.head, next);
+            self.ahead = shown.with_coming(&self.head, desk);
         }
     }
 
-    /// The chain with the version that stands in the book beyond what is shown, twice.
-    pub(crate) fn next_twice(&self) -> Result<(ChainPrefix, ChainPrefix), AllocError>
+    /// The chain that stands in the book beyond what is shown, whose last version isn't made yet.
+    pub(crate) fn coming(&self) -> Option<Coming>
+        ensures { result ≡ self.now.ahead }
+    {
+        match &self.ahead {
+            Some(coming) => Some(coming.again()),
+            None => None,
+        }
+    }
+
+    /// Whether that is this one.
+    pub(crate) fn is_coming(&self, coming: &Coming) -> bool
+        requires { IfSome self.now.ahead (λ p. p.book ≡ coming.now.book) }
+        ensures { MatchBool result (self.now.ahead ≡ Some coming.now) (Unit {0}) }
+    {
+        match &self.ahead {
+            Some(ahead) => coming.equals(ahead),
+            None => false,
+        }
+    }
+
+    /// That chain, twice, now that its last version is made.
+    pub(crate) fn next_twice(
+        &self,
+        next: &Arc<Version>,
+    ) -> Result<(ChainPrefix, ChainPrefix), AllocError>
+        requires { IfSome self.now.ahead (λ p. IsChain p.chain × EndsWith p.chain (arc_value next.now)) }
         ensures { IfOk result (λ p. (self.now.ahead ≡ Some p.0) × (p.1 ≡ p.0)) }
     {
         match &self.ahead {
-            Some(prefix) => Ok((prefix.again()?, prefix.again()?)),
+            Some(coming) => {
+                let first = coming.with_version(Arc::try_clone(next)?);
+                let second = coming.with_version(Arc::try_clone(next)?);
+                Ok((first, second))
+            }
             None => Err(AllocError),
         }
     }
