@@ -16,14 +16,14 @@ use Rattle.sessions.specs.Run.{Ran}
 use Rattle.sessions.specs.declared.faults.Fault.{Fault}
 use Rattle.sessions.specs.declared.faults.Fault.TheVariants.{OutOfMemory}
 use Rattle.sessions.proofs.RunLemmas.{ran_nothing}
-use Rattle.beside.specs.Beside.{BesideValue, CommandsBeside, DoesAt, DoesThere, Leaves, Looks, Opens, at_console}
+use Rattle.beside.specs.Beside.{BesideValue, CommandsBeside, DoesAt, DoesThere, LeavesBeside, Looks, StartsBeside, at_console}
 use Rattle.beside.specs.Runs.{IsFresh, RanBeside}
 
 -- a script's thread that has just come to a new hub
-pub opens_fresh : (net : Network) (pair : PairValue) (b : BesideValue) → IsFresh net pair → b ≡ record { left = pair.state; seen = pair.state.shown.chain } → Opens net b
+pub opens_fresh : (net : Network) (pair : PairValue) (b : BesideValue) → IsFresh net pair → b ≡ record { left = pair.state; seen = pair.state.shown.chain } → StartsBeside net b
 opens_fresh net pair b fresh same =
     let chain : pair.state.shown.chain ≡ settled_version 0 [] net ∷ [] = fresh.chain ∙ ap (λ (d : DeskValue). d.published ∷ []) fresh.desk in
-    subst (Opens net) (sym same) (record { desk = fresh.desk; shown = chain; seen = chain })
+    subst (StartsBeside net) (sym same) (record { desk = fresh.desk; shown = chain; seen = chain })
 
 -- a start over a network
 abbrev pub first_beside : Network → BesideValue
@@ -35,7 +35,7 @@ first_beside net = record {
   seen = settled_version 0 [] net ∷ [];
 }
 
-pub opens_first : (net : Network) → Opens net (first_beside net)
+pub opens_first : (net : Network) → StartsBeside net (first_beside net)
 opens_first net = record { desk = refl; shown = refl; seen = refl }
 
 -- a call at the hub that was found
@@ -79,7 +79,7 @@ looks_later first old new version same begins is = record {
 
 -- a run from a new hub
 pub ran_fresh : (net : Network) (pair : PairValue) (unread left held holds : Option (List ℕ)) (fault : Option Fault) (lines : ℕ) (back : Option Network) → IsFresh net pair
-    → Ran CommandsBeside Leaves (Unit {0}) (record { left = pair.state; seen = pair.state.shown.chain }) unread left held holds fault lines back → RanBeside net unread left held holds fault lines back
+    → Ran CommandsBeside LeavesBeside (Unit {0}) (record { left = pair.state; seen = pair.state.shown.chain }) unread left held holds fault lines back → RanBeside net unread left held holds fault lines back
 ran_fresh net pair unread left held holds fault lines back fresh ran = record {
   start = record { left = pair.state; seen = pair.state.shown.chain };
   opens = opens_fresh net pair _ fresh refl;
@@ -92,5 +92,5 @@ pub ran_unopened : (net : Network) (unread held : Option (List ℕ)) (fault : Op
 ran_unopened net unread held fault lines back zero some none = record {
   start = first_beside net;
   opens = opens_first net;
-  ran = ran_nothing CommandsBeside Leaves (Unit {0}) (first_beside net) unread held OutOfMemory fault lines back tt zero some none;
+  ran = ran_nothing CommandsBeside LeavesBeside (Unit {0}) (first_beside net) unread held OutOfMemory fault lines back tt zero some none;
 }

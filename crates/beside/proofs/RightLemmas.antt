@@ -34,7 +34,7 @@ use Rattle.versions.specs.Working.{AreWorks, IsOfWorker, IsWorkedOn, Works, show
 use Rattle.versions.specs.declared.state.DeskAndChain.{DeskAndChain}
 use Rattle.versions.proofs.ChainLemmas.{goes_on}
 use Rattle.versions.proofs.KeptLemmas.{abandoned, gave, next_follows, opened, took}
-use Rattle.beside.specs.Beside.{BesideValue, CommandsBeside, DoesAt, Finds, Leaves, Looks, ObeysBeside, Opens, at_console}
+use Rattle.beside.specs.Beside.{BesideValue, CommandsBeside, DoesAt, Finds, LeavesBeside, Looks, ObeysBeside, StartsBeside, at_console}
 use Rattle.beside.specs.Right.{AreRight, AreRightMoments, IsRightAt, IsRightBeside, IsRightScript, Moment, texts}
 use Rattle.beside.proofs.CountLemmas.{Counts, are_grown, post_publishes_none, prefix_right, published_right, pushed_right, run_counts}
 
@@ -294,7 +294,7 @@ right_desk start events desk came = record {
 }
 
 -- a start
-pub keeps_first : (start : Network) (b : BesideValue) → Opens start b → Keeps (new_desk start) [] b.left
+pub keeps_first : (start : Network) (b : BesideValue) → StartsBeside start b → Keeps (new_desk start) [] b.left
 keeps_first start b opens =
     let first : DeskValue = new_desk start in
     let at : IsRightAt first [] None (settled_version 0 [] start) = record { right = right_after first (new_is_steady start) [] [] first refl; within = omega arith } in
@@ -337,7 +337,7 @@ module _ (start : Network) where
 
 -- a script that was answered to its end
 pub script_right : (start : Network) (b : BesideValue) (lines : List (List ℕ)) (text : List ℕ) (after : BesideValue) (left : Network)
-    → Opens start b → Answered CommandsBeside b lines text after → Leaves after left → IsRightScript start lines text
+    → StartsBeside start b → Answered CommandsBeside b lines text after → LeavesBeside after left → IsRightScript start lines text
 script_right start b lines text after left opens answered leaves =
     let later : Later after = (leaves.0, leaves.1) in
     let first : Keeps (new_desk start) [] b.left = keeps_first start b opens in

@@ -32,7 +32,7 @@ use Rattle.answers.specs.Traces.{trace_answer}
 use Rattle.answers.specs.WhatIfs.{what_if_text}
 use Rattle.desk_console.specs.Commands.{Commands, Obeys}
 use Rattle.desk_console.specs.Console.{ConsoleValue, opening}
-use Rattle.desk_console.specs.Does.{Calls, Does, HasMemory, PostsAfter, Syncs as SyncsInLine}
+use Rattle.desk_console.specs.Does.{Calls, Does, HasMemory, PostsAfter, Syncs}
 use Rattle.desk_console.specs.Syncing.{HasKept, caught_up, published_to, synced}
 use Rattle.sessions.specs.Lines.{is_silent, is_too_long, trimmed}
 use Rattle.sessions.specs.Replies.{Answered, IsReply as IsAnswer, Replies}
@@ -40,7 +40,7 @@ use Rattle.versions.specs.Chains.{ChainPrefixValue, EndsWith, GoOn, IsChain}
 use Rattle.versions.specs.Worked.{LosesNothing}
 use Rattle.versions.specs.declared.state.DeskAndChain.{DeskAndChain}
 use Rattle.versions.proofs.WorkedLemmas.{worked_keeps}
-use Rattle.beside.specs.Beside.{BesideValue, CommandsBeside, DoesAt, Finds, Leaves, Looks, ObeysBeside, Opens, Syncs, at_console}
+use Rattle.beside.specs.Beside.{BesideValue, CommandsBeside, DoesAt, Finds, LeavesBeside, Looks, ObeysBeside, StartsBeside, SyncsBeside, at_console}
 use Rattle.beside.specs.Right.{AreRight, IsRightAt}
 use Rattle.beside.specs.Synced.{IsSynced, MayCome, command_in, events_after, said_by}
 use Rattle.desk_console.specs.Taken.{taken_by}
@@ -239,7 +239,7 @@ record Same (n : ℕ) (b : BesideValue) (c : ConsoleValue) : Type 0 where
   ends : EndsWith b.seen last
   near : accepted b.left.desk ≤ last.number + n
 
-first_same : (start : Network) (b : BesideValue) → Opens start b → Same 0 b (opening start)
+first_same : (start : Network) (b : BesideValue) → StartsBeside start b → Same 0 b (opening start)
 first_same start b opens =
     let count : accepted b.left.desk ≡ accepted (new_desk start) = ap accepted opens.desk in
     record {
@@ -390,7 +390,7 @@ module _ (start : DeskValue) (steady : IsSteadyDesk start) (es more : List Event
         )
 
     -- `sync`
-    syncs_same : Syncs b x new → SyncsInLine c y end → (x ≡ y) × Same 0 new end
+    syncs_same : SyncsBeside b x new → Syncs c y end → (x ≡ y) × Same 0 new end
     syncs_same is at =
         let within : is.0.number ≤ accepted b.left.desk = look_within start steady es n b c same keeps is.0 new is.1 later in
         let all : accepted b.left.desk ≤ is.0.number = is.2 in
@@ -459,6 +459,6 @@ lines_same start steady es n b c same keeps (line ∷ lines) synced text after i
 
 -- a script that was answered to its end has the text that it has in line
 pub script_same : (start : Network) (b : BesideValue) (lines : List (List ℕ)) (text : List ℕ) (after : BesideValue) (left : Network) (other : List ℕ) (end : ConsoleValue)
-    → Opens start b → Answered CommandsBeside b lines text after → Leaves after left → IsSynced 0 lines → Answered Commands (opening start) lines other end → text ≡ other
+    → StartsBeside start b → Answered CommandsBeside b lines text after → LeavesBeside after left → IsSynced 0 lines → Answered Commands (opening start) lines other end → text ≡ other
 script_same start b lines text after left other end opens answered leaves synced at =
     lines_same (new_desk start) (new_is_steady start) [] 0 b (opening start) (first_same start b opens) (keeps_first start b opens) lines synced text after answered (leaves.0, leaves.1) other end at

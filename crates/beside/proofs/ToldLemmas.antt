@@ -5,14 +5,14 @@ use Rattle.sessions.specs.Input.{IsUnloaded, RanInput, script_part}
 use Rattle.sessions.specs.Lines.{lines_of}
 use Rattle.sessions.specs.Run.{IsOutcome, IsWhole}
 use Rattle.sessions.specs.declared.faults.Fault.{Fault}
-use Rattle.beside.specs.Beside.{BesideValue, CommandsBeside, Leaves, Opens}
+use Rattle.beside.specs.Beside.{BesideValue, CommandsBeside, LeavesBeside, StartsBeside}
 use Rattle.beside.specs.Runs.{RanBeside}
 use Rattle.beside.specs.Told.{TellsScript, ToldInput, ToldScript}
 use Rattle.beside.proofs.RightLemmas.{script_right}
 use Rattle.beside.proofs.SyncedLemmas.{script_same}
 
 -- all lines of a script were answered
-tells : (start : Network) (b : BesideValue) (left : Option (List ℕ)) (read written : List ℕ) (net : Option Network) → Opens start b → IsWhole CommandsBeside Leaves (Unit {0}) b left read written net
+tells : (start : Network) (b : BesideValue) (left : Option (List ℕ)) (read written : List ℕ) (net : Option Network) → StartsBeside start b → IsWhole CommandsBeside LeavesBeside (Unit {0}) b left read written net
     → TellsScript start (lines_of read) written
 tells start b left read written net opens is = record {
   right = script_right start b (lines_of read) written is.after is.network opens is.answered is.is_left;
@@ -28,10 +28,10 @@ told_script start unread left held holds fault lines net is none =
       consumed = ran.consumed;
       written = ran.written;
       appended = ran.appended;
-      script = tells start is.start left ran.read ran.written net is.opens (subst (λ f. IsOutcome CommandsBeside Leaves (Unit {0}) f is.start left ran.read ran.written net) none ran.outcome);
+      script = tells start is.start left ran.read ran.written net is.opens (subst (λ f. IsOutcome CommandsBeside LeavesBeside (Unit {0}) f is.start left ran.read ran.written net) none ran.outcome);
     }
 
-pub told_input : (unread left held holds : Option (List ℕ)) (fault : Option Fault) (lines : ℕ) (net : Option Network) → RanInput Opens CommandsBeside Leaves (Unit {0}) unread left held holds fault lines net → fault ≡ None
+pub told_input : (unread left held holds : Option (List ℕ)) (fault : Option Fault) (lines : ℕ) (net : Option Network) → RanInput StartsBeside CommandsBeside LeavesBeside (Unit {0}) unread left held holds fault lines net → fault ≡ None
     → ToldInput unread left held holds
 told_input unread left held holds fault lines net ran none = elim ran.outcome [
   | inl w ↦ record {
@@ -42,7 +42,7 @@ told_input unread left held holds fault lines net ran none = elim ran.outcome [
     start = w.over;
     says = w.says;
     script = tells w.over w.start left (script_part ran.read) ran.written net w.opens
-        (subst (λ f. IsOutcome CommandsBeside Leaves (Unit {0}) f w.start left (script_part ran.read) ran.written net) none w.outcome);
+        (subst (λ f. IsOutcome CommandsBeside LeavesBeside (Unit {0}) f w.start left (script_part ran.read) ran.written net) none w.outcome);
   }
   | inr n ↦ absurd (subst (λ f. IsUnloaded f ran.read left) none n.cause)
 ]

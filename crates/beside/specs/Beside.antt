@@ -22,7 +22,7 @@ pub record BesideValue : Type 0 where
   pub seen : List VersionValue
 
 -- it starts with a new desk over a network, whose version 0 alone is published and known
-pub record Opens (net : Network) (b : BesideValue) : Type 0 where
+pub record StartsBeside (net : Network) (b : BesideValue) : Type 0 where
   pub desk : b.left.desk ≡ new_desk net
   pub shown : b.left.shown.chain ≡ settled_version 0 [] net ∷ []
   pub seen : b.seen ≡ settled_version 0 [] net ∷ []
@@ -50,8 +50,8 @@ abbrev pub DoesThere : (ConsoleValue → List ℕ → ConsoleValue → Type 0) �
 DoesThere Done old text new = (found : DeskAndChain) × DoesAt Done old found text new
 
 -- the network that is left is the one after all accepted events
-abbrev pub Leaves : BesideValue → Network → Type 0
-Leaves b net = (found : DeskAndChain) × Finds b found × (net ≡ net_now found.desk)
+abbrev pub LeavesBeside : BesideValue → Network → Type 0
+LeavesBeside b net = (found : DeskAndChain) × Finds b found × (net ≡ net_now found.desk)
 
 -- ---- by a look, without the lock
 
@@ -71,8 +71,8 @@ abbrev pub Asks : Command → BesideValue → List ℕ → BesideValue → Type 
 Asks asked old text new = (version : VersionValue) × Looks old version new × Does asked (showing version) text (showing version)
 
 -- a look shows a version with all events that had been accepted when the script's thread left the hub, and its number is told
-abbrev pub Syncs : BesideValue → List ℕ → BesideValue → Type 0
-Syncs old text new = (version : VersionValue) × Looks old version new × (accepted old.left.desk ≤ version.number) × (text ≡ synced_text version.number)
+abbrev pub SyncsBeside : BesideValue → List ℕ → BesideValue → Type 0
+SyncsBeside old text new = (version : VersionValue) × Looks old version new × (accepted old.left.desk ≤ version.number) × (text ≡ synced_text version.number)
 
 -- ---- all commands
 
@@ -90,7 +90,7 @@ DoesBeside (command.Take k) = Tells bad_line
 DoesBeside (command.Give k) = Tells bad_line
 DoesBeside (command.Abandon k) = Tells bad_line
 DoesBeside command.Publish = Tells bad_line
-DoesBeside command.Sync = Syncs
+DoesBeside command.Sync = SyncsBeside
 DoesBeside command.Version = DoesThere (Does command.Version)
 DoesBeside (command.About asked y x) = Asks (command.About asked y x)
 DoesBeside (command.Trace y x s) = Asks (command.Trace y x s)

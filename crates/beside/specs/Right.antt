@@ -9,7 +9,7 @@ use Rattle.desk_console.specs.Right.{IsRightDesk}
 use Rattle.desk_console.specs.Taken.{taken_by}
 use Rattle.sessions.specs.Lines.{trimmed}
 use Rattle.sessions.specs.Replies.{Replies}
-use Rattle.beside.specs.Beside.{BesideValue, CommandsBeside, Opens}
+use Rattle.beside.specs.Beside.{BesideValue, CommandsBeside, StartsBeside}
 
 -- a version of a chain is the one of its number, which isn't beyond the accepted events; the number of the version before it is told
 pub record IsRightAt (start : DeskValue) (events : List Event) (before : Option ℕ) (version : VersionValue) : Type 0 where
@@ -48,7 +48,7 @@ AreRightMoments start events b (m ∷ moments) =
 -- from a new desk over a network all lines were answered, and all was right before the first line and after each
 pub record IsRightScript (start : Network) (lines : List (List ℕ)) (written : List ℕ) : Type 0 where
   pub opening : BesideValue
-  pub opens : Opens start opening
+  pub opens : StartsBeside start opening
   pub moments : List Moment
   pub asked : lines ≡ map (λ (m : Moment). m.line) moments
   pub told : written ≡ texts moments

@@ -8,7 +8,7 @@ ghost use Rattle.net_versions.specs.Versions.{VersionValue};
 ghost use Rattle.script_words.specs.Commands.{IsWithin, command_of};
 ghost use Rattle.tokens.specs.Words.{words_of};
 ghost use Rattle.sessions.specs.Run.{CutsOff};
-ghost use Rattle.beside.specs.Beside.{DoesBeside, Looks, Syncs};
+ghost use Rattle.beside.specs.Beside.{DoesBeside, Looks, SyncsBeside};
 
 use crate::visitor::Visitor;
 use answers::{write_bad_line, write_synced};
@@ -128,7 +128,7 @@ impl<'a, N: Naming, R: Wait> Beside<'a, N, R> {
 
     /// Waits until all that was accepted is published.
     fn sync(&mut self, alloc: Global) -> Result<String, Fault>
-        ensures does { IfOk result (λ text. Syncs self.old (string_bytes text) self.new) }
+        ensures does { IfOk result (λ text. SyncsBeside self.old (string_bytes text) self.new) }
         ensures plain { IfOk result (λ text. line_count (string_bytes text) ≡ 0) }
         ensures fault { IfErr result (CutsOff (Unit {0})) }
     {
@@ -178,11 +178,11 @@ impl<'a, N: Naming, R: Wait> Beside<'a, N, R> {
 }
 
 impl<'a, N: Naming, R: Wait> Answering for Beside<'a, N, R> {
-    ghost use Rattle.beside.specs.Beside.{CommandsBeside, Leaves};
+    ghost use Rattle.beside.specs.Beside.{CommandsBeside, LeavesBeside};
 
     ghost commands = { CommandsBeside };
 
-    ghost leaves = { Leaves };
+    ghost leaves = { LeavesBeside };
 
     ghost needs_place = { Unit {0} };
 

@@ -12,14 +12,16 @@
 //! 6. A run without a fault gives back the network after all accepted events. It may also end with 50, if there is no place
 //!    for the reader.
 //!
-//! Stands on `sessions`, `desk_console`, `worker_pool`. A change here also changes specs/ (Beside, Runs), proofs/ and
+//! Stands on `sessions`, `desk_console`, `worker_pool`. A change here also changes specs/ (Beside, Right, Runs, Synced, Told), proofs/ and
 //! must-fail/.
 #![tactic(auto)]
 
 mod answering;
 mod asking;
+mod reading;
 mod running;
 mod visitor;
 
 pub use answering::Beside;
-pub use running::{BesideEnd, run_beside, run_input_beside};
+pub use reading::BesideEnd;
+pub use running::{run_beside, run_input_beside};

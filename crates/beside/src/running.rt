@@ -1,19 +1,19 @@
 //! Runs of scripts and inputs beside workers.
 
-ghost use Rattle.std.specs.Prelude.{◌≡◌, ◌<◌, ◌≤◌, ◌*◌, ℕ, IfErr, IfOk, IfSome, List, MatchResult, None, Ok, Option, length, take};
+ghost use Rattle.std.specs.Prelude.{◌≡◌, ◌<◌, ◌≤◌, IfErr, IfOk, MatchResult, None, Ok};
 ghost use Rattle.net_data.specs.Network.{Network};
 ghost use Rattle.net_text.specs.Reading.{Says};
-ghost use Rattle.sessions.specs.Input.{IsLoadFault, IsOpening, RanAfter, RanInput};
-ghost use Rattle.sessions.specs.Run.{Ran};
-ghost use Rattle.beside.specs.Beside.{BesideValue, CommandsBeside, Leaves, Opens};
+ghost use Rattle.sessions.specs.Input.{IsLoadFault, RanInput};
+ghost use Rattle.beside.specs.Beside.{BesideValue, CommandsBeside, LeavesBeside, StartsBeside};
 ghost use Rattle.beside.specs.Runs.{IsFresh, RanBeside};
 ghost use Rattle.beside.specs.Told.{ToldInput, ToldScript};
 
 use crate::answering::Beside;
+use crate::reading::{BesideEnd, Script, Whole};
 use crate::visitor::Visitor;
 use desk_core::Desk;
 use net_data::Net;
-use sessions::{Answering, Fault, Opening, ScriptEnd, ended_by, load_text, read_text, run_lines};
+use sessions::{Fault, ended_by, load_text, read_text};
 use std::alloc::{AllocError, Global};
 use std::io::{Read, Write};
 use std::marker::Brand;
@@ -42,57 +42,6 @@ fn come<N: Naming>(hub: &Hub<N, ByClient>, client: Client<N>) -> Result<Visitor<
     }
 }
 
-/// How a run beside workers ended, with the reader and the writer handed back.
-#[derive(Drop)]
-pub struct BesideEnd<R, W> {
-    /// How the script ended.
-    pub end: ScriptEnd,
-    /// The reader, as far as it was read.
-    pub reader: R,
-    /// The writer, with what was written.
-    pub writer: W,
-}
-
-/// Reads a script, and hands back the reader and the writer.
-fn read_lines<A: Answering, R: Read, W: Write>(
-    alloc: Global,
-    mut reader: R,
-    mut writer: W,
-    start: A,
-) -> BesideEnd<R, W>
-    ensures { Ran A.commands A.leaves A.needs_place start (R.remaining reader) (R.remaining result.reader)
-        (W.contents writer) (W.contents result.writer) result.end.fault result.end.lines result.end.net }
-{
-    let end = run_lines(alloc, &mut reader, &mut writer, start);
-    BesideEnd {
-        end,
-        reader,
-        writer,
-    }
-}
-
-/// Reads the script of an opened input, and hands back the reader and the writer.
-fn read_opened<A: Answering, R: Read, W: Write>(
-    alloc: Global,
-    mut reader: R,
-    mut writer: W,
-    opening: Opening,
-    start: A,
-) -> BesideEnd<R, W>
-    requires script { IfSome opening.script (λ at. at ≤ length opening.bytes.items) }
-    requires few { length opening.bytes.items ≤ opening.reads * 65536 }
-    ensures { (unread : Option (List ℕ)) → IsOpening unread (R.remaining reader) opening
-        → RanAfter A.commands A.leaves A.needs_place (take opening.text opening.bytes.items) start
-        unread (R.remaining result.reader) (W.contents writer) (W.contents result.writer) result.end.fault result.end.lines result.end.net }
-{
-    let end = opening.run(alloc, &mut reader, &mut writer, start);
-    BesideEnd {
-        end,
-        reader,
-        writer,
-    }
-}
-
 /// Reads a script beside workers at a hub.
 fn read_beside<
     N: Naming + Send + Sync,
@@ -100,6 +49,7 @@ fn read_beside<
     G: Gate + Sync,
     R: Read + Drop,
     W: Write + Drop,
+    S: Script,
 >(
     rt: &T,
     alloc: Global,
@@ -109,10 +59,11 @@ fn read_beside<
     writer: W,
     hub: &Mutex<Hub<N, ByClient>>,
     visitor: Visitor<N>,
+    script: S,
 ) -> BesideEnd<R, W>
-    requires { (0 < n) × (n ≤ 32) }
-    ensures { Ran CommandsBeside Leaves (Unit {0}) visitor (R.remaining reader) (R.remaining result.reader)
-        (W.contents writer) (W.contents result.writer) result.end.fault result.end.lines result.end.net }
+    requires workers { (0 < n) × (n ≤ 32) }
+    requires ready { S.ready script }
+    ensures { S.ran script visitor (R.remaining reader) (R.remaining result.reader) (W.contents writer) (W.contents result.writer) result.end }
 {
     let changed = Condvar::new();
     let beside = Beside {
@@ -121,19 +72,28 @@ fn read_beside<
         changed: &changed,
         visitor,
     };
-    let (_, end) = run_pool(rt, alloc, n, hub, &changed, gate, || {
-        read_lines(alloc, reader, writer, beside)
-    });
+    let (_, end) = run_pool(
+        rt,
+        alloc,
+        n,
+        hub,
+        &changed,
+        gate,
+        || -> BesideEnd<R, W>
+            requires { S.ready script }
+        { script.read(alloc, reader, writer, beside) },
+    );
     end
 }
 
-/// Reads a script beside workers at a hub, if somebody came to it.
+/// Reads a script beside workers at a hub, if somebody came to it. If not, nothing is read.
 fn read_if_come<
     N: Naming + Send + Sync,
     T: Threads + Wait + Sync,
     G: Gate + Sync,
     R: Read + Drop,
     W: Write + Drop,
+    S: Script,
 >(
     rt: &T,
     alloc: Global,
@@ -143,19 +103,17 @@ fn read_if_come<
     writer: W,
     hub: &Mutex<Hub<N, ByClient>>,
     come: Result<Visitor<N>, Fault>,
+    script: S,
 ) -> BesideEnd<R, W>
     requires workers { (0 < n) × (n ≤ 32) }
+    requires ready { S.ready script }
     requires fault { IfErr come (λ fault. fault ≡ Fault.NoPlace) }
-    ensures { (start : BesideValue) → IfOk come (λ v. v ≡ start) → Ran CommandsBeside Leaves (Unit {0}) start (R.remaining reader) (R.remaining result.reader)
-        (W.contents writer) (W.contents result.writer) result.end.fault result.end.lines result.end.net }
+    ensures { (start : BesideValue) → IfOk come (λ v. v ≡ start)
+        → S.ran script start (R.remaining reader) (R.remaining result.reader) (W.contents writer) (W.contents result.writer) result.end }
 {
     match come {
-        Ok(visitor) => read_beside(rt, alloc, n, gate, reader, writer, hub, visitor),
-        Err(fault) => BesideEnd {
-            end: ended_by(fault, 0),
-            reader,
-            writer,
-        },
+        Ok(visitor) => read_beside(rt, alloc, n, gate, reader, writer, hub, visitor, script),
+        Err(fault) => script.refuse(reader, writer, fault),
     }
 }
 
@@ -171,6 +129,7 @@ fn read_at<
     G: Gate + Sync,
     R: Read + Drop,
     W: Write + Drop,
+    S: Script,
 >(
     rt: &T,
     alloc: Global,
@@ -180,15 +139,16 @@ fn read_at<
     writer: W,
     hub: Hub<N, ByClient>,
     client: Client<N>,
+    script: S,
 ) -> BesideEnd<R, W>
     requires left { client ≡ hub.state }
     requires workers { (0 < n) × (n ≤ 32) }
-    ensures { Ran CommandsBeside Leaves (Unit {0}) (record { left = hub.state; seen = hub.state.shown.chain }) (R.remaining reader) (R.remaining result.reader)
-        (W.contents writer) (W.contents result.writer) result.end.fault result.end.lines result.end.net }
+    requires ready { S.ready script }
+    ensures { S.ran script (record { left = hub.state; seen = hub.state.shown.chain }) (R.remaining reader) (R.remaining result.reader) (W.contents writer) (W.contents result.writer) result.end }
 {
     let come = come(&hub, client);
     let hub = Mutex::new(hub);
-    let end = read_if_come(rt, alloc, n, gate, reader, writer, &hub, come);
+    let end = read_if_come(rt, alloc, n, gate, reader, writer, &hub, come, script);
     close(rt, hub);
     end
 }
@@ -200,6 +160,7 @@ fn run_named<
     G: Gate + Sync,
     R: Read + Drop,
     W: Write + Drop,
+    S: Script,
 >(
     rt: &T,
     alloc: Global,
@@ -208,19 +169,16 @@ fn run_named<
     reader: R,
     writer: W,
     unnamed: UnnamedWithClient,
+    script: S,
 ) -> BesideEnd<R, W>
     requires names { (unnamed.state.shown.book ≡ N.book) × (unnamed.table ≡ N.table) }
     requires workers { (0 < n) × (n ≤ 32) }
-    ensures { Ran CommandsBeside Leaves (Unit {0}) (record { left = unnamed.state; seen = unnamed.state.shown.chain }) (R.remaining reader) (R.remaining result.reader)
-        (W.contents writer) (W.contents result.writer) result.end.fault result.end.lines result.end.net }
+    requires ready { S.ready script }
+    ensures { S.ran script (record { left = unnamed.state; seen = unnamed.state.shown.chain }) (R.remaining reader) (R.remaining result.reader) (W.contents writer) (W.contents result.writer) result.end }
 {
     match unnamed.named::<N>(alloc) {
-        Ok((hub, client)) => read_at(rt, alloc, n, gate, reader, writer, hub, client),
-        Err(_) => BesideEnd {
-            end: ended_by(Fault::NoPlace, 0),
-            reader,
-            writer,
-        },
+        Ok((hub, client)) => read_at(rt, alloc, n, gate, reader, writer, hub, client, script),
+        Err(_) => script.refuse(reader, writer, Fault::NoPlace),
     }
 }
 
@@ -245,7 +203,9 @@ pub fn run_beside<T: Threads + Wait + Sync, G: Gate + Sync, R: Read + Drop, W: W
     ensures told { result.end.fault ≡ None → ToldScript net (R.remaining reader) (R.remaining result.reader) (W.contents writer) (W.contents result.writer) }
 {
     match open_hub(rt, alloc, net) {
-        Ok(unnamed) => run_named::<Brand, _, _, _, _>(rt, alloc, n, gate, reader, writer, unnamed),
+        Ok(unnamed) => run_named::<Brand, _, _, _, _, _>(
+            rt, alloc, n, gate, reader, writer, unnamed, Whole,
+        ),
         Err(_) => BesideEnd {
             end: ended_by(Fault::OutOfMemory, 0),
             reader,
@@ -265,148 +225,6 @@ fn open_text<R: Wait>(rt: &R, alloc: Global, text: &[u8]) -> Result<UnnamedWithC
     }
 }
 
-/// Runs the script of an opened input beside workers at a hub.
-fn open_beside<
-    N: Naming + Send + Sync,
-    T: Threads + Wait + Sync,
-    G: Gate + Sync,
-    R: Read + Drop,
-    W: Write + Drop,
->(
-    rt: &T,
-    alloc: Global,
-    n: u32,
-    gate: &G,
-    reader: R,
-    writer: W,
-    opening: Opening,
-    hub: &Mutex<Hub<N, ByClient>>,
-    visitor: Visitor<N>,
-) -> BesideEnd<R, W>
-    requires workers { (0 < n) × (n ≤ 32) }
-    requires script { IfSome opening.script (λ at. at ≤ length opening.bytes.items) }
-    requires few { length opening.bytes.items ≤ opening.reads * 65536 }
-    ensures { (unread : Option (List ℕ)) → IsOpening unread (R.remaining reader) opening
-        → RanAfter CommandsBeside Leaves (Unit {0}) (take opening.text opening.bytes.items) visitor
-        unread (R.remaining result.reader) (W.contents writer) (W.contents result.writer) result.end.fault result.end.lines result.end.net }
-{
-    let changed = Condvar::new();
-    let beside = Beside {
-        rt,
-        hub,
-        changed: &changed,
-        visitor,
-    };
-    let (_, end) = run_pool(rt, alloc, n, hub, &changed, gate, || {
-        read_opened(alloc, reader, writer, opening, beside)
-    });
-    end
-}
-
-/// Runs the script of an opened input beside workers at a hub, if somebody came to it.
-fn open_if_come<
-    N: Naming + Send + Sync,
-    T: Threads + Wait + Sync,
-    G: Gate + Sync,
-    R: Read + Drop,
-    W: Write + Drop,
->(
-    rt: &T,
-    alloc: Global,
-    n: u32,
-    gate: &G,
-    reader: R,
-    writer: W,
-    opening: Opening,
-    hub: &Mutex<Hub<N, ByClient>>,
-    come: Result<Visitor<N>, Fault>,
-) -> BesideEnd<R, W>
-    requires workers { (0 < n) × (n ≤ 32) }
-    requires script { IfSome opening.script (λ at. at ≤ length opening.bytes.items) }
-    requires few { length opening.bytes.items ≤ opening.reads * 65536 }
-    requires fault { IfErr come (λ fault. fault ≡ Fault.NoPlace) }
-    ensures { (start : BesideValue) (unread : Option (List ℕ)) → IfOk come (λ v. v ≡ start) → IsOpening unread (R.remaining reader) opening
-        → RanAfter CommandsBeside Leaves (Unit {0}) (take opening.text opening.bytes.items) start
-        unread (R.remaining result.reader) (W.contents writer) (W.contents result.writer) result.end.fault result.end.lines result.end.net }
-{
-    match come {
-        Ok(visitor) => open_beside(rt, alloc, n, gate, reader, writer, opening, hub, visitor),
-        Err(fault) => BesideEnd {
-            end: ended_by(fault, 0),
-            reader,
-            writer,
-        },
-    }
-}
-
-/// Runs the script of an opened input beside workers at a hub, which its client has just left, and ends the hub.
-fn open_at<
-    N: Naming + Send + Sync,
-    T: Threads + Wait + Sync,
-    G: Gate + Sync,
-    R: Read + Drop,
-    W: Write + Drop,
->(
-    rt: &T,
-    alloc: Global,
-    n: u32,
-    gate: &G,
-    reader: R,
-    writer: W,
-    opening: Opening,
-    hub: Hub<N, ByClient>,
-    client: Client<N>,
-) -> BesideEnd<R, W>
-    requires left { client ≡ hub.state }
-    requires workers { (0 < n) × (n ≤ 32) }
-    requires script { IfSome opening.script (λ at. at ≤ length opening.bytes.items) }
-    requires few { length opening.bytes.items ≤ opening.reads * 65536 }
-    ensures { (unread : Option (List ℕ)) → IsOpening unread (R.remaining reader) opening
-        → RanAfter CommandsBeside Leaves (Unit {0}) (take opening.text opening.bytes.items) (record { left = hub.state; seen = hub.state.shown.chain })
-        unread (R.remaining result.reader) (W.contents writer) (W.contents result.writer) result.end.fault result.end.lines result.end.net }
-{
-    let come = come(&hub, client);
-    let hub = Mutex::new(hub);
-    let end = open_if_come(rt, alloc, n, gate, reader, writer, opening, &hub, come);
-    close(rt, hub);
-    end
-}
-
-/// Runs the script of an opened input beside workers, at a hub that gets its name here.
-fn run_opening<
-    N: Naming + Send + Sync,
-    T: Threads + Wait + Sync,
-    G: Gate + Sync,
-    R: Read + Drop,
-    W: Write + Drop,
->(
-    rt: &T,
-    alloc: Global,
-    n: u32,
-    gate: &G,
-    reader: R,
-    writer: W,
-    opening: Opening,
-    unnamed: UnnamedWithClient,
-) -> BesideEnd<R, W>
-    requires names { (unnamed.state.shown.book ≡ N.book) × (unnamed.table ≡ N.table) }
-    requires workers { (0 < n) × (n ≤ 32) }
-    requires script { IfSome opening.script (λ at. at ≤ length opening.bytes.items) }
-    requires few { length opening.bytes.items ≤ opening.reads * 65536 }
-    ensures { (unread : Option (List ℕ)) → IsOpening unread (R.remaining reader) opening
-        → RanAfter CommandsBeside Leaves (Unit {0}) (take opening.text opening.bytes.items) (record { left = unnamed.state; seen = unnamed.state.shown.chain })
-        unread (R.remaining result.reader) (W.contents writer) (W.contents result.writer) result.end.fault result.end.lines result.end.net }
-{
-    match unnamed.named::<N>(alloc) {
-        Ok((hub, client)) => { open_at(rt, alloc, n, gate, reader, writer, opening, hub, client) }
-        Err(_) => BesideEnd {
-            end: ended_by(Fault::NoPlace, 0),
-            reader,
-            writer,
-        },
-    }
-}
-
 /// Reads a network text up to the line `%%`, and then a script to its end, as `run_beside` does it from a new desk over that
 /// network. Without that line the whole input is the network text. Nothing is written unless the network text was read and
 /// loaded.
@@ -422,7 +240,7 @@ pub fn run_input_beside<T: Threads + Wait + Sync, G: Gate + Sync, R: Read + Drop
     writer: W,
 ) -> BesideEnd<R, W>
     requires { (0 < n) × (n ≤ 32) }
-    ensures ran { RanInput Opens CommandsBeside Leaves (Unit {0}) (R.remaining reader) (R.remaining result.reader)
+    ensures ran { RanInput StartsBeside CommandsBeside LeavesBeside (Unit {0}) (R.remaining reader) (R.remaining result.reader)
         (W.contents writer) (W.contents result.writer) result.end.fault result.end.lines result.end.net }
     ensures told { result.end.fault ≡ None → ToldInput (R.remaining reader) (R.remaining result.reader) (W.contents writer) (W.contents result.writer) }
 {
@@ -436,7 +254,7 @@ pub fn run_input_beside<T: Threads + Wait + Sync, G: Gate + Sync, R: Read + Drop
     };
     match open_text(rt, alloc, &opening.bytes[..opening.text]) {
         Ok(unnamed) => {
-            run_opening::<Brand, _, _, _, _>(rt, alloc, n, gate, reader, writer, opening, unnamed)
+            run_named::<Brand, _, _, _, _, _>(rt, alloc, n, gate, reader, writer, unnamed, opening)
         }
         Err(fault) => BesideEnd {
             end: ended_by(fault, 0),

@@ -9,7 +9,7 @@ ghost use Rattle.desk_core.specs.Desk.{accepted};
 ghost use Rattle.desk_core.specs.Steps.{Posts};
 ghost use Rattle.desk_console.specs.Does.{Calls, PostsNext, Tells, version_of};
 ghost use Rattle.sessions.specs.Run.{CutsOff};
-ghost use Rattle.beside.specs.Beside.{DoesAt, DoesThere, Finds, Leaves, Looks};
+ghost use Rattle.beside.specs.Beside.{DoesAt, DoesThere, Finds, LeavesBeside, Looks};
 
 use answers::{write_posted, write_refused, write_version};
 use desk_console::has_memory;
@@ -178,7 +178,7 @@ impl<N: Naming> Visitor<N> {
         alloc: Global,
         hub: &mut Hub<N, ByClient>,
     ) -> Result<Net, Fault>
-        ensures net { IfOk result (Leaves self.old) }
+        ensures net { IfOk result (LeavesBeside self.old) }
         ensures fault { IfErr result (CutsOff (Unit {0})) }
     {
         self.visit(rt, hub)?;

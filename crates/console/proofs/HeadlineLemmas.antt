@@ -10,7 +10,7 @@ use Rattle.desk_console.proofs.RightLemmas.{right_first, right_line, right_still
 use Rattle.sessions.specs.Lines.{is_silent, is_too_long, last_line, lines_of, rest_of, trimmed, whole_lines}
 use Rattle.sessions.specs.Replies.{Answered, IsReply, Replies}
 use Rattle.sessions.specs.Input.{RanInput, script_part}
-use Rattle.console.specs.InLine.{Leaves, Opens}
+use Rattle.console.specs.InLine.{LeavesInLine, StartsInLine}
 use Rattle.sessions.specs.Run.{IsAnsweredInPart, IsOutcome, IsPrefixOf, Ran}
 use Rattle.sessions.specs.declared.faults.Fault.{Fault}
 use Rattle.sessions.specs.declared.faults.Fault.TheVariants.{OutOfMemory, Read, Write, NoPlace, Load}
@@ -63,7 +63,7 @@ script_right start lines done left text written after whole answered front =
 all_of : (text : List ℕ) → IsPrefixOf text text
 all_of text = ([], sym (append-nil text))
 
-outcome_right : (fault : Option Fault) (start : Network) (left : Option (List ℕ)) (read written : List ℕ) (net : Option Network) → IsOutcome Commands Leaves ⊥ fault (opening start) left read written net → IsRightScript start (lines_of read) written
+outcome_right : (fault : Option Fault) (start : Network) (left : Option (List ℕ)) (read written : List ℕ) (net : Option Network) → IsOutcome Commands LeavesInLine ⊥ fault (opening start) left read written net → IsRightScript start (lines_of read) written
 outcome_right None start left read written net is = script_right start (lines_of read) (lines_of read) [] written written is.after (sym (append-nil (lines_of read))) is.answered (all_of written)
 outcome_right (Some Read) start left read written net is = script_right start (lines_of read) (whole_lines read) (last_line (rest_of read)) written written is.0.0 refl is.0.1 (all_of written)
 outcome_right (Some Write) start left read written net is = part is.0
@@ -78,12 +78,12 @@ outcome_right (Some NoPlace) start left read written net is = absurd is.0
 outcome_right (Some (Load e)) start left read written net is = absurd is
 
 -- a run from the same start
-pub ran_same : (c d : ConsoleValue) (unread left held holds : Option (List ℕ)) (fault : Option Fault) (lines : ℕ) (net : Option Network) → c ≡ d → Ran Commands Leaves ⊥ c unread left held holds fault lines net
-    → Ran Commands Leaves ⊥ d unread left held holds fault lines net
-ran_same c d unread left held holds fault lines net same ran = subst (λ s. Ran Commands Leaves ⊥ s unread left held holds fault lines net) same ran
+pub ran_same : (c d : ConsoleValue) (unread left held holds : Option (List ℕ)) (fault : Option Fault) (lines : ℕ) (net : Option Network) → c ≡ d → Ran Commands LeavesInLine ⊥ c unread left held holds fault lines net
+    → Ran Commands LeavesInLine ⊥ d unread left held holds fault lines net
+ran_same c d unread left held holds fault lines net same ran = subst (λ s. Ran Commands LeavesInLine ⊥ s unread left held holds fault lines net) same ran
 
 -- a run of a script
-pub ran_right : (start : Network) (unread left held holds : Option (List ℕ)) (fault : Option Fault) (lines : ℕ) (net : Option Network) → Ran Commands Leaves ⊥ (opening start) unread left held holds fault lines net → RanRight start unread left held holds
+pub ran_right : (start : Network) (unread left held holds : Option (List ℕ)) (fault : Option Fault) (lines : ℕ) (net : Option Network) → Ran Commands LeavesInLine ⊥ (opening start) unread left held holds fault lines net → RanRight start unread left held holds
 ran_right start unread left held holds fault lines net ran = record {
   read = ran.read;
   consumed = ran.consumed;
@@ -93,7 +93,7 @@ ran_right start unread left held holds fault lines net ran = record {
 }
 
 -- a run of an input
-pub ran_input_right : (unread left held holds : Option (List ℕ)) (fault : Option Fault) (lines : ℕ) (net : Option Network) → RanInput Opens Commands Leaves ⊥ unread left held holds fault lines net → RanInputRight unread left held holds
+pub ran_input_right : (unread left held holds : Option (List ℕ)) (fault : Option Fault) (lines : ℕ) (net : Option Network) → RanInput StartsInLine Commands LeavesInLine ⊥ unread left held holds fault lines net → RanInputRight unread left held holds
 ran_input_right unread left held holds fault lines net ran = record {
   read = ran.read;
   consumed = ran.consumed;
@@ -103,7 +103,7 @@ ran_input_right unread left held holds fault lines net ran = record {
     | inl w ↦ inr (record {
       start = w.over;
       says = w.says;
-      script = outcome_right fault w.over left (script_part ran.read) ran.written net (subst (λ c. IsOutcome Commands Leaves ⊥ fault c left (script_part ran.read) ran.written net) w.opens w.outcome);
+      script = outcome_right fault w.over left (script_part ran.read) ran.written net (subst (λ c. IsOutcome Commands LeavesInLine ⊥ fault c left (script_part ran.read) ran.written net) w.opens w.outcome);
     })
     | inr n ↦ inl n.none
   ];

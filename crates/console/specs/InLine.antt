@@ -4,9 +4,9 @@ use Rattle.net_data.specs.Network.{Network}
 use Rattle.desk_console.specs.Console.{ConsoleValue, net_of, opening}
 
 -- it starts with a new desk over a network
-abbrev pub Opens : Network → ConsoleValue → Type 0
-Opens net c = c ≡ opening net
+abbrev pub StartsInLine : Network → ConsoleValue → Type 0
+StartsInLine net c = c ≡ opening net
 
 -- the network that is left is the one after all accepted events
-abbrev pub Leaves : ConsoleValue → Network → Type 0
-Leaves c net = net ≡ net_of c
+abbrev pub LeavesInLine : ConsoleValue → Network → Type 0
+LeavesInLine c net = net ≡ net_of c

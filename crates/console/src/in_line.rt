@@ -35,11 +35,11 @@ impl InLine {
 
 impl Answering for InLine {
     ghost use Rattle.desk_console.specs.Commands.{Commands};
-    ghost use Rattle.console.specs.InLine.{Leaves};
+    ghost use Rattle.console.specs.InLine.{LeavesInLine};
 
     ghost commands = { Commands };
 
-    ghost leaves = { Leaves };
+    ghost leaves = { LeavesInLine };
 
     ghost needs_place = { ⊥ };
 

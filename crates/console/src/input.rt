@@ -6,7 +6,7 @@ ghost use Rattle.net_text.specs.Reading.{Says};
 ghost use Rattle.desk_console.specs.Commands.{Commands};
 ghost use Rattle.sessions.specs.Input.{IsLoadFault, RanInput};
 ghost use Rattle.console.specs.Headline.{RanInputRight};
-ghost use Rattle.console.specs.InLine.{Leaves, Opens};
+ghost use Rattle.console.specs.InLine.{LeavesInLine, StartsInLine};
 
 use crate::in_line::InLine;
 use sessions::{Fault, ScriptEnd, ended_by, load_text, read_text};
@@ -15,7 +15,7 @@ use std::io::{Read, Write};
 
 /// A new desk over the network that a text says, worked on in line.
 fn open_text(alloc: Global, text: &[u8]) -> Result<InLine, Fault>
-    ensures { MatchResult result (λ c. (net : Network) × Says text.now (Ok net) × Opens net c) (IsLoadFault text.now) }
+    ensures { MatchResult result (λ c. (net : Network) × Says text.now (Ok net) × StartsInLine net c) (IsLoadFault text.now) }
 {
     let net = load_text(alloc, text)?;
     match InLine::start(alloc, net) {
@@ -31,7 +31,7 @@ fn open_text(alloc: Global, text: &[u8]) -> Result<InLine, Fault>
 /// - `ran`: what is read, what is written, how it ends, and by which fault.
 /// - `right`: at each line the published version is the one of its number, as `run_script` says it.
 pub fn run_input<R: Read, W: Write>(alloc: Global, reader: &mut R, writer: &mut W) -> ScriptEnd
-    ensures ran { RanInput Opens Commands Leaves ⊥ (R.remaining reader.old) (R.remaining reader.new)
+    ensures ran { RanInput StartsInLine Commands LeavesInLine ⊥ (R.remaining reader.old) (R.remaining reader.new)
         (W.contents writer.old) (W.contents writer.new) result.fault result.lines result.net }
     ensures right { RanInputRight (R.remaining reader.old) (R.remaining reader.new) (W.contents writer.old) (W.contents writer.new) }
 {

@@ -4,7 +4,7 @@ ghost use Rattle.desk_console.specs.Commands.{Commands};
 ghost use Rattle.desk_console.specs.Console.{opening};
 ghost use Rattle.sessions.specs.Run.{Ran};
 ghost use Rattle.console.specs.Headline.{RanRight};
-ghost use Rattle.console.specs.InLine.{Leaves};
+ghost use Rattle.console.specs.InLine.{LeavesInLine};
 
 use crate::in_line::InLine;
 use net_data::Net;
@@ -26,7 +26,7 @@ pub fn run_script<R: Read, W: Write>(
     writer: &mut W,
     net: Net,
 ) -> ScriptEnd
-    ensures ran { Ran Commands Leaves ⊥ (opening net) (R.remaining reader.old) (R.remaining reader.new)
+    ensures ran { Ran Commands LeavesInLine ⊥ (opening net) (R.remaining reader.old) (R.remaining reader.new)
         (W.contents writer.old) (W.contents writer.new) result.fault result.lines result.net }
     ensures right { RanRight net (R.remaining reader.old) (R.remaining reader.new) (W.contents writer.old) (W.contents writer.new) }
 {

@@ -1,6 +1,6 @@
 use Rattle.desk_console.specs.Commands.{Commands}
 use Rattle.desk_console.specs.Console.{opening}
-use Rattle.console.specs.InLine.{Leaves}
+use Rattle.console.specs.InLine.{LeavesInLine}
 use Rattle.console.proofs.HeadlineLemmas.{ran_right, ran_same}
 use Rattle.sessions.specs.declared.faults.Fault.TheVariants.{OutOfMemory}
 use Rattle.sessions.proofs.RunLemmas.{ran_nothing}
@@ -15,7 +15,7 @@ returns-in-Ok-clause-right g c = ran_right c.args.net _ _ _ _ _ _ _ (returns-in-
 pub returns-in-Err-clause-ran : goal.returns-in-Err-clause-ran
 returns-in-Err-clause-ran g c =
     let end = c.ended_by.ensures in
-    ran_nothing Commands Leaves ⊥ (opening c.args.net) _ _ OutOfMemory _ _ _ tt end.lines end.fault end.net
+    ran_nothing Commands LeavesInLine ⊥ (opening c.args.net) _ _ OutOfMemory _ _ _ tt end.lines end.fault end.net
 
 pub returns-in-Err-clause-right : goal.returns-in-Err-clause-right
 returns-in-Err-clause-right g c = ran_right c.args.net _ _ _ _ _ _ _ (returns-in-Err-clause-ran g c)
