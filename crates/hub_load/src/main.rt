@@ -20,6 +20,7 @@ use crate::soaking::{Soak, run_soak};
 use crate::timing::{tell, time_looks, time_posts};
 use desk_core::Desk;
 use sessions::read_net;
+use std::alloc::{AllocError, Global};
 use std::marker::Brand;
 use std::process::ExitCode;
 use std::sync::{Mutex, Wait};
@@ -35,20 +36,29 @@ enum Load {
     Posts(u64),
 }
 
+/// A soak with that many threads of each kind, and that many events.
+fn read_soak(workers: &str, readers: &str, collectors: &str, events: &str) -> Option<Soak> {
+    Some(Soak {
+        workers: workers.parse::<u32>().ok()?,
+        readers: readers.parse::<u32>().ok()?,
+        collectors: collectors.parse::<u8>().ok()?,
+        events: events.parse::<u64>().ok()?,
+    })
+}
+
+/// Looks of that many readers, so many of each.
+fn read_looks(readers: &str, count: &str) -> Option<Load> {
+    Some(Load::Looks(readers.parse::<u32>().ok()?, count.parse::<u64>().ok()?))
+}
+
 /// What the words of the command line ask for.
 fn read_load(words: &[&str]) -> Option<Load> {
     match words {
-        [_, "soak", workers, readers, collectors, events] => Some(Load::Soak(Soak {
-            workers: workers.parse::<u32>().ok()?,
-            readers: readers.parse::<u32>().ok()?,
-            collectors: collectors.parse::<u8>().ok()?,
-            events: events.parse::<u64>().ok()?,
-        })),
-        [_, "looks", readers, count] => Some(Load::Looks(
-            readers.parse::<u32>().ok()?,
-            count.parse::<u64>().ok()?,
-        )),
-        [_, "posts", count] => Some(Load::Posts(count.parse::<u64>().ok()?)),
+        [_, "soak", workers, readers, collectors, events] => {
+            read_soak(workers, readers, collectors, events).map(Load::Soak)
+        }
+        [_, "looks", readers, count] => read_looks(readers, count),
+        [_, "posts", count] => count.parse::<u64>().ok().map(Load::Posts),
         _ => None,
     }
 }
@@ -123,11 +133,17 @@ fn serve(
     }
 }
 
-fn main(rt: HostRuntime) -> io::Result<ExitCode> {
-    let words: Vec<String> = env::args(&rt)?.collect(rt.alloc())?;
-    let mut texts = Vec::with_capacity(rt.alloc(), words.len())?;
-    for word in &words {
+/// The words as texts.
+fn texts(alloc: Global, words: &[String]) -> Result<Vec<&str>, AllocError> {
+    let mut texts = Vec::with_capacity(alloc, words.len())?;
+    for word in words {
         texts.push(word.as_str())?;
     }
+    Ok(texts)
+}
+
+fn main(rt: HostRuntime) -> io::Result<ExitCode> {
+    let words: Vec<String> = env::args(&rt)?.collect(rt.alloc())?;
+    let texts = texts(rt.alloc(), words.as_slice())?;
     serve(&rt, &rt, texts.as_slice())
 }

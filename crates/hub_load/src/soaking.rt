@@ -94,20 +94,23 @@ fn collect<N: Naming, R: Wait>(
     unreachable!()
 }
 
+/// The number that a look sees; none if it is refused.
+fn look_number<N: Naming>(reader: &mut Reader<N>) -> Option<u64> {
+    match reader.look() {
+        Ok(version) => Some(version.number()),
+        Err(_) => None,
+    }
+}
+
 /// A reader looks until all is published.
 fn watch<N: Naming, R: Wait>(rt: &R, mut reader: Reader<N>, tally: &Tally) {
     let mut last = 0u64;
     let mut looks = 0u64;
     let mut back = 0u64;
     for _ in rt.forever() {
-        match reader.look() {
-            Ok(version) => {
-                if version.number() < last {
-                    back = back.saturating_add(1);
-                }
-                last = version.number();
-            }
-            Err(_) => back = back.saturating_add(1),
+        match look_number(&mut reader) {
+            Some(number) if number >= last => last = number,
+            _ => back = back.saturating_add(1),
         }
         looks = looks.saturating_add(1);
         if tally.done.load(Ordering::SeqCst) {
@@ -117,6 +120,11 @@ fn watch<N: Naming, R: Wait>(rt: &R, mut reader: Reader<N>, tally: &Tally) {
         }
     }
     unreachable!()
+}
+
+/// A reader of the hub, if there is a place.
+pub(crate) fn reader_at<N: Naming, R: Wait>(rt: &R, hub: &Mutex<Hub<N>>) -> Option<Reader<N>> {
+    hub.lock(rt).reader().ok()
 }
 
 /// Waits until that many events are published.
@@ -202,7 +210,7 @@ fn drive<N: Naming + Send + Sync, R: Threads + Wait + Sync>(
 ) {
     thread::scope(thread::scope_env(), rt, |scope| {
         for _ in 0..load.readers {
-            if let Ok(reader) = hub.lock(rt).reader() {
+            if let Some(reader) = reader_at(rt, hub) {
                 let _ = scope.spawn(move || watch(rt, reader, tally));
             }
         }

@@ -1,5 +1,6 @@
 //! What a look costs, and what a post.
 
+use crate::soaking::reader_at;
 use link_state::LinkChange;
 use net_data::Event;
 use std::alloc::Global;
@@ -26,7 +27,7 @@ fn look_all<N: Naming + Send + Sync, R: Threads + Wait + Sync>(
 ) {
     thread::scope(thread::scope_env(), threads, |scope| {
         for _ in 0..readers {
-            if let Ok(reader) = hub.lock(threads).reader() {
+            if let Some(reader) = reader_at(threads, hub) {
                 let _ = scope.spawn(move || look(reader, count));
             }
         }
