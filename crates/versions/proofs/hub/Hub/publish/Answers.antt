@@ -1,1 +1,0 @@
-use Rattle.versions.proofs.hub.Hub.publish.Goals as goal
