@@ -12,8 +12,8 @@
 //! 6. A run without a fault gives back the network after all accepted events. It may also end with 50, if there is no place
 //!    for the reader.
 //!
-//! Stands on `sessions`, `desk_console`, `worker_pool`. A change here also changes specs/ (Beside, Right, Runs, Synced, Told), proofs/ and
-//! must-fail/.
+//! Stands on `sessions`, `desk_console`, `worker_pool`. A change here also changes specs/ (Beside, Right, Runs, Synced,
+//! Told), proofs/ and must-fail/.
 #![tactic(auto)]
 
 mod answering;
