@@ -2,7 +2,7 @@
 # gate.sh PROGRAM: the gate. Every crate and its tests are proved from nothing, the wrong edits tried, the tests and the stored run
 # compared; then the program that was just built runs the transcripts of the pages and the worked examples, and is deprived of memory,
 # input and output. The line before the last tells the processor time of all this, and with MEASURE=1 also how many times that of a
-# first check of net_items at one job it is, which is made before. The last line is 'N passed, M failed'.
+# first check of net_items at one job it is, which is made before and isn't counted. The last line is 'N passed, M failed'.
 cd "$(dirname "$0")/.."
 log=$(mktemp)
 trap 'rm -f "$log"' EXIT
@@ -29,9 +29,14 @@ first_check() {
     rm -rf "$tree"
 }
 
+# the processor time in a file to which `times` wrote: that of all that the shell has started and seen end, in whole seconds
+in_children() { tail -1 "$1" | awk -F'[ms ]+' '{ print int($1 * 60 + $2 + $3 * 60 + $4) }'; }
+
 [ -n "$MEASURE" ] && unit=$(first_check)
 # a check of less than half a minute took over what another check on this machine had proved
 [ "${unit:-0}" -ge 30 ] || unit=
+times > "$log"
+before=$(in_children "$log")
 rt ci | tee "$log"
 status=${PIPESTATUS[0]}
 read -r passed failed <<< "$(tail -1 "$log" | sed -n 's/^\([0-9]*\) passed, \([0-9]*\) failed$/\1 \2/p')"
@@ -55,7 +60,7 @@ add scripts/transcripts.py "$1" README.md docs/*.md
 add scripts/worked.py "$1"
 add scripts/hostile.py --short "$1"
 times > "$log"
-spent=$(tail -1 "$log" | awk -F'[ms ]+' '{ print int($1 * 60 + $2 + $3 * 60 + $4) }')
+spent=$(($(in_children "$log") - before))
 echo "processor time: $spent s${unit:+, $((spent / unit)) times the first check of net_items ($unit s)}"
 echo "$passed passed, $failed failed"
 [ $failed -eq 0 ]

@@ -5,7 +5,8 @@ cd "$(dirname "$0")/.."
 events=${1:-30000000}
 load=crates/hub_load/out/hub_load
 (cd crates/hub_load && rt run -- posts 1 < ../../examples/national.toml) > /dev/null || exit 1
-for words in "looks 1 10000000" "looks 2 5000000" "looks 4 2000000" "looks 8 1000000" "posts 60000"; do
+for words in "looks 1 10000000" "looks 2 5000000" "looks 4 2000000" "looks 8 1000000" "refreshes 1 10000000" "refreshes 2 10000000" "refreshes 4 10000000" \
+    "refreshes 8 10000000" "posts 60000"; do
     $load $words < examples/national.toml
 done
 $load soak 32 8 16 "$events" < examples/national.toml &

@@ -3,7 +3,8 @@
 //! 1. `hub_load soak WORKERS READERS COLLECTORS EVENTS` reads a network text from standard input. Beside that many workers
 //!    and readers, that many collectors post the failure and the return of a link in turn, each under its own number, EVENTS
 //!    in all; a post that is refused since too many events wait is tried again. Once all is published it tells what became of it.
-//! 2. `hub_load looks READERS COUNT` has that many readers look COUNT times each, at a hub where nothing is published.
+//! 2. `hub_load looks READERS COUNT` has that many readers look COUNT times each, at a hub where nothing is published;
+//!    `hub_load refreshes READERS COUNT` the same, by the look that gives no share of the version.
 //! 3. `hub_load posts COUNT` posts COUNT times, each with the lock and the wake.
 //!
 //! Standard output tells what was counted, which is the same in each run, and standard error what was timed.
@@ -17,7 +18,7 @@ mod soaking;
 mod timing;
 
 use crate::soaking::{Soak, run_soak};
-use crate::timing::{tell, time_looks, time_posts};
+use crate::timing::{Way, tell, time_looks, time_posts};
 use desk_core::Desk;
 use sessions::read_net;
 use std::alloc::{AllocError, Global};
@@ -32,7 +33,7 @@ use versions::{Hub, Naming, Unnamed};
 #[derive(Clone, Copy)]
 enum Load {
     Soak(Soak),
-    Looks(u32, u64),
+    Looks(Way, u32, u64),
     Posts(u64),
 }
 
@@ -47,8 +48,12 @@ fn read_soak(workers: &str, readers: &str, collectors: &str, events: &str) -> Op
 }
 
 /// Looks of that many readers, so many of each.
-fn read_looks(readers: &str, count: &str) -> Option<Load> {
-    Some(Load::Looks(readers.parse::<u32>().ok()?, count.parse::<u64>().ok()?))
+fn read_looks(way: Way, readers: &str, count: &str) -> Option<Load> {
+    Some(Load::Looks(
+        way,
+        readers.parse::<u32>().ok()?,
+        count.parse::<u64>().ok()?,
+    ))
 }
 
 /// What the words of the command line ask for.
@@ -57,7 +62,8 @@ fn read_load(words: &[&str]) -> Option<Load> {
         [_, "soak", workers, readers, collectors, events] => {
             read_soak(workers, readers, collectors, events).map(Load::Soak)
         }
-        [_, "looks", readers, count] => read_looks(readers, count),
+        [_, "looks", readers, count] => read_looks(Way::Look, readers, count),
+        [_, "refreshes", readers, count] => read_looks(Way::Refresh, readers, count),
         [_, "posts", count] => count.parse::<u64>().ok().map(Load::Posts),
         _ => None,
     }
@@ -72,8 +78,8 @@ fn run_at<N: Naming + Send + Sync, R: Threads + Wait + Sync>(
 ) -> io::Result<ExitCode> {
     match load {
         Load::Soak(load) => run_soak(rt, threads, hub, load),
-        Load::Looks(readers, count) => {
-            let nanos = time_looks(rt, threads, hub, readers, count)?;
+        Load::Looks(way, readers, count) => {
+            let nanos = time_looks(rt, threads, hub, way, readers, count)?;
             tell(rt, count, "looks of each reader", nanos)
         }
         Load::Posts(count) => {
@@ -120,7 +126,7 @@ fn serve(
 ) -> io::Result<ExitCode> {
     let Some(asked) = read_load(words) else {
         eprintln!(rt;
-            "hub_load: soak WORKERS READERS COLLECTORS EVENTS, looks READERS COUNT or posts COUNT"
+            "hub_load: soak WORKERS READERS COLLECTORS EVENTS, looks READERS COUNT, refreshes READERS COUNT or posts COUNT"
         )?;
         return Ok(ExitCode::from(2));
     };

@@ -11,10 +11,22 @@ use std::time::Instant;
 use std::{io, thread};
 use versions::{Hub, Naming, Reader};
 
+/// Which way a reader looks.
+#[derive(Clone, Copy)]
+pub(crate) enum Way {
+    /// `look`, which gives a share of the version.
+    Look,
+    /// `refresh`, which gives none.
+    Refresh,
+}
+
 /// That many looks.
-fn look<N: Naming>(mut reader: Reader<N>, count: u64) {
+fn look<N: Naming>(mut reader: Reader<N>, way: Way, count: u64) {
     for _ in 0..count {
-        let _ = reader.look();
+        let _ = match way {
+            Way::Look => reader.look().map(|_| ()),
+            Way::Refresh => reader.refresh(),
+        };
     }
 }
 
@@ -22,13 +34,14 @@ fn look<N: Naming>(mut reader: Reader<N>, count: u64) {
 fn look_all<N: Naming + Send + Sync, R: Threads + Wait + Sync>(
     threads: &R,
     hub: &Mutex<Hub<N>>,
+    way: Way,
     readers: u32,
     count: u64,
 ) {
     thread::scope(thread::scope_env(), threads, |scope| {
         for _ in 0..readers {
             if let Some(reader) = reader_at(threads, hub) {
-                let _ = scope.spawn(move || look(reader, count));
+                let _ = scope.spawn(move || look(reader, way, count));
             }
         }
     });
@@ -39,11 +52,12 @@ pub(crate) fn time_looks<N: Naming + Send + Sync, R: Threads + Wait + Sync>(
     rt: &HostRuntime,
     threads: &R,
     hub: &Mutex<Hub<N>>,
+    way: Way,
     readers: u32,
     count: u64,
 ) -> io::Result<u128> {
     let start = Instant::now(rt)?;
-    look_all(threads, hub, readers, count);
+    look_all(threads, hub, way, readers, count);
     Ok(start.elapsed(rt)?.as_nanos())
 }
 

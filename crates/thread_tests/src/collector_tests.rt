@@ -76,13 +76,17 @@ fn table_of(rt: &impl Abort, alloc: Global, version: &Version) -> Table {
     table.expect(rt, "a plan")
 }
 
-/// A reader in another thread learns a note and looks.
+/// A reader in another thread learns a note and looks, both ways.
 fn look_after<N: Naming, R: Abort>(rt: &R, alloc: Global, mut reader: Reader<N>, note: Note<N>) {
     reader.learn(note);
     let seen = reader.look().expect(rt, "a version");
     assert!(rt; seen.number() >= 4001);
     let table = table_of(rt, alloc, &seen);
     expect_mate(rt, &table);
+    assert_eq!(rt;
+        (reader.refresh(), reader.newest().number()),
+        (Ok(()), seen.number())
+    );
 }
 
 /// The collectors beside two workers.
