@@ -1,3 +1,5 @@
+use Rattle.std.proofs.lemmas.Grind.{common_steps}
+use Rattle.std.proofs.Common.{rules, arith}
 use Rattle.std.proofs.lemmas.Result.{err_from_is_err_and}
 use Rattle.desk_console.proofs.KeptLemmas.{kept_over}
 use Rattle.desk_console.proofs.RunLemmas.{goes_on}
@@ -15,3 +17,9 @@ returns-in_err-catch_up-clause-run c = goes_on c.args.desk.now c.close.new.desk 
 
 pub returns-clause-run : goal.returns-clause-run
 returns-clause-run c = goes_on c.args.desk.now c.close.new.desk c.catch_up.new.desk c.close.ensures.run c.catch_up.ensures.run
+
+pub returns-clause-ok : goal.returns-clause-ok
+returns-clause-ok c = grind (arith, common_steps)
+
+pub returns-clause-published : goal.returns-clause-published
+returns-clause-published c = search rules

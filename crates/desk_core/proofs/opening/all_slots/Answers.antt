@@ -1,3 +1,4 @@
+use Rattle.std.proofs.lemmas.Grind.{common_steps}
 use Rattle.std.proofs.Common.{◌≡◌, ◌++◌, ◌<◌, ◌+◌, List, ap, sym, ◌∙◌, arith, length, map, drop}
 use Rattle.net_items.specs.declared.items.Plan.{Plan}
 use Rattle.net_data.specs.Network.{Network}
@@ -13,3 +14,6 @@ loop-position-preserved c =
     let f : Plan → RoutingSlotValue = routing_slot_of c.args.net.now (marks_of c.args.touched.now).touched in
     ap (λ (l : List RoutingSlotValue). l ++ map f (drop (c.loop-position.position + 1) c.args.net.now.plans)) c.in_ok-push.ensures.items
     ∙ made_more f c.args.net.now.plans c.loop-position.position c.in_ok-slot_at.field-0.excerpt.plan c.loop-position.slots.items _ c.in_ok-slot_at.field-0 low (c.in_ok-slot_at.ensures c.in_ok-slot_at.field-0.excerpt.plan) c.loop-position.invariant
+
+pub returns : goal.returns
+returns c = grind (arith, common_steps)

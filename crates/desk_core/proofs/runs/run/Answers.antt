@@ -1,4 +1,4 @@
-use Rattle.std.proofs.Common.{◌≡◌, List, [], length, take, take_all, refl, sym, subst, arith}
+use Rattle.std.proofs.Common.{◌≡◌, List, [], length, take, take_all, refl, sym, subst, arith, rules}
 use Rattle.desk_core.specs.declared.steps.Reply.{Reply}
 use Rattle.desk_core.specs.declared.steps.Step.{Step}
 use Rattle.desk_core.specs.Runs.{IsRightThroughout}
@@ -18,3 +18,6 @@ pub returns-in-Err-clause-right : goal.returns-in-Err-clause-right
 returns-in-Err-clause-right c =
     subst (λ (replies : List Reply). IsRightThroughout c.args.desk (take (length replies) c.args.steps.items) replies c.args.desk) (sym c.new-in-Err.ensures.items)
     (right_throughout c.args.desk c.steady.ensures [] [] c.args.desk refl)
+
+pub returns-in-Err-clause-steps : goal.returns-in-Err-clause-steps
+returns-in-Err-clause-steps c = search rules

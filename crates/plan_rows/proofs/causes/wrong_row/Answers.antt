@@ -1,4 +1,5 @@
-use Rattle.std.proofs.Common.{◌∙◌, refl, take, map, false}
+use Rattle.std.proofs.lemmas.Grind.{common_steps}
+use Rattle.std.proofs.Common.{◌∙◌, refl, take, map, false, arith}
 use Rattle.std.proofs.lemmas.List.{get_or-replicate}
 use Rattle.net_items.specs.declared.lists.Row.{Row}
 use Rattle.net_items.proofs.ListLemmas.{list_any_map}
@@ -18,3 +19,6 @@ pub cause_of-cause-requires-clause-twice : goal.cause_of-cause-requires-clause-t
 cause_of-cause-requires-clause-twice c =
     c.see-twice.ensures.before (map (λ (r : Row). r.point) (take c.loop-position.position c.args.rows.now)) c.loop-position.invariant.seen
     ∙ list_any_map _ (λ (r : Row). r.point) (take c.loop-position.position c.args.rows.now)
+
+pub returns-in-Some : goal.returns-in-Some
+returns-in-Some c = grind (arith, common_steps)

@@ -1,4 +1,4 @@
-use Rattle.std.proofs.Common.{sym}
+use Rattle.std.proofs.Common.{sym, rules}
 use Rattle.excerpts.specs.Excerpt.{source_of}
 use Rattle.transfer_state.proofs.SweepLemmas.{found_small, rows_small}
 use Rattle.transfer_state.proofs.sweep.mate_offer.Goals as goal
@@ -14,3 +14,6 @@ direct-status-requires-clause-few c = (found_small c.args.e.now.plan.rows _ c.in
 
 pub direct-status-requires-clause-small : goal.direct-status-requires-clause-small
 direct-status-requires-clause-small c = (found_small c.args.e.now.plan.rows _ c.in_ok-mate.mate.now (rows_small (source_of c.args.e.now) c.validity.ensures.valid) (sym c.in_ok-mate.ensures)).small
+
+pub returns-then-is_connected : goal.returns-then-is_connected
+returns-then-is_connected c = search rules

@@ -1,4 +1,4 @@
-use Rattle.std.proofs.Common.{◌≡◌, ℕ, Option, None, Some, Ok, false, eqb, List, length, map, ap, sym, ◌∙◌, subst, refl}
+use Rattle.std.proofs.Common.{◌≡◌, ℕ, Option, None, Some, Ok, false, eqb, List, length, map, ap, sym, ◌∙◌, subst, refl, rules}
 use Rattle.std.specs.Arc.{arc_value}
 use Rattle.std.specs.Option.{option_map}
 use Rattle.dirty_sets.specs.Touched.{marks_of}
@@ -37,3 +37,6 @@ returns-in-Ok c =
     = ap (λ n. record s { target = Some (record { number = n; tasks = c.in-Ok.target.tasks }) }) target
     ∙ ap (λ (ts : List Task). record s { target = Some (record { number = accepted s; tasks = ts }) }) tasks in
     subst (λ (q : DeskValue). Opens q (Ok answer) new) c.self.view_is (opens_is s new answer nothing some is left)
+
+pub returns-then-is_empty : goal.returns-then-is_empty
+returns-then-is_empty c = search rules

@@ -1,4 +1,4 @@
-use Rattle.std.proofs.Common.{◌≡◌, ◌<◌, ◌≤◌, sym, ap, ◌∙◌, subst, [], ◌∷◌, ◌++◌, List, length, take, get_or, arith}
+use Rattle.std.proofs.Common.{◌≡◌, ◌<◌, ◌≤◌, sym, ap, ◌∙◌, subst, [], ◌∷◌, ◌++◌, List, length, take, get_or, arith, rules}
 use Rattle.std.specs.List.{AllZip}
 use Rattle.std.specs.Vec.{vec_len, vec_capacity}
 use Rattle.std.specs.Prelude.{◌-◌}
@@ -43,3 +43,6 @@ returns c =
     let past : length net.plans ≤ position = omega arith in
     let all : AllZip R net.plans list = subst (λ ps. AllZip R ps list) (take_all position net.plans past) c.loop-position.invariant in
     index_of net list (vec_capacity c.loop-position.list - vec_len c.loop-position.list) all
+
+pub loop-position-init : goal.loop-position-init
+loop-position-init c = search rules

@@ -1,0 +1,5 @@
+use Rattle.std.proofs.Common.{rules}
+use Rattle.route_choice.proofs.routes.direct.Goals as goal
+
+pub returns : goal.returns
+returns c = search rules
