@@ -2,7 +2,8 @@
 # gate.sh PROGRAM: the gate. Every crate and its tests are proved from nothing, the wrong edits tried, the tests and the stored run
 # compared; then the program that was just built runs the transcripts of the pages and the worked examples, and is deprived of memory,
 # input and output. The line before the last tells the processor time of all this, and with MEASURE=1 also how many times that of a
-# first check of net_items at one job it is, which is made before and isn't counted. The last line is 'N passed, M failed'.
+# first check of net_items at one job it is. Such checks are made before, one for each processor, and aren't counted. The last line is
+# 'N passed, M failed'.
 cd "$(dirname "$0")/.."
 log=$(mktemp)
 trap 'rm -f "$log"' EXIT
@@ -29,10 +30,21 @@ first_check() {
     rm -rf "$tree"
 }
 
+# the mean processor time of such checks, one for each processor side by side, at most four: the gate keeps all processors
+# busy too, and two of them that are threads of one core take more processor time side by side than one alone
+unit_of_work() {
+    local each i
+    each=$(mktemp -d) || return
+    for ((i = 0; i < $(nproc) && i < 4; i++)); do first_check > "$each/$i" & done
+    wait
+    awk '{ sum += $1 } END { if (NR) print int(sum / NR) }' "$each"/*
+    rm -rf "$each"
+}
+
 # the processor time in a file to which `times` wrote: that of all that the shell has started and seen end, in whole seconds
 in_children() { tail -1 "$1" | awk -F'[ms ]+' '{ print int($1 * 60 + $2 + $3 * 60 + $4) }'; }
 
-[ -n "$MEASURE" ] && unit=$(first_check)
+[ -n "$MEASURE" ] && unit=$(unit_of_work)
 # a check of less than half a minute took over what another check on this machine had proved
 [ "${unit:-0}" -ge 30 ] || unit=
 times > "$log"
