@@ -5,3 +5,4 @@ pub mod IndexLemmas
 pub mod NextLemmas
 pub mod FirstLemmas
 pub mod EntryLemmas
+pub mod TurnedLemmas

@@ -1,3 +1,4 @@
 pub mod Excerpt
 pub mod Index
 pub mod Around
+pub mod Turned

@@ -7,10 +7,10 @@ ghost use Rattle.net_items.specs.Lookups.{point_at, mate_of as the_mate, is_stp 
 ghost use Rattle.link_sets.specs.Availability.{connected};
 ghost use Rattle.link_sets.specs.Neighbours.{neighbours as neighbours_of};
 ghost use Rattle.excerpts.specs.Around.{neighbours_left};
-ghost use Rattle.excerpts.specs.Excerpt.{ExcerptValue, content_at, content_in, content_of, excerpt_at, is_read_by, IsExcerptAnswer, IsRight};
+ghost use Rattle.excerpts.specs.Excerpt.{ExcerptValue, content_at, content_in, content_of, excerpt_at, is_read_by, leads as row_leads, IsExcerptAnswer, IsRight};
 
 use crate::faults::ExcerptFault;
-use crate::reading::{are_same_reads, are_same_row_points, is_read, row_in};
+use crate::reading::{are_same_reads, are_same_row_points, is_read, leads, row_in};
 use crate::{Frozen, Neighbours};
 use net_data::Net;
 use net_items::equals::{are_same_points, are_same_sets, is_same_plan};
@@ -135,6 +135,14 @@ impl Excerpt {
     {
         self.validity();
         row_in(self.plan.rows.as_slice(), point)
+    }
+
+    /// Whether the row of a point leads to another point.
+    pub fn leads(&self, point: PointCode, other: PointCode) -> bool
+        ensures { result ≡ row_leads self.now.plan.rows point other }
+    {
+        self.validity();
+        leads(self.plan.rows.as_slice(), point, other)
     }
 
     /// The kind of a point.

@@ -7,9 +7,11 @@ ghost use Rattle.net_data.specs.Valid.{IsValid};
 ghost use Rattle.link_sets.specs.Availability.{connected};
 ghost use Rattle.link_sets.specs.Neighbours.{neighbours as neighbours_of, next_from, IsCodeFrom};
 ghost use Rattle.excerpts.specs.Around.{neighbours_left};
+ghost use Rattle.excerpts.specs.Turned.{AreTurned};
 
 use crate::indexed::Indexed;
 use crate::neighbours::Neighbours;
+use crate::turned::{Ends, turned_ends};
 use net_data::Net;
 use net_items::LinkSet;
 use point_codes::PointCode;
@@ -93,5 +95,13 @@ impl Frozen {
         ensures { neighbours_left result ≡ neighbours_of self.entry.now.sets point }
     {
         Neighbours::new(&self.indexed, point)
+    }
+
+    /// The points, in pairs and both orders, that an available set joins in this network or in an earlier one, and not in
+    /// both. It fails only if memory is refused.
+    pub fn turned(&self, alloc: Global, before: &Frozen) -> Result<Vec<Ends>, AllocError>
+        ensures { IfOk result (λ list. AreTurned before.now.sets self.now.sets list.items) }
+    {
+        turned_ends(alloc, self, before)
     }
 }

@@ -9,8 +9,9 @@
 //!    between a row's point and one of its vias (own).
 //! 4. An excerpt shares the network and the plan. Two excerpts are equal if their tables read the same.
 //! 5. Two networks that agree on what a table reads give the same table.
+//! 6. Of two networks it tells between which points an available set is in one of them alone (own, after Q.704 clause 3.2).
 //!
-//! Stands on `net_data`, `profile`. A change here also changes specs/ (Around, Excerpt, Index), proofs/ and must-
+//! Stands on `net_data`, `profile`. A change here also changes specs/ (Around, Excerpt, Index, Turned), proofs/ and must-
 //! fail/.
 #![tactic(auto)]
 
@@ -23,9 +24,11 @@ mod joints;
 pub mod laws;
 pub mod neighbours;
 pub mod reading;
+pub mod turned;
 
 pub use excerpt::Excerpt;
 pub use faults::ExcerptFault;
 pub use frozen::Frozen;
 pub use laws::same_table_law;
 pub use neighbours::Neighbours;
+pub use turned::Ends;

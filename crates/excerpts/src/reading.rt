@@ -26,7 +26,7 @@ pub fn row_in(rows: &[Row], point: PointCode) -> Option<&Row>
 }
 
 /// Whether a point has a row that leads to another.
-fn leads(rows: &[Row], point: PointCode, via: PointCode) -> bool
+pub(crate) fn leads(rows: &[Row], point: PointCode, via: PointCode) -> bool
     requires { IsRising (λ r. r.point) rows.now }
     ensures { result ≡ row_leads rows.now point via }
 {

@@ -1,4 +1,5 @@
 pub mod SweepLemmas
+pub mod FollowLemmas
 pub mod TableLemmas
 pub mod MatchLemmas
 pub mod MemberLemmas

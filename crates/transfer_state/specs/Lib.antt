@@ -1,5 +1,6 @@
 pub mod Members
 pub mod Promises
 pub mod Told
+pub mod Following
 pub mod Complaints
 pub mod Routing

@@ -1,10 +1,12 @@
 -- What a list of choices in the rows' places tells, and a table of far statuses.
-use Rattle.std.specs.Prelude.{◌≡◌, ◌<◌, ℕ, List, Some, slice_get, slice_index_or}
+use Rattle.std.specs.Prelude.{◌≡◌, ◌<◌, ℕ, ◌==◌, List, [], ◌∷◌, Some, length, slice_get, slice_index_or, if◌then◌else◌}
 use Rattle.route_choice.specs.declared.choices.Far.{Far}
-use Rattle.route_choice.specs.declared.choices.Far.TheVariants.{Prohibited}
+use Rattle.route_choice.specs.declared.choices.Far.TheVariants.{Allowed, Prohibited}
 use Rattle.route_choice.specs.declared.choices.Choice.{Choice}
 use Rattle.net_items.specs.declared.lists.Row.{Row}
 use Rattle.profile.specs.Status.{Source, source_rank, choice, status}
+use Rattle.transfer_state.specs.declared.choosing.Statuses.{Statuses}
+use Rattle.transfer_state.specs.declared.choosing.Statuses.TheVariants.{Table, Choices}
 
 -- the far status of a code in a table
 abbrev pub far_at : List Far → ℕ → Far
@@ -21,3 +23,23 @@ AreChoices src choices = (i : ℕ) (row : Row) → slice_get src.rows i ≡ Some
 -- the rows of rank below n have their choices in place
 abbrev pub KnowsBelow : Source → List Choice → ℕ → Type 0
 KnowsBelow src choices n = (i : ℕ) (row : Row) → slice_get src.rows i ≡ Some row → row.rank < n → slice_get choices i ≡ Some (choice src row)
+
+-- the status of the row of a point by choices in the rows' places, prohibited if it has no row
+abbrev pub far_in : List Row → List Choice → ℕ → Far
+far_in [] choices z = Prohibited
+far_in (row ∷ rows) [] z = Prohibited
+far_in (row ∷ rows) (c ∷ choices) z = if row.point == z then c.status else far_in rows choices z
+
+-- the far status of a point by choices in the rows' places: allowed at the destination
+abbrev pub far_from : Source → List Choice → ℕ → Far
+far_from src choices z = if z == src.dest then Allowed else far_in src.rows choices z
+
+-- the far status that is told
+abbrev pub far_by : Source → Statuses → ℕ → Far
+far_by src (Table fars) = far_at fars.now
+far_by src (Choices choices) = far_from src choices.now
+
+-- a table of all codes, or a choice for each row
+abbrev pub AreFull : Source → Statuses → Type 0
+AreFull src (Table fars) = length fars.now ≡ 16384
+AreFull src (Choices choices) = length choices.now ≡ length src.rows

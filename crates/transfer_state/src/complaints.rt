@@ -8,14 +8,14 @@ ghost use Rattle.profile.specs.Whole.{messages_of as messages_by, state_of as st
 ghost use Rattle.excerpts.specs.Excerpt.{source_of};
 ghost use Rattle.transfer_state.specs.Complaints.{right_state, HasPoints, IsWrongIn, IsFirstComplaint};
 
+use crate::choosing::{is_same_status, rows_of};
 use crate::hearing::choice_heard;
 use crate::states::{links_of, message, size_of};
-use crate::sweep::rows_of;
 use excerpts::Excerpt;
 use net_items::Row;
 use point_codes::PointCode;
 use profile::{Message, RowLinks, RowState, Table};
-use route_choice::{Choice, Far};
+use route_choice::Choice;
 
 /// What can be wrong with a table, in the order in which it is looked for (own).
 #[derive(Clone, Copy, Debug, PartialEq, Eq)]
@@ -81,13 +81,6 @@ fn is_same_route(one: &Choice, other: &Choice) -> bool
     ensures { IsTrue result ↔ ((one.now.class ≡ other.now.class) × (one.now.members ≡ other.now.members)) }
 {
     one.class == other.class && are_same_members(&one.members, &other.members)
-}
-
-/// Whether the statuses are the same.
-fn is_same_status(one: Far, other: Far) -> bool
-    ensures { IsTrue result ↔ (one ≡ other) }
-{
-    one == other
 }
 
 /// Whether these are the links of a row with this choice.

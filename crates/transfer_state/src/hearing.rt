@@ -12,7 +12,7 @@ ghost use Rattle.profile.specs.Whole.{heard_in as heard_in_of, heard_from as hea
 ghost use Rattle.excerpts.specs.Excerpt.{source_of};
 ghost use Rattle.transfer_state.specs.Complaints.{far_from, mate_from, HasPoints};
 
-use crate::sweep::rows_of;
+use crate::choosing::rows_of;
 use excerpts::Excerpt;
 use net_items::Row;
 use net_items::copies::position_of_row;

@@ -10,8 +10,8 @@ ghost use Rattle.profile.specs.Whole.{state_of, size_of as size_by, member as me
 ghost use Rattle.excerpts.specs.Excerpt.{source_of};
 ghost use Rattle.transfer_state.specs.Routing.{state_at, hop_by, IsChosen, IsFoundRow};
 
+use crate::choosing::rows_of;
 use crate::states::{links_of, member, messages_of, used_size};
-use crate::sweep::rows_of;
 use excerpts::Excerpt;
 use net_items::Row;
 use net_items::copies::position_of_row;

@@ -5,12 +5,14 @@ ghost use Rattle.std.specs.Option.{option_map};
 ghost use Rattle.profile.specs.Traces.{hop_of};
 ghost use Rattle.profile.specs.Whole.{scratch};
 ghost use Rattle.excerpts.specs.Excerpt.{content_of, source_of};
+ghost use Rattle.excerpts.specs.Turned.{HasTurned};
 ghost use Rattle.transfer_state.specs.Routing.{settled_routing, state_at};
 
+use crate::following::choices_after;
 use crate::routes::{choice_at, hop_at, links_at, messages_at};
 use crate::sweep::choices;
 use crate::table::table_by;
-use excerpts::Excerpt;
+use excerpts::{Ends, Excerpt};
 use point_codes::PointCode;
 use profile::{Hop, Messages, RowLinks, Table};
 use route_choice::Choice;
@@ -59,6 +61,42 @@ impl Routing {
             }),
             Err(_) => Err((excerpt, AllocError)),
         }
+    }
+
+    /// The settled routing of an excerpt, followed from that of the same plan in a network before: its choices are shared if
+    /// no row has to be chosen anew, and few rows are chosen anew else, if that will do. `turned` has the ends of each set
+    /// that became available or was so no longer. If memory is refused it hands the excerpt back.
+    pub fn follow(
+        alloc: Global,
+        excerpt: Excerpt,
+        before: &Routing,
+        turned: &[Ends],
+    ) -> Result<Routing, (Excerpt, AllocError)>
+        requires dest { excerpt.plan.dest ≡ before.now.excerpt.plan.dest }
+        requires turned { HasTurned before.now.excerpt.network excerpt.network turned.now }
+        ensures ok { IfOk result (λ r. r ≡ settled_routing excerpt) }
+        ensures err { IfErr result (λ e. e.0 ≡ excerpt) }
+    {
+        match choices_after(alloc, &excerpt, &before.excerpt, &before.choices, turned) {
+            Ok(Some(choices)) => Ok(Routing {
+                dest: excerpt.dest(),
+                excerpt,
+                choices,
+            }),
+            Ok(None) => Routing::of(alloc, excerpt),
+            Err(refused) => Err((excerpt, refused)),
+        }
+    }
+
+    /// The same routing once more. It fails only if no further share can be counted.
+    pub fn share(&self) -> Result<Routing, AllocError>
+        ensures { IfOk result (λ r. r ≡ self.now) }
+    {
+        Ok(Routing {
+            dest: self.dest,
+            excerpt: self.excerpt.share()?,
+            choices: Arc::try_clone(&self.choices)?,
+        })
     }
 
     /// The fact that the type keeps: its choices are those from scratch. It does nothing when it runs.

@@ -6,8 +6,9 @@ ghost use Rattle.excerpts.specs.Excerpt.{source_of};
 ghost use Rattle.transfer_state.specs.Promises.{TellsWalks, KeepsMatesApart};
 ghost use Rattle.transfer_state.specs.Routing.{IsChosen};
 
+use crate::choosing::rows_of;
 use crate::states::{links_of, messages_of, size_of};
-use crate::sweep::{choices, rows_of};
+use crate::sweep::choices;
 use excerpts::Excerpt;
 use profile::{RowState, RowStates, Table};
 use route_choice::Choice;

@@ -1,7 +1,7 @@
 use Rattle.std.proofs.Common.{sym, rules}
 use Rattle.excerpts.specs.Excerpt.{source_of}
 use Rattle.transfer_state.proofs.SweepLemmas.{found_small, rows_small}
-use Rattle.transfer_state.proofs.sweep.mate_offer.Goals as goal
+use Rattle.transfer_state.proofs.choosing.mate_offer.Goals as goal
 
 pub fars_of-requires-clause-few : goal.fars_of-requires-clause-few
 fars_of-requires-clause-few c = (found_small c.args.e.now.plan.rows _ c.in_ok-mate.mate.now (rows_small (source_of c.args.e.now) c.validity.ensures.valid) (sym c.in_ok-mate.ensures)).few

@@ -1,0 +1,89 @@
+//! Between which points an available set is in one of two networks alone.
+
+ghost use Rattle.std.specs.Prelude.{◌≡◌, ◌≢◌, ◌↔◌, ℕ, IsTrue, true, IfOk, OnOk, is_some};
+ghost use Rattle.net_items.specs.Lookups.{set_between};
+ghost use Rattle.link_sets.specs.Availability.{connected};
+ghost use Rattle.excerpts.specs.Turned.{has_ends, AreTurned};
+
+use crate::Frozen;
+use net_items::LinkSet;
+use point_codes::PointCode;
+use std::alloc::{AllocError, Global};
+
+/// Two points, in this order, the set between which became available, or is available no longer (own, after Q.704 clause
+/// 3.2).
+#[derive(Clone, Copy, Debug, PartialEq, Eq)]
+pub struct Ends {
+    /// The first point.
+    pub point: PointCode,
+    /// The point at the other end.
+    pub other: PointCode,
+}
+
+/// Whether a list has two points in this order.
+fn has(list: &[Ends], point: PointCode, other: PointCode) -> bool
+    ensures { result ≡ has_ends list.now point other }
+{
+    list.iter()
+        .any(|ends| ends.point == point && ends.other == other)
+}
+
+/// Puts in two points, in this order, unless they are there.
+fn put_ends(list: &mut Vec<Ends>, point: PointCode, other: PointCode) -> Result<(), AllocError>
+    ensures kept { OnOk result ((y z : ℕ) → has_ends list.old.items y z ≡ true → has_ends list.new.items y z ≡ true) }
+    ensures put { OnOk result (has_ends list.new.items point other ≡ true) }
+{
+    if !has(list, point, other) {
+        list.push(Ends { point, other })?;
+    }
+    Ok(())
+}
+
+/// Puts in the ends of a set, in both orders, if an available set joins them in one of two networks alone.
+fn put_if_turned(
+    list: &mut Vec<Ends>,
+    set: &LinkSet,
+    net: &Frozen,
+    before: &Frozen,
+) -> Result<(), AllocError>
+    ensures kept { OnOk result ((y z : ℕ) → has_ends list.old.items y z ≡ true → has_ends list.new.items y z ≡ true) }
+    ensures there { OnOk result (connected net.now.sets set.now.a set.now.b ≢ connected before.now.sets set.now.a set.now.b → has_ends list.new.items set.now.a set.now.b ≡ true) }
+    ensures back { OnOk result (connected net.now.sets set.now.a set.now.b ≢ connected before.now.sets set.now.a set.now.b → has_ends list.new.items set.now.b set.now.a ≡ true) }
+{
+    if net.is_connected(set.a, set.b) != before.is_connected(set.a, set.b) {
+        put_ends(list, set.a, set.b)?;
+        put_ends(list, set.b, set.a)?;
+    }
+    Ok(())
+}
+
+/// Puts in the ends of each of some sets, in both orders, between which an available set is in one of two networks alone.
+fn put_turned(
+    list: &mut Vec<Ends>,
+    sets: &[LinkSet],
+    net: &Frozen,
+    before: &Frozen,
+) -> Result<(), AllocError>
+    ensures kept { OnOk result ((y z : ℕ) → has_ends list.old.items y z ≡ true → has_ends list.new.items y z ≡ true) }
+    ensures put { OnOk result ((y z : ℕ) → is_some (set_between sets.now y z) ≡ true → connected net.now.sets y z ≢ connected before.now.sets y z → has_ends list.new.items y z ≡ true) }
+{
+    for set in sets {
+        put_if_turned(list, set, net, before)?;
+    }
+    Ok(())
+}
+
+/// All pairs of points, in both orders, that an available set joins in one of two networks alone. It fails only if memory is
+/// refused.
+pub(crate) fn turned_ends(
+    alloc: Global,
+    net: &Frozen,
+    before: &Frozen,
+) -> Result<Vec<Ends>, AllocError>
+    ensures { IfOk result (λ list. AreTurned before.now.sets net.now.sets list.items) }
+{
+    let mut list = Vec::new(alloc);
+    put_turned(&mut list, net.net().sets(), net, before)?;
+    put_turned(&mut list, before.net().sets(), net, before)?;
+    Ok(list)
+}

@@ -1,0 +1,224 @@
+//! The choices of all rows, followed from those of the same plan before sets became available or were so no longer.
+//!
+//! Marked are the rows whose choices may not obey the rule any more. Each is chosen anew, and if its status changes, those that
+//! rest on it are marked. Once none is left, all choices obey the rule, and only those from scratch do.
+
+ghost use Rattle.std.specs.Prelude.{◌≡◌, ◌≢◌, ◌<◌, ℕ, ◌∷◌, [], true, false, IfOk, OnOk, IfNone, Some, length, slice_get};
+ghost use Rattle.std.specs.Arc.{arc_value};
+ghost use Rattle.std.specs.Option.{IfSome};
+ghost use Rattle.excerpts.specs.Excerpt.{source_of};
+ghost use Rattle.excerpts.specs.Turned.{has_ends, HasTurned};
+ghost use Rattle.transfer_state.specs.Following.{is_marked, AreMarks, HasMark, HasMarks, HasMarksOf, HasReaders, IsWithoutMark, KeepsMarks, ObeysBut};
+ghost use Rattle.transfer_state.specs.Routing.{IsChosen};
+
+use crate::choosing::{Statuses, choice_of, is_same_status, rows_of};
+use excerpts::{Ends, Excerpt};
+use net_items::Row;
+use net_items::copies::position_of_row;
+use point_codes::PointCode;
+use route_choice::Choice;
+use std::alloc::{AllocError, Global};
+use std::sync::Arc;
+
+/// How many rows are chosen anew at most. Beyond, it costs less to choose all from scratch.
+const FOLLOW_LIMIT: usize = 64;
+
+/// Marks the row in a place.
+fn mark_place(marks: &mut Vec<usize>, position: usize) -> Result<(), AllocError>
+    ensures kept { OnOk result (KeepsMarks marks.old.items marks.new.items) }
+    ensures marked { OnOk result (is_marked marks.new.items position ≡ true) }
+    ensures only { OnOk result ((k : ℕ) → is_marked marks.new.items k ≡ true → k ≢ position → is_marked marks.old.items k ≡ true) }
+{
+    if !marks.iter().any(|mark| *mark == position) {
+        marks.push(position)?;
+    }
+    Ok(())
+}
+
+/// Marks the row of a point, if it has one.
+fn mark_row(e: &Excerpt, marks: &mut Vec<usize>, point: PointCode) -> Result<(), AllocError>
+    requires { AreMarks e.now marks.old.items }
+    ensures within { OnOk result (AreMarks e.now marks.new.items) }
+    ensures kept { OnOk result (KeepsMarks marks.old.items marks.new.items) }
+    ensures marked { OnOk result (HasMark e.now marks.new.items point) }
+{
+    e.validity();
+    match position_of_row(rows_of(e), point) {
+        Ok(at) => mark_place(marks, at),
+        Err(_) => Ok(()),
+    }
+}
+
+/// Marks the rows of a point and of its mate.
+fn mark_with_mate(e: &Excerpt, marks: &mut Vec<usize>, point: PointCode) -> Result<(), AllocError>
+    requires { AreMarks e.now marks.old.items }
+    ensures within { OnOk result (AreMarks e.now marks.new.items) }
+    ensures kept { OnOk result (KeepsMarks marks.old.items marks.new.items) }
+    ensures marked { OnOk result (HasMarks e.now marks.new.items point) }
+{
+    mark_row(e, marks, point)?;
+    match e.mate_of(point) {
+        Some(mate) => mark_row(e, marks, mate),
+        None => Ok(()),
+    }
+}
+
+/// Marks the rows of a point and of its mate that rest on what another point offers to the first.
+fn mark_end(
+    e: &Excerpt,
+    marks: &mut Vec<usize>,
+    point: PointCode,
+    other: PointCode,
+) -> Result<(), AllocError>
+    requires { AreMarks e.now marks.old.items }
+    ensures within { OnOk result (AreMarks e.now marks.new.items) }
+    ensures kept { OnOk result (KeepsMarks marks.old.items marks.new.items) }
+    ensures marked { OnOk result (HasMarksOf e.now marks.new.items point other) }
+{
+    if e.leads(point, other) || e.mate_of(point) == Some(other) {
+        return mark_with_mate(e, marks, point);
+    }
+    Ok(())
+}
+
+/// Marks the rows that rest on a set between the two points of any of these pairs.
+fn mark_turned(e: &Excerpt, marks: &mut Vec<usize>, turned: &[Ends]) -> Result<(), AllocError>
+    requires { AreMarks e.now marks.old.items }
+    ensures within { OnOk result (AreMarks e.now marks.new.items) }
+    ensures marked { OnOk result ((y z : ℕ) → has_ends turned.now y z ≡ true → HasMarksOf e.now marks.new.items y z) }
+{
+    for ends in turned {
+        mark_end(e, marks, ends.point, ends.other)?;
+    }
+    Ok(())
+}
+
+/// Marks the rows that rest on the status of a point.
+fn mark_readers(e: &Excerpt, marks: &mut Vec<usize>, point: PointCode) -> Result<(), AllocError>
+    requires { AreMarks e.now marks.old.items }
+    ensures within { OnOk result (AreMarks e.now marks.new.items) }
+    ensures kept { OnOk result (KeepsMarks marks.old.items marks.new.items) }
+    ensures marked { OnOk result (HasReaders e.now marks.new.items point) }
+{
+    for neighbour in e.neighbours(point) {
+        mark_end(e, marks, neighbour, point)?;
+    }
+    Ok(())
+}
+
+/// The rank of the row in a place.
+fn rank_at(rows: &[Row], position: usize) -> u8
+    requires { position < length rows.now }
+{
+    rows[position].rank
+}
+
+/// The place among the marks of one whose row has the least rank.
+fn least(rows: &[Row], marks: &[usize]) -> Option<usize>
+    requires { (k : ℕ) → is_marked marks.now k ≡ true → k < length rows.now }
+    ensures some { IfSome result (λ at. at < length marks.now) }
+    ensures none { IfNone result (marks.now ≡ []) }
+{
+    let mut least = 0;
+    for at in 0..marks.len() {
+        if rank_at(rows, marks[at]) < rank_at(rows, marks[least]) {
+            least = at;
+        }
+    }
+    if marks.is_empty() { None } else { Some(least) }
+}
+
+/// Takes out the mark of a row of the least rank, if there is one: the rows that rest on it are of higher rank, so each row is
+/// mostly chosen once.
+fn take_least(rows: &[Row], marks: &mut Vec<usize>) -> Option<usize>
+    requires { (k : ℕ) → is_marked marks.old.items k ≡ true → k < length rows.now }
+    ensures some { IfSome result (IsWithoutMark marks.old.items marks.new.items) }
+    ensures none { IfNone result (marks.old.items ≡ []) }
+{
+    let at = least(rows, marks)?;
+    Some(marks.swap_remove(at))
+}
+
+/// The row in a place.
+fn row_at(e: &Excerpt, position: usize) -> &Row
+    requires { position < length e.now.plan.rows }
+    ensures { slice_get e.entry.now.plan.rows position ≡ Some result.now }
+{
+    &rows_of(e)[position]
+}
+
+/// Chooses the row in a place anew, and marks those that rest on its status, if that changed.
+fn choose_anew(
+    e: &Excerpt,
+    choices: &mut [Choice],
+    marks: &mut Vec<usize>,
+    position: usize,
+) -> Result<(), AllocError>
+    requires here { position < length choices.old }
+    requires together { length choices.old ≡ length e.now.plan.rows }
+    requires within { AreMarks e.now marks.old.items }
+    requires obey { ObeysBut (source_of e.now) choices.old (position ∷ marks.old.items) }
+    ensures together { length choices.new ≡ length e.now.plan.rows }
+    ensures within { OnOk result (AreMarks e.now marks.new.items) }
+    ensures obey { OnOk result (ObeysBut (source_of e.now) choices.new marks.new.items) }
+{
+    e.validity();
+    let row = row_at(e, position);
+    let choice = choice_of(e, &Statuses::Choices(choices), row);
+    let is_same = is_same_status(choice.status, choices[position].status);
+    choices[position] = choice;
+    if !is_same {
+        mark_readers(e, marks, row.point)?;
+    }
+    Ok(())
+}
+
+/// The choices of all rows, if few have to be chosen anew.
+fn followed(
+    alloc: Global,
+    e: &Excerpt,
+    before: &[Choice],
+    marks: Vec<usize>,
+) -> Result<Option<Vec<Choice>>, AllocError>
+    requires together { length before.now ≡ length e.now.plan.rows }
+    requires within { AreMarks e.now marks.items }
+    requires obey { ObeysBut (source_of e.now) before.now marks.items }
+    ensures { IfOk result (λ o. IfSome o (λ choices. IsChosen e.now choices.items)) }
+{
+    e.validity();
+    let mut marks = marks;
+    let mut choices = Vec::from_slice(alloc, before)?;
+    for _ in 0..FOLLOW_LIMIT {
+        let Some(position) = take_least(rows_of(e), &mut marks) else {
+            return Ok(Some(choices));
+        };
+        choose_anew(e, &mut choices, &mut marks, position)?;
+    }
+    Ok(None)
+}
+
+/// The choices of all rows, if few have to be chosen anew: those before, shared, if none has to.
+pub(crate) fn choices_after(
+    alloc: Global,
+    e: &Excerpt,
+    before: &Excerpt,
+    choices: &Arc<Vec<Choice>>,
+    turned: &[Ends],
+) -> Result<Option<Arc<Vec<Choice>>>, AllocError>
+    requires dest { e.now.plan.dest ≡ before.now.plan.dest }
+    requires turned { HasTurned before.now.network e.now.network turned.now }
+    requires chosen { IsChosen before.now (arc_value choices.now).items }
+    ensures { IfOk result (λ o. IfSome o (λ list. IsChosen e.now (arc_value list).items)) }
+{
+    e.validity();
+    before.validity();
+    let mut marks = Vec::new(alloc);
+    mark_turned(e, &mut marks, turned)?;
+    if marks.is_empty() {
+        return Ok(Some(Arc::try_clone(choices)?));
+    }
+    match followed(alloc, e, choices, marks)? {
+        Some(list) => Ok(Some(Arc::new(alloc, list)?)),
+        None => Ok(None),
+    }
+}
