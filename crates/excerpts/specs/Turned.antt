@@ -14,7 +14,7 @@ has_ends list y z = list_any (λ (e : Ends). e.point == y && e.other == z) list
 abbrev pub AreTurned : List LinkSet → List LinkSet → List Ends → Type 0
 AreTurned before after list = (y z : ℕ) → has_ends list y z ≡ false → connected after y z ≡ connected before y z
 
--- a network is another one in which only links changed, and the list has the ends of each set that became available or is so no longer
+-- a network is another one in which only links and sets changed, and the list has at least the ends of each set that became available or is so no longer
 pub record HasTurned (before after : Network) (list : List Ends) : Type 0 where
   pub points : after.points ≡ before.points
   pub plans : after.plans ≡ before.plans

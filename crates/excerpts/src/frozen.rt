@@ -97,8 +97,8 @@ impl Frozen {
         Neighbours::new(&self.indexed, point)
     }
 
-    /// The points, in pairs and both orders, that an available set joins in this network or in an earlier one, and not in
-    /// both. It fails only if memory is refused.
+    /// Pairs of points, in both orders, and among them all that an available set joins in this network or in an earlier one,
+    /// and not in both. That it has no others isn't promised. It fails only if memory is refused.
     pub fn turned(&self, alloc: Global, before: &Frozen) -> Result<Vec<Ends>, AllocError>
         ensures { IfOk result (λ list. AreTurned before.now.sets self.now.sets list.items) }
     {

@@ -73,8 +73,8 @@ fn put_turned(
     Ok(())
 }
 
-/// All pairs of points, in both orders, that an available set joins in one of two networks alone. It fails only if memory is
-/// refused.
+/// Pairs of points, in both orders, and among them all that an available set joins in one of two networks alone. It fails only
+/// if memory is refused.
 pub(crate) fn turned_ends(
     alloc: Global,
     net: &Frozen,

@@ -140,7 +140,7 @@ fn take_least(rows: &[Row], marks: &mut Vec<usize>) -> Option<usize>
 }
 
 /// The row in a place.
-fn row_at(e: &Excerpt, position: usize) -> &Row
+fn row_in_place(e: &Excerpt, position: usize) -> &Row
     requires { position < length e.now.plan.rows }
     ensures { slice_get e.entry.now.plan.rows position ≡ Some result.now }
 {
@@ -163,7 +163,7 @@ fn choose_anew(
     ensures obey { OnOk result (ObeysBut (source_of e.now) choices.new marks.new.items) }
 {
     e.validity();
-    let row = row_at(e, position);
+    let row = row_in_place(e, position);
     let choice = choice_of(e, &Statuses::Choices(choices), row);
     let is_same = is_same_status(choice.status, choices[position].status);
     choices[position] = choice;
