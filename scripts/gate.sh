@@ -47,9 +47,11 @@ in_children() { tail -1 "$1" | awk -F'[ms ]+' '{ print int($1 * 60 + $2 + $3 * 6
 [ -n "$MEASURE" ] && unit=$(unit_of_work)
 # a check of less than half a minute took over what another check on this machine had proved
 [ "${unit:-0}" -ge 30 ] || unit=
+# a job for each processor, as many as memory holds, and none for a second part of a crate: each part loads all libraries anew
+jobs=$(awk -v most="$(nproc)" '/^MemAvailable:/ { held = int($2 / 5000000); print held < 1 ? 1 : held < most ? held : most }' /proc/meminfo)
 times > "$log"
 before=$(in_children "$log")
-rt ci | tee "$log"
+RT_JOBS=$jobs rt ci | tee "$log"
 status=${PIPESTATUS[0]}
 read -r passed failed <<< "$(tail -1 "$log" | sed -n 's/^\([0-9]*\) passed, \([0-9]*\) failed$/\1 \2/p')"
 if [ $status -ne 0 ] || [ "${failed:-1}" -ne 0 ]; then

@@ -14,10 +14,10 @@ use Rattle.dirty_sets.specs.Marks.{Marked, IsClear, IsNoted}
 use Rattle.dirty_sets.specs.Waiting.{Task}
 use Rattle.dirty_sets.proofs.UntouchedLemmas.{law}
 use Rattle.net_versions.specs.Versions.{VersionValue}
-use Rattle.desk_core.specs.Desk.{DeskValue, OpenTarget, accepted, net_at, net_now, touched_by, next_version}
+use Rattle.desk_core.specs.Desk.{DeskValue, OpenTarget, accepted, touched_by, next_version}
 use Rattle.desk_core.specs.Steps.{with_post, with_target, with_tasks, with_version}
 use Rattle.desk_core.specs.Targets.{TargetValue}
-use Rattle.desk_core.specs.Inside.{IsAhead, IsInside, IsOpenAhead, IsSameMarked, count, fixed, since}
+use Rattle.desk_core.specs.Inside.{IsInside, IsOpenAhead, IsSameMarked, count, fixed, since}
 use Rattle.desk_core.proofs.ReplayLemmas.{replay-append, replay-push, touched_by-push}
 
 or_false : (a b : Bool) → (a || b) ≡ false → (a ≡ false) × (b ≡ false)

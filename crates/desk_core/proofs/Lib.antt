@@ -3,3 +3,4 @@ pub mod ReplayLemmas
 pub mod InsideLemmas
 pub mod RunLemmas
 pub mod OpeningLemmas
+pub mod DifferenceLemmas

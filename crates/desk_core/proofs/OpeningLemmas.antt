@@ -1,27 +1,25 @@
 -- The opening of a target: the destinations that wait, and the places of all.
-use Rattle.std.proofs.Common.{◌≡◌, ℕ, suc, ◌+◌, ◌<◌, Bool, true, false, not, ◌||◌, cond, eqb, List, [], ◌∷◌, Option, Some, None, is_some, Ok, map, refl, sym, ap, ◌∙◌, subst, length, arith}
+use Rattle.std.proofs.Common.{◌≡◌, ℕ, ◌<◌, Bool, true, false, ◌||◌, cond, eqb, List, [], ◌∷◌, Option, Some, None, is_some, Ok, map, refl, sym, ap, ◌∙◌, subst, length}
 use Rattle.std.specs.Prelude.{filter}
 use Rattle.std.specs.List.{AllByRecursion}
 use Rattle.std.specs.Option.{option_map}
 use Rattle.std.proofs.lemmas.Bool.{eq-eqb, eqb-true}
 use Rattle.net_items.specs.declared.items.Plan.{Plan}
 use Rattle.net_items.specs.declared.items.Point.{Point}
-use Rattle.net_items.specs.Keyed.{IsRising, at_key}
-use Rattle.net_items.specs.Lookups.{has_point, plan_at, point_at}
-use Rattle.net_items.proofs.KeyedLemmas.{found_holds, All-then}
+use Rattle.net_items.specs.Keyed.{IsRising}
+use Rattle.net_items.specs.Lookups.{has_point, plan_at}
+use Rattle.net_items.proofs.KeyedLemmas.{All-then}
 use Rattle.net_data.specs.Network.{Network}
 use Rattle.net_data.specs.Valid.{IsValid, IsRightPlan}
-use Rattle.excerpts.specs.Excerpt.{ExcerptValue, excerpt_at, excerpt_in}
+use Rattle.excerpts.specs.Excerpt.{ExcerptValue, excerpt_in}
 use Rattle.transfer_state.specs.Routing.{RoutingSlotValue}
 use Rattle.dirty_sets.specs.Touch.{is_planned}
 use Rattle.dirty_sets.specs.Marks.{Marked}
 use Rattle.dirty_sets.specs.Waiting.{Task, all_waiting, waiting, waiting_task}
-use Rattle.net_versions.specs.Versions.{excerpts}
 use Rattle.plan_rows.specs.Causes.{when, first}
 use Rattle.work_units.specs.declared.replies.Opened.{Opened}
-use Rattle.work_units.specs.declared.replies.Refusal.{Refusal}
 use Rattle.work_units.specs.declared.replies.Refusal.TheVariants.{Busy, Nothing}
-use Rattle.desk_core.specs.Desk.{DeskValue, OpenTarget, accepted, net_now, to_settle, touched_by}
+use Rattle.desk_core.specs.Desk.{DeskValue, OpenTarget, accepted, to_settle, touched_by}
 use Rattle.desk_core.specs.Steps.{IsReply, Opens, with_target}
 use Rattle.desk_core.specs.Inside.{IsInside}
 use Rattle.desk_core.specs.Targets.{AreFilled, IsFilled, IsSlotFor, is_task, routing_slot_of}

@@ -1,24 +1,22 @@
 -- The tasks and the places of an open target.
-use Rattle.std.proofs.Common.{◌≡◌, ◌≢◌, ℕ, zero, suc, ◌<◌, Bool, true, false, not, ◌||◌, cond, eqb, List, [], ◌∷◌, ◌++◌, Option, Some, None, is_some, map, refl, sym, ap, ◌∙◌, subst, length, get_or, arith}
-use Rattle.std.specs.Prelude.{Result, Ok, Err, filter, slice_set}
-use Rattle.std.specs.List.{AllByRecursion, list_any}
+use Rattle.std.proofs.Common.{◌≡◌, ◌≢◌, ℕ, ◌<◌, Bool, true, false, ◌||◌, eqb, List, [], ◌∷◌, ◌++◌, Option, Some, None, is_some, map, refl, sym, ap, ◌∙◌, subst, get_or, arith}
+use Rattle.std.specs.Prelude.{Err, slice_set}
+use Rattle.std.specs.List.{AllByRecursion}
 use Rattle.std.specs.Option.{option_map}
-use Rattle.std.proofs.lemmas.Bool.{eq-eqb, ne_eqb, cond_both, eqb-true, eqb-false}
+use Rattle.std.proofs.lemmas.Bool.{eq-eqb, ne_eqb, eqb-true, eqb-false}
 use Rattle.net_items.specs.declared.items.Plan.{Plan}
 use Rattle.net_items.specs.Keyed.{IsRising, IsFoundAt, IsGapAt, at_key, edit}
 use Rattle.net_items.specs.Lookups.{plan_at}
 use Rattle.net_data.specs.Network.{Network}
 use Rattle.profile.proofs.CertificateLemmas.{find-map}
 use Rattle.excerpts.specs.Excerpt.{Content, ExcerptValue, content_at, content_in, content_of, excerpt_at, excerpt_in}
-use Rattle.excerpts.specs.declared.faults.ExcerptFault.{ExcerptFault}
 use Rattle.excerpts.specs.declared.faults.ExcerptFault.TheVariants.{NoPlan, OutOfMemory}
 use Rattle.transfer_state.specs.Routing.{RoutingSlotValue}
-use Rattle.work_units.specs.Work.{IsJob, Work}
+use Rattle.work_units.specs.Work.{IsJob}
 use Rattle.dirty_sets.specs.Touch.{is_planned}
-use Rattle.dirty_sets.specs.Waiting.{Task, waiting_task, out, is_out, first_waiting, taken, put_last, without_task}
-use Rattle.net_versions.specs.Versions.{excerpts}
+use Rattle.dirty_sets.specs.Waiting.{Task, waiting_task, is_out, first_waiting, taken, put_last, without_task}
 use Rattle.net_versions.proofs.PlannedLemmas.{excerpts_rise, excerpt_found}
-use Rattle.desk_core.specs.Targets.{TargetValue, is_task, IsFilled, AreFilled}
+use Rattle.desk_core.specs.Targets.{is_task, IsFilled, AreFilled}
 
 -- ---- tasks
 

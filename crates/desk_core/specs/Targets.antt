@@ -1,19 +1,33 @@
 -- What an open target holds: its network, its tasks, and a place for the routing of each planned destination.
-use Rattle.std.specs.Prelude.{◌≡◌, ℕ, ◌==◌, ◌||◌, Bool, true, not, List, Some, map}
+use Rattle.std.specs.Prelude.{◌≡◌, ℕ, ◌==◌, ◌||◌, Bool, true, not, List, Option, Some, None, map}
+use Rattle.std.specs.Arc.{arc_value}
 use Rattle.std.specs.List.{AllByRecursion, list_any}
 use Rattle.net_items.specs.declared.items.Plan.{Plan}
+use Rattle.net_data.specs.declared.events.Event.{Event}
+use Rattle.net_data.specs.Kinds.{is_of_links, is_of_sets}
 use Rattle.net_data.specs.Network.{Network}
 use Rattle.excerpts.specs.Excerpt.{excerpt_at, excerpt_in}
+use Rattle.excerpts.specs.Turned.{HasTurned}
 use Rattle.transfer_state.specs.Routing.{RoutingSlotValue}
 use Rattle.dirty_sets.specs.Touch.{is_planned}
 use Rattle.dirty_sets.specs.Waiting.{Task}
 use Rattle.net_versions.specs.Versions.{excerpts}
+use Rattle.desk_core.specs.declared.targets.Difference.{Difference}
 
 -- an open target with its network
 pub record TargetValue : Type 0 where
   pub number : ℕ
   pub network : Network
   pub tasks : List Task
+
+-- the target's network differs from that of a version by sets alone, whose ends are told, if there is something to follow
+abbrev pub DiffersBy : Network → Option Difference → Type 0
+DiffersBy net None = Unit {0}
+DiffersBy net (Some d) = HasTurned (arc_value d.version).network net (arc_value d.turned).items
+
+-- an event that leaves points, plans and the transfer-restricted option
+abbrev pub keeps_plans : Event → Bool
+keeps_plans event = is_of_links event || is_of_sets event
 
 -- the destination waits or is out
 abbrev pub is_task : List Task → ℕ → Bool

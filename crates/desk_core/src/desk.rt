@@ -272,7 +272,14 @@ impl Desk {
         }
         self.latest.validity();
         let number = self.accepted();
-        match new_target(alloc, number, &self.latest, &self.touched, &self.published) {
+        match new_target(
+            alloc,
+            number,
+            &self.latest,
+            &self.touched,
+            &self.published,
+            &self.pending,
+        ) {
             Ok(target) => {
                 let opened = Opened {
                     target: number,

@@ -1,20 +1,24 @@
 //! The opening of a target.
 
 ghost use Rattle.std.specs.Prelude.{◌≡◌, ◌<◌, ℕ, true, false, not, IfOk, filter, length, map, slice_index_or};
+ghost use Rattle.std.specs.Arc.{arc_value};
+ghost use Rattle.std.specs.List.{list_all};
 ghost use Rattle.net_items.specs.declared.items.Plan.{Plan};
 ghost use Rattle.excerpts.specs.Excerpt.{content_at};
 ghost use Rattle.dirty_sets.specs.Touch.{is_planned};
-ghost use Rattle.desk_core.specs.Targets.{IsSlotFor, routing_slot_of};
+ghost use Rattle.net_data.specs.Edits.{replay};
+ghost use Rattle.desk_core.specs.Targets.{DiffersBy, IsSlotFor, keeps_plans, routing_slot_of};
 ghost use Rattle.dirty_sets.specs.Touched.{marks_of};
 ghost use Rattle.dirty_sets.specs.Waiting.{all_waiting};
 
-use crate::targets::Target;
+use crate::targets::{Difference, Target};
 use dirty_sets::{Touched, Waiting};
 use excerpts::{Excerpt, Frozen};
-use net_data::Net;
+use net_data::{Event, Net};
 use net_versions::Version;
 use point_codes::PointCode;
 use std::alloc::{AllocError, Global};
+use std::sync::Arc;
 use transfer_state::RoutingSlot;
 
 /// The planned destinations that were touched, in rising code.
@@ -114,19 +118,66 @@ fn waiting_dests(alloc: Global, net: &Net, touched: &Touched) -> Result<Waiting,
     Waiting::fill(alloc, &dests)
 }
 
+/// How many ends of turned sets a target keeps at most. Beyond, it costs less to settle each destination from scratch.
+const TURNED_LIMIT: usize = 64;
+
+/// Whether an event leaves points, plans and the transfer-restricted option as they are.
+fn is_keeping(event: &Event) -> bool
+    ensures { result ≡ keeps_plans event.now }
+{
+    match event {
+        Event::Link(_, _, _) | Event::AddLink(_, _) | Event::RemoveLink(_, _) => true,
+        Event::AddSet(_, _, _, _) | Event::RemoveSet(_) => true,
+        _ => false,
+    }
+}
+
+/// Whether all events do so.
+fn are_keeping(events: &[Event]) -> bool
+    ensures { result ≡ list_all keeps_plans events.now }
+{
+    events.iter().all(is_keeping)
+}
+
+/// What a network has of the version before, if nothing but links and sets changed since, and few sets turned.
+fn difference_from(
+    alloc: Global,
+    net: &Frozen,
+    version: &Arc<Version>,
+    events: &[Event],
+) -> Result<Option<Difference>, AllocError>
+    requires { net.now ≡ replay (arc_value version.now).network events.now }
+    ensures { IfOk result (DiffersBy net.now) }
+{
+    if !are_keeping(events) {
+        return Ok(None);
+    }
+    let turned = net.turned(alloc, version.net())?;
+    if turned.len() > TURNED_LIMIT {
+        return Ok(None);
+    }
+    Ok(Some(Difference {
+        version: Arc::try_clone(version)?,
+        turned: Arc::new(alloc, turned)?,
+    }))
+}
+
 /// The target of a number for a network, for which the touched destinations wait.
 pub(crate) fn new_target(
     alloc: Global,
     number: u64,
     latest: &Net,
     touched: &Touched,
-    version: &Version,
+    version: &Arc<Version>,
+    events: &[Event],
 ) -> Result<Target, AllocError>
-    requires kept { (x : ℕ) → x < 16384 → (marks_of touched.now).touched x ≡ false → content_at latest.now x ≡ content_at version.now.network x }
+    requires now { latest.now ≡ replay (arc_value version.now).network events.now }
+    requires kept { (x : ℕ) → x < 16384 → (marks_of touched.now).touched x ≡ false → content_at latest.now x ≡ content_at (arc_value version.now).network x }
     ensures { IfOk result (λ t. t ≡ record { number = number; network = latest.now; tasks = all_waiting (filter (marks_of touched.now).touched (map (λ p. p.dest) latest.now.plans)) }) }
 {
     let net = frozen_copy(alloc, latest)?;
     let waiting = waiting_dests(alloc, latest, touched)?;
     let slots = all_slots(alloc, &net, touched, version)?;
-    Ok(Target::new(number, net, waiting, slots))
+    let difference = difference_from(alloc, &net, version, events)?;
+    Ok(Target::new(number, net, waiting, slots, difference))
 }

@@ -3,7 +3,7 @@
 use net_data::Event;
 
 /// A collector's last accepted post; a sequence number of 0 stands for none.
-#[derive(Debug, Drop)]
+#[derive(Drop)]
 pub struct Last {
     /// Its sequence number.
     pub seq: u64,

@@ -8,15 +8,27 @@ ghost use Rattle.excerpts.specs.Excerpt.{content_at, content_of, excerpt_at};
 ghost use Rattle.transfer_state.specs.Routing.{settled_routing};
 ghost use Rattle.dirty_sets.specs.Waiting.{first_waiting, taken, is_out as out_among, least, out, put_last, waiting, without_task};
 ghost use Rattle.net_versions.specs.Versions.{settled_routings};
-ghost use Rattle.desk_core.specs.Targets.{AreFilled};
+ghost use Rattle.work_units.specs.Work.{IsJob};
+ghost use Rattle.desk_core.specs.Targets.{AreFilled, DiffersBy};
 
 use dirty_sets::Waiting;
-use excerpts::{ExcerptFault, Frozen};
+use excerpts::{Ends, ExcerptFault, Frozen};
+use net_versions::Version;
 use point_codes::PointCode;
 use std::alloc::{AllocError, Global};
 use std::marker::Model;
+use std::sync::Arc;
 use transfer_state::{Routing, RoutingSlot};
 use work_units::{Job, Refusal, Settled};
+
+/// What an open target has of the version before.
+#[derive(Drop)]
+pub(crate) struct Difference {
+    /// That version.
+    pub(crate) version: Arc<Version>,
+    /// The ends of each set that became available since, or is so no longer.
+    pub(crate) turned: Arc<Vec<Ends>>,
+}
 
 /// An open target.
 #[derive(Drop)]
@@ -25,16 +37,18 @@ pub(crate) struct Target {
     net: Frozen,
     waiting: Waiting,
     slots: Vec<RoutingSlot>,
+    /// What the routings can be followed from, if there is something. They are the same without.
+    difference: Option<Difference>,
 }
 
 impl Model for Target {
-    ghost use Rattle.desk_core.specs.Targets.{TargetValue, AreFilled};
+    ghost use Rattle.desk_core.specs.Targets.{TargetValue, AreFilled, DiffersBy};
 
     ghost Value = { TargetValue };
 
     ghost view = { λ t. record { number = t.number; network = t.net; tasks = t.waiting } };
 
-    ghost invariant = { λ t. AreFilled t.net t.waiting t.slots.items };
+    ghost invariant = { λ t. record { filled : AreFilled t.net t.waiting t.slots.items; differs : DiffersBy t.net t.difference } };
 }
 
 /// The place of a destination, or where it would go.
@@ -71,8 +85,15 @@ fn all_routings(alloc: Global, slots: &[RoutingSlot]) -> Result<Vec<Routing>, Al
 
 impl Target {
     /// A target with its tasks, and a place for each planned destination.
-    pub(crate) fn new(number: u64, net: Frozen, waiting: Waiting, slots: Vec<RoutingSlot>) -> Target
-        requires { AreFilled net waiting slots.items }
+    pub(crate) fn new(
+        number: u64,
+        net: Frozen,
+        waiting: Waiting,
+        slots: Vec<RoutingSlot>,
+        difference: Option<Difference>,
+    ) -> Target
+        requires filled { AreFilled net waiting slots.items }
+        requires differs { DiffersBy net difference }
         ensures { result ≡ record { number = number; network = net; tasks = waiting } }
     {
         Target {
@@ -80,6 +101,7 @@ impl Target {
             net,
             waiting,
             slots,
+            difference,
         }
     }
 
@@ -125,6 +147,18 @@ impl Target {
         self.waiting.is_out(dest)
     }
 
+    /// A job for a destination, followed from the version before if there is something to follow.
+    fn job_for(&self, dest: PointCode) -> Result<Job, ExcerptFault>
+        ensures { IsJob self.now.number (excerpt_at self.now.network dest) result }
+    {
+        if let Some(difference) = &self.difference
+            && let Some(routing) = difference.version.routing(dest)
+        {
+            return Job::after(self.number, &self.net, routing, &difference.turned);
+        }
+        Job::of(self.number, &self.net, dest)
+    }
+
     /// A job for the first destination that waits, which is out from then on.
     pub(crate) fn take(&mut self) -> Result<Job, Refusal>
         ensures none { first_waiting self.old.tasks ≡ None → (result ≡ Err Refusal.Nothing) × (self.new ≡ self.old) }
@@ -135,7 +169,7 @@ impl Target {
         let Some(dest) = self.waiting.first() else {
             return Err(Refusal::Nothing);
         };
-        match Job::of(self.number, &self.net, dest) {
+        match self.job_for(dest) {
             Ok(job) => {
                 self.waiting.take_first();
                 Ok(job)

@@ -12,7 +12,7 @@ use point_codes::PointCode;
 use std::alloc::{AllocError, Global};
 
 /// An edit of a network, or a change of a link's state.
-#[derive(Debug, Drop)]
+#[derive(Drop)]
 pub enum Event {
     /// A change of a link's marks: the set's id, the link's code, the change.
     Link(u16, u8, LinkChange),

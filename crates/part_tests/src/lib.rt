@@ -1,11 +1,13 @@
-//! Tests of the parts: codes, links, shares, choices, tokens, tables and plain data. Each call that allocates runs once
-//! with ample memory, and its answer is compared with one worked out by hand.
+//! Tests of the parts (codes, links, shares, choices, tokens, tables and plain data) and of edits of a network. Each call that
+//! allocates runs once with ample memory, and its answer is compared with one worked out by hand.
 //!
-//! Stands on `profile`, `tokens`, `agreed`. Nothing else changes with it.
+//! Stands on `profile`, `agreed`, `sample_nets`. Nothing else changes with it.
 #![tactic(auto)]
 
 #[cfg(test)]
 mod agreement_tests;
+#[cfg(test)]
+mod change_tests;
 #[cfg(test)]
 mod choice_tests;
 #[cfg(test)]
@@ -13,9 +15,13 @@ mod code_tests;
 #[cfg(test)]
 mod copy_tests;
 #[cfg(test)]
+mod edits;
+#[cfg(test)]
 mod link_set_tests;
 #[cfg(test)]
 mod mark_tests;
+#[cfg(test)]
+mod net_tests;
 #[cfg(test)]
 mod parts;
 #[cfg(test)]

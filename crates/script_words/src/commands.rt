@@ -8,7 +8,7 @@ use point_codes::PointCode;
 use std::marker::Model;
 
 /// Some events, in their order.
-#[derive(Debug, Drop)]
+#[derive(Drop)]
 pub struct Events {
     list: Vec<Event>,
 }
@@ -39,7 +39,7 @@ impl Events {
 }
 
 /// What a line commands.
-#[derive(Debug, Drop)]
+#[derive(Drop)]
 pub enum Command {
     /// An event, posted by collector 0.
     Event(Event),

@@ -1,9 +1,8 @@
-//! What the tests start from: networks after changes of links, and excerpts, tables and versions of them.
+//! What the tests start from: networks after changes of links, and excerpts and tables of them.
 
 use excerpts::{Excerpt, Frozen};
 use link_state::LinkChange;
 use net_data::{Event, Net};
-use net_versions::Version;
 use point_codes::PointCode;
 use sample_nets::{code, two_ends, worked};
 use script_words::read_event;
@@ -25,19 +24,14 @@ pub(crate) fn two_ends_net(rt: &impl Abort, alloc: Global) -> Net {
     two_ends(alloc).expect(rt, "a network")
 }
 
-/// The network after some changes of links.
-fn edited(rt: &impl Abort, alloc: Global, mut net: Net, edits: &[Edit]) -> Net {
+/// The worked network after some changes of links.
+pub(crate) fn worked_after(rt: &impl Abort, alloc: Global, edits: &[Edit]) -> Net {
+    let mut net = worked(alloc).expect(rt, "a network");
     for (id, slc, change) in edits {
         let event = Event::Link(*id, *slc, *change);
         net.apply(alloc, &event).expect(rt, "a change");
     }
     net
-}
-
-/// The worked network after some changes of links.
-pub(crate) fn worked_after(rt: &impl Abort, alloc: Global, edits: &[Edit]) -> Net {
-    let net = worked(alloc).expect(rt, "a network");
-    edited(rt, alloc, net, edits)
 }
 
 /// A network that doesn't change.
@@ -70,12 +64,6 @@ pub(crate) fn new_table(rt: &impl Abort, alloc: Global, excerpt: &Excerpt) -> Ta
 /// The table of 2-1-2 between two ends.
 pub(crate) fn two_ends_table(rt: &impl Abort, alloc: Global) -> Table {
     new_table(rt, alloc, &two_ends_excerpt(rt, alloc))
-}
-
-/// A version of two ends, after some changes of links.
-pub(crate) fn version_after(rt: &impl Abort, alloc: Global, edits: &[Edit]) -> Version {
-    let net = edited(rt, alloc, two_ends_net(rt, alloc), edits);
-    Version::opening(alloc, net).expect(rt, "memory")
 }
 
 /// The event that a line of words says.

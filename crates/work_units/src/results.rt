@@ -4,7 +4,9 @@ ghost use Rattle.std.specs.Prelude.{◌≡◌, IfOk, IfErr};
 ghost use Rattle.profile.specs.Whole.{scratch};
 ghost use Rattle.excerpts.specs.Excerpt.{source_of};
 ghost use Rattle.transfer_state.specs.Routing.{settled_routing};
+ghost use Rattle.work_units.specs.Before.{CanFollowAny};
 
+use crate::befores::Before;
 use crate::jobs::Job;
 use excerpts::Excerpt;
 use point_codes::PointCode;
@@ -75,14 +77,30 @@ impl Settled {
     }
 }
 
+/// The settled routing of an excerpt, followed from the version before if there is something to follow.
+fn routing_of(
+    alloc: Global,
+    excerpt: Excerpt,
+    before: &Option<Before>,
+) -> Result<Routing, (Excerpt, AllocError)>
+    requires { CanFollowAny excerpt before.now }
+    ensures ok { IfOk result (λ r. r ≡ settled_routing excerpt) }
+    ensures err { IfErr result (λ e. e.0 ≡ excerpt) }
+{
+    match before {
+        Some(before) => Routing::follow(alloc, excerpt, before.routing(), before.turned()),
+        None => Routing::of(alloc, excerpt),
+    }
+}
+
 /// Does a job: the result has its version and its excerpt. If memory is refused it hands the job back.
 pub fn settle(alloc: Global, job: Job) -> Result<Settled, (Job, AllocError)>
     ensures ok { IfOk result (λ s. s ≡ job) }
     ensures err { IfErr result (λ e. e.0 ≡ job) }
 {
-    let (version, excerpt) = job.into_parts();
-    match Routing::of(alloc, excerpt) {
+    let (version, excerpt, before) = job.into_parts();
+    match routing_of(alloc, excerpt, &before) {
         Ok(routing) => Ok(Settled { version, routing }),
-        Err((excerpt, refused)) => Err((Job::from_parts(version, excerpt), refused)),
+        Err((excerpt, refused)) => Err((Job::from_parts(version, excerpt, before), refused)),
     }
 }

@@ -1,4 +1,4 @@
-use Rattle.std.proofs.Common.{◌≡◌, ◌∙◌, ap, ◌||◌}
+use Rattle.std.proofs.Common.{◌∙◌, ap, ◌||◌}
 use Rattle.dirty_sets.specs.Touch.{touches}
 use Rattle.desk_core.proofs.following.follow_edit.Goals as goal
 

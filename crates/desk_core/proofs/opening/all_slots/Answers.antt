@@ -1,5 +1,5 @@
 use Rattle.std.proofs.lemmas.Grind.{common_steps}
-use Rattle.std.proofs.Common.{◌≡◌, ◌++◌, ◌<◌, ◌+◌, List, ap, sym, ◌∙◌, arith, length, map, drop}
+use Rattle.std.proofs.Common.{◌++◌, ◌<◌, ◌+◌, List, ap, ◌∙◌, arith, length, map, drop}
 use Rattle.net_items.specs.declared.items.Plan.{Plan}
 use Rattle.net_data.specs.Network.{Network}
 use Rattle.transfer_state.specs.Routing.{RoutingSlotValue}

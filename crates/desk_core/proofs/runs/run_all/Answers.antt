@@ -1,4 +1,4 @@
-use Rattle.std.proofs.Common.{◌≡◌, ℕ, ◌+◌, ◌≤◌, List, [], ◌∷◌, ◌++◌, length, ap, sym, ◌∙◌, arith, length-append}
+use Rattle.std.proofs.Common.{◌+◌, List, [], ◌∷◌, ap, sym, ◌∙◌, arith, length-append}
 use Rattle.desk_core.specs.declared.steps.Step.{Step}
 use Rattle.desk_core.specs.declared.steps.Reply.{Reply}
 use Rattle.desk_core.proofs.RunLemmas.{runs-push}

@@ -1,4 +1,4 @@
-use Rattle.std.proofs.Common.{◌≡◌, ℕ, ◌+◌, ◌<◌, ◌≤◌, ◌^◌, ◌∷◌, [], ◌++◌, None, List, length, refl, ap, sym, ◌∙◌, arith, subst}
+use Rattle.std.proofs.Common.{◌≡◌, ◌+◌, ◌<◌, ◌^◌, ◌∷◌, [], ◌++◌, None, List, length, refl, ap, sym, ◌∙◌, arith, subst}
 use Rattle.std.proofs.Math.ListN.{length-set}
 use Rattle.net_data.specs.declared.events.Event.{Event}
 use Rattle.net_data.specs.Edits.{refusal_of}

@@ -1,10 +1,10 @@
-use Rattle.std.proofs.Common.{◌≡◌, ℕ, Option, None, Some, Ok, false, eqb, List, length, map, ap, sym, ◌∙◌, subst, refl, rules}
+use Rattle.std.proofs.Common.{◌≡◌, ℕ, None, Some, Ok, false, eqb, List, length, ap, sym, ◌∙◌, subst, rules}
 use Rattle.std.specs.Arc.{arc_value}
 use Rattle.std.specs.Option.{option_map}
 use Rattle.dirty_sets.specs.Touched.{marks_of}
 use Rattle.dirty_sets.specs.Waiting.{Task, all_waiting, waiting}
 use Rattle.work_units.specs.declared.replies.Opened.{Opened}
-use Rattle.desk_core.specs.Desk.{DeskValue, OpenTarget, accepted, to_settle}
+use Rattle.desk_core.specs.Desk.{DeskValue, accepted, to_settle}
 use Rattle.desk_core.specs.Steps.{Opens, with_target}
 use Rattle.desk_core.specs.Targets.{TargetValue}
 use Rattle.desk_core.specs.Inside.{IsInside}

@@ -10,5 +10,5 @@ pub returns : goal.returns
 returns c =
     subst (λ (rs : List RoutingValue). IfOk c.all_routings.result (λ v. v.items ≡ rs))
     (ap (map (λ (s : RoutingSlotValue). settled_routing s.excerpt)) c.as_slice.ensures.value
-    ∙ routings_by (λ (s : RoutingSlotValue). s.excerpt) c.self.inside.net c.self.inside.slots.items c.self.invariant.all ∙ ap (λ (t : TargetValue). settled_routings t.network) c.self.view_is)
+    ∙ routings_by (λ (s : RoutingSlotValue). s.excerpt) c.self.inside.net c.self.inside.slots.items c.self.invariant.filled.all ∙ ap (λ (t : TargetValue). settled_routings t.network) c.self.view_is)
     c.all_routings.ensures
