@@ -8,7 +8,7 @@ use Rattle.net_items.specs.Lookups.{plan_at}
 use Rattle.net_data.specs.Network.{Network}
 use Rattle.excerpts.specs.Excerpt.{ExcerptValue, content_at, content_in, content_of, excerpt_at, excerpt_in}
 use Rattle.work_units.specs.Work.{Work}
-use Rattle.dirty_sets.specs.Waiting.{Task, waiting_task, out, is_out, least, taken, without_task}
+use Rattle.dirty_sets.specs.Waiting.{Task, waiting_task, first_waiting, out, waiting, is_out, least, taken, without_task}
 use Rattle.dirty_sets.proofs.ChangeLemmas.{key_of}
 use Rattle.work_units.specs.declared.replies.Refusal.{Refusal}
 use Rattle.work_units.specs.declared.replies.Refusal.TheVariants.{Nothing, OutOfMemory}
@@ -44,6 +44,24 @@ waits_open d = go d.target
     go : (o : Option OpenTarget) → 0 < waiting_count (record d { target = o }) → is_some o ≡ true
     go None some = absurd (let wrong : 0 < 0 = some in omega arith)
     go (Some t) some = refl
+
+-- a first destination waits exactly if some do
+first_counts : (tasks : List Task) → (is_some (first_waiting tasks) ≡ true → 0 < length (waiting tasks)) × (is_some (first_waiting tasks) ≡ false → length (waiting tasks) ≡ 0)
+first_counts [] = ((λ e. absurd (let no : false ≡ true = e in cc)), λ e. refl)
+first_counts (t ∷ ts) = go t.is_out refl (first_counts ts)
+  where
+    go : (b : Bool) → t.is_out ≡ b → (is_some (first_waiting ts) ≡ true → 0 < length (waiting ts)) × (is_some (first_waiting ts) ≡ false → length (waiting ts) ≡ 0)
+        → (is_some (first_waiting (t ∷ ts)) ≡ true → 0 < length (waiting (t ∷ ts))) × (is_some (first_waiting (t ∷ ts)) ≡ false → length (waiting (t ∷ ts)) ≡ 0)
+    go true e rec = rw e rec
+    go false e rec = rw e ((λ some. omega arith), λ none. absurd (let no : true ≡ false = none in cc))
+
+-- some wait if there is a first, and else none
+pub waits_first : (d : DeskValue) → (is_some (first_of d) ≡ true → 0 < waiting_count d) × (is_some (first_of d) ≡ false → waiting_count d ≡ 0)
+waits_first d = go d.target
+  where
+    go : (o : Option OpenTarget) → (is_some (first_of (record d { target = o })) ≡ true → 0 < waiting_count (record d { target = o })) × (is_some (first_of (record d { target = o })) ≡ false → waiting_count (record d { target = o }) ≡ 0)
+    go None = ((λ e. absurd (let no : false ≡ true = e in cc)), λ e. refl)
+    go (Some t) = first_counts t.tasks
 
 -- nothing has changed
 pub only_none : (d : DeskValue) → HasOnlyTasks d d

@@ -81,7 +81,7 @@ fn settle_all(alloc: Global, desk: &mut Desk) -> Result<(), AllocError>
     ensures done { OnOk result (tasks_left desk.new ≡ 0) }
     ensures run { IsRunOf desk.old [] desk.new }
 {
-    while desk.waiting() > 0 {
+    while desk.has_waiting() {
         settle_next(alloc, desk)?;
     }
     Ok(())

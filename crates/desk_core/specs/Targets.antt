@@ -3,8 +3,6 @@ use Rattle.std.specs.Prelude.{◌≡◌, ℕ, ◌==◌, ◌||◌, Bool, true, no
 use Rattle.std.specs.Arc.{arc_value}
 use Rattle.std.specs.List.{AllByRecursion, list_any}
 use Rattle.net_items.specs.declared.items.Plan.{Plan}
-use Rattle.net_data.specs.declared.events.Event.{Event}
-use Rattle.net_data.specs.Kinds.{is_of_links, is_of_sets}
 use Rattle.net_data.specs.Network.{Network}
 use Rattle.excerpts.specs.Excerpt.{excerpt_at, excerpt_in}
 use Rattle.excerpts.specs.Turned.{HasTurned}
@@ -24,10 +22,6 @@ pub record TargetValue : Type 0 where
 abbrev pub DiffersBy : Network → Option Difference → Type 0
 DiffersBy net None = Unit {0}
 DiffersBy net (Some d) = HasTurned (arc_value d.version).network net (arc_value d.turned).items
-
--- an event that leaves points, plans and the transfer-restricted option
-abbrev pub keeps_plans : Event → Bool
-keeps_plans event = is_of_links event || is_of_sets event
 
 -- the destination waits or is out
 abbrev pub is_task : List Task → ℕ → Bool

@@ -2,12 +2,11 @@
 
 ghost use Rattle.std.specs.Prelude.{◌≡◌, ◌<◌, ℕ, true, false, not, IfOk, filter, length, map, slice_index_or};
 ghost use Rattle.std.specs.Arc.{arc_value};
-ghost use Rattle.std.specs.List.{list_all};
 ghost use Rattle.net_items.specs.declared.items.Plan.{Plan};
 ghost use Rattle.excerpts.specs.Excerpt.{content_at};
 ghost use Rattle.dirty_sets.specs.Touch.{is_planned};
 ghost use Rattle.net_data.specs.Edits.{replay};
-ghost use Rattle.desk_core.specs.Targets.{DiffersBy, IsSlotFor, keeps_plans, routing_slot_of};
+ghost use Rattle.desk_core.specs.Targets.{DiffersBy, IsSlotFor, routing_slot_of};
 ghost use Rattle.dirty_sets.specs.Touched.{marks_of};
 ghost use Rattle.dirty_sets.specs.Waiting.{all_waiting};
 
@@ -101,12 +100,12 @@ fn all_slots(
     Ok(slots)
 }
 
-/// A copy of a network, frozen.
-fn frozen_copy(alloc: Global, net: &Net) -> Result<Frozen, AllocError>
+/// A copy of a network, frozen after the one before.
+fn frozen_copy(alloc: Global, net: &Net, before: &Frozen) -> Result<Frozen, AllocError>
     ensures { IfOk result (λ frozen. frozen ≡ net.now) }
 {
     let copy = net.copy(alloc)?;
-    Frozen::new(alloc, copy)
+    Frozen::after(alloc, copy, before)
 }
 
 /// The touched destinations, all of which wait.
@@ -116,27 +115,6 @@ fn waiting_dests(alloc: Global, net: &Net, touched: &Touched) -> Result<Waiting,
     net.validity();
     let dests = touched_dests(alloc, net, touched)?;
     Waiting::fill(alloc, &dests)
-}
-
-/// How many ends of turned sets a target keeps at most. Beyond, it costs less to settle each destination from scratch.
-const TURNED_LIMIT: usize = 64;
-
-/// Whether an event leaves points, plans and the transfer-restricted option as they are.
-fn is_keeping(event: &Event) -> bool
-    ensures { result ≡ keeps_plans event.now }
-{
-    match event {
-        Event::Link(_, _, _) | Event::AddLink(_, _) | Event::RemoveLink(_, _) => true,
-        Event::AddSet(_, _, _, _) | Event::RemoveSet(_) => true,
-        _ => false,
-    }
-}
-
-/// Whether all events do so.
-fn are_keeping(events: &[Event]) -> bool
-    ensures { result ≡ list_all keeps_plans events.now }
-{
-    events.iter().all(is_keeping)
 }
 
 /// What a network has of the version before, if nothing but links and sets changed since, and few sets turned.
@@ -149,13 +127,9 @@ fn difference_from(
     requires { net.now ≡ replay (arc_value version.now).network events.now }
     ensures { IfOk result (DiffersBy net.now) }
 {
-    if !are_keeping(events) {
+    let Some(turned) = net.turned_by(alloc, version.net(), events)? else {
         return Ok(None);
-    }
-    let turned = net.turned(alloc, version.net())?;
-    if turned.len() > TURNED_LIMIT {
-        return Ok(None);
-    }
+    };
     Ok(Some(Difference {
         version: Arc::try_clone(version)?,
         turned: Arc::new(alloc, turned)?,
@@ -175,7 +149,7 @@ pub(crate) fn new_target(
     requires kept { (x : ℕ) → x < 16384 → (marks_of touched.now).touched x ≡ false → content_at latest.now x ≡ content_at (arc_value version.now).network x }
     ensures { IfOk result (λ t. t ≡ record { number = number; network = latest.now; tasks = all_waiting (filter (marks_of touched.now).touched (map (λ p. p.dest) latest.now.plans)) }) }
 {
-    let net = frozen_copy(alloc, latest)?;
+    let net = frozen_copy(alloc, latest, version.net())?;
     let waiting = waiting_dests(alloc, latest, touched)?;
     let slots = all_slots(alloc, &net, touched, version)?;
     let difference = difference_from(alloc, &net, version, events)?;

@@ -1,6 +1,6 @@
 //! An open target: the next version while its routings come in.
 
-ghost use Rattle.std.specs.Prelude.{◌≡◌, ◌↔◌, IsTrue, true, [], None, Some, Err, IfOk, IfErr, MatchResult, length, map};
+ghost use Rattle.std.specs.Prelude.{◌≡◌, ◌↔◌, IsTrue, true, [], None, Some, Err, IfOk, IfErr, MatchResult, is_some, length, map};
 ghost use Rattle.std.specs.List.{AllByRecursion};
 ghost use Rattle.std.specs.Option.{MatchOption};
 ghost use Rattle.net_items.specs.Keyed.{IsRising, IsFoundAt, IsGapAt};
@@ -117,6 +117,13 @@ impl Target {
         ensures { result.now ≡ self.now.network }
     {
         &self.net
+    }
+
+    /// Whether a destination waits.
+    pub(crate) fn has_waiting(&self) -> bool
+        ensures { result ≡ is_some (first_waiting self.now.tasks) }
+    {
+        self.waiting.first().is_some()
     }
 
     /// How many destinations wait.

@@ -8,7 +8,8 @@ ghost use Rattle.dirty_sets.specs.Touch.{IsTouchIndex, is_planned, sets_plan as 
 ghost use Rattle.dirty_sets.specs.Index.{IsReaderOf, bare_set as the_bare_set, reads_any as any_read, reads_of};
 ghost use Rattle.dirty_sets.specs.Kept.{is_on_set, keeps_reads};
 
-use crate::bits::{Codes, SetIds};
+use crate::bits::Codes;
+use crate::noted::NotedIds;
 use crate::readers;
 use crate::readers::Reader;
 use crate::reading::sets_read;
@@ -262,14 +263,14 @@ impl TouchIndex {
     }
 
     /// Marks the destinations whose tables read one of some sets.
-    pub(crate) fn mark_any(&self, ids: &SetIds, marks: &mut Codes)
+    pub(crate) fn mark_any(&self, ids: &NotedIds, marks: &mut Codes)
         ensures { (x : ℕ) → is_marked marks.new x ≡ (is_marked marks.old x || any_read self.now.readers ids.now x) }
     {
         readers::mark_any_readers(self.readers.as_slice(), ids, marks);
     }
 
     /// Whether the table of a destination reads one of some sets.
-    pub(crate) fn reads_any(&self, dest: PointCode, ids: &SetIds) -> bool
+    pub(crate) fn reads_any(&self, dest: PointCode, ids: &NotedIds) -> bool
         ensures { result ≡ any_read self.now.readers ids.now dest }
     {
         readers::reads_any(self.readers.as_slice(), dest, ids)

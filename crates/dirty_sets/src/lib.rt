@@ -14,6 +14,7 @@
 mod bits;
 pub mod index;
 pub mod laws;
+mod noted;
 mod readers;
 mod reading;
 pub mod touched;

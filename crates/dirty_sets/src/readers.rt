@@ -9,6 +9,7 @@ ghost use Rattle.dirty_sets.specs.Bits.{is_marked};
 ghost use Rattle.dirty_sets.specs.Index.{IsWithId, reads_among, reads_any as any_read, would_read};
 
 use crate::bits::{Codes, SetIds};
+use crate::noted::NotedIds;
 use excerpts::reading::is_read;
 use net_data::Net;
 use net_items::LinkSet;
@@ -45,7 +46,7 @@ pub fn reads(readers: &[Reader], dest: PointCode, id: u16) -> bool
 }
 
 /// Whether the table of a destination reads one of some sets.
-pub fn reads_any(readers: &[Reader], dest: PointCode, ids: &SetIds) -> bool
+pub fn reads_any(readers: &[Reader], dest: PointCode, ids: &NotedIds) -> bool
     requires { IsRising (λ r. r.dest) readers.now }
     ensures { result ≡ any_read readers.now ids.now dest }
 {
@@ -88,7 +89,7 @@ pub fn mark_readers(readers: &[Reader], id: u16, marks: &mut Codes)
 }
 
 /// Marks the destinations whose tables read one of some sets.
-pub fn mark_any_readers(readers: &[Reader], ids: &SetIds, marks: &mut Codes)
+pub fn mark_any_readers(readers: &[Reader], ids: &NotedIds, marks: &mut Codes)
     requires { IsRising (λ r. r.dest) readers.now }
     ensures { (x : ℕ) → is_marked marks.new x ≡ (is_marked marks.old x || any_read readers.now ids.now x) }
 {

@@ -9,8 +9,9 @@ ghost use Rattle.dirty_sets.specs.Index.{reads_of};
 ghost use Rattle.dirty_sets.specs.Kept.{is_on_set, keeps_reads, touches_none};
 ghost use Rattle.dirty_sets.specs.Touched.{marks_of};
 
-use crate::bits::{Codes, SetIds};
+use crate::bits::Codes;
 use crate::index::TouchIndex;
+use crate::noted::NotedIds;
 use net_data::{Event, Net};
 use point_codes::PointCode;
 use std::alloc::{AllocError, Global};
@@ -21,7 +22,7 @@ use std::marker::Model;
 pub struct Touched {
     index: TouchIndex,
     /// The sets that link events were on since the last flush: what they touch is marked later.
-    ids: SetIds,
+    ids: NotedIds,
     /// The destinations that are marked already.
     marks: Codes,
 }
@@ -42,7 +43,7 @@ impl Touched {
     {
         Ok(Touched {
             index: TouchIndex::new(alloc, net)?,
-            ids: SetIds::new(),
+            ids: NotedIds::new(),
             marks: Codes::new(),
         })
     }
@@ -72,7 +73,7 @@ impl Touched {
         ensures blank { (others : List Bool) → meets self.new.ids others ≡ false }
     {
         self.index.mark_any(&self.ids, &mut self.marks);
-        self.ids = SetIds::new();
+        self.ids = NotedIds::new();
     }
 
     /// Notes an event on a link.
@@ -139,7 +140,7 @@ impl Touched {
         ensures index { (marks_of self.new).index ≡ (marks_of self.old).index }
         ensures clear { IsClear (marks_of self.new) }
     {
-        self.ids = SetIds::new();
+        self.ids = NotedIds::new();
         self.marks = Codes::new();
     }
 }

@@ -6,3 +6,5 @@ pub mod NextLemmas
 pub mod FirstLemmas
 pub mod EntryLemmas
 pub mod TurnedLemmas
+pub mod RenewedLemmas
+pub mod KeepingLemmas

@@ -12,7 +12,7 @@ use Rattle.excerpts.specs.declared.turned.Ends.{Ends}
 use Rattle.excerpts.specs.Turned.{has_ends}
 
 -- what is found has a place, and passes
-place_found : {X : Type 0} (p : X → Bool) (xs : List X) (x : X) → find p xs ≡ Some x → (k : ℕ) × (slice_get xs k ≡ Some x) × (p x ≡ true)
+pub place_found : {X : Type 0} (p : X → Bool) (xs : List X) (x : X) → find p xs ≡ Some x → (k : ℕ) × (slice_get xs k ≡ Some x) × (p x ≡ true)
 place_found p [] x e = cc
 place_found p (y ∷ ys) x e = go (p y) refl (place_found p ys x)
   where
@@ -21,7 +21,7 @@ place_found p (y ∷ ys) x e = go (p y) refl (place_found p ys x)
     go false t rec = let later = rec (rw t at e) in (suc later.0, later.1, later.2)
 
 -- the ends of a set between two points are these, in one order or the other
-ends_of_joint : (y z : ℕ) (s : LinkSet) → joins y z s ≡ true → ((s.a ≡ y) × (s.b ≡ z)) ⊎ ((s.a ≡ z) × (s.b ≡ y))
+pub ends_of_joint : (y z : ℕ) (s : LinkSet) → joins y z s ≡ true → ((s.a ≡ y) × (s.b ≡ z)) ⊎ ((s.a ≡ z) × (s.b ≡ y))
 ends_of_joint y z s e = go (eqb s.a y) refl (eqb s.b z) refl
   where
     back : (p q : Bool) → eqb s.a z ≡ p → eqb s.b y ≡ q → (p && q) ≡ true → ((s.a ≡ y) × (s.b ≡ z)) ⊎ ((s.a ≡ z) × (s.b ≡ y))

@@ -1,5 +1,5 @@
 -- The index of the pairs of points that sets join.
-use Rattle.std.specs.Prelude.{◌≡◌, ◌<◌, ◌≤◌, ℕ, Bool, false, Option, Some, None, List, length, drop, slice_get, slice_index}
+use Rattle.std.specs.Prelude.{◌≡◌, ◌<◌, ◌≤◌, ℕ, Bool, false, Option, Some, None, List, [], ◌∷◌, length, drop, slice_get, slice_index}
 use Rattle.std.specs.Option.{option_map_or, IsSomeAnd, MatchOption}
 use Rattle.std.specs.List.{AllByRecursion}
 use Rattle.std.specs.List.Sorted.{IsPartitionPoint}
@@ -36,6 +36,22 @@ pub record IsIndexFrom (position : ℕ) (joints : List Joint) (sets : List LinkS
 -- the index of all sets
 abbrev pub IsJointIndex : List Joint → List LinkSet → Type 0
 IsJointIndex joints sets = IsIndexFrom 0 joints sets
+
+-- two sets join the same points, in the same order
+pub record HasSameEnds (set other : LinkSet) : Type 0 where
+  pub first : set.a ≡ other.a
+  pub second : set.b ≡ other.b
+
+-- the sets of two lists join the same points, place by place
+abbrev pub AreSameEnds : List LinkSet → List LinkSet → Type 0
+AreSameEnds [] [] = Unit {0}
+AreSameEnds [] (other ∷ others) = ⊥
+AreSameEnds (set ∷ sets) [] = ⊥
+AreSameEnds (set ∷ sets) (other ∷ others) = HasSameEnds set other × AreSameEnds sets others
+
+-- a joint over other sets: it leads to the set in the same place
+abbrev pub renewed : List LinkSet → Joint → Joint
+renewed sets j = record j { up = option_map_or set_available (slice_get sets j.position) false }
 
 -- the index has the pair, with a set that is available
 abbrev pub is_up : List Joint → ℕ → ℕ → Bool

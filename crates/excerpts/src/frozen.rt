@@ -7,12 +7,13 @@ ghost use Rattle.net_data.specs.Valid.{IsValid};
 ghost use Rattle.link_sets.specs.Availability.{connected};
 ghost use Rattle.link_sets.specs.Neighbours.{neighbours as neighbours_of, next_from, IsCodeFrom};
 ghost use Rattle.excerpts.specs.Around.{neighbours_left};
-ghost use Rattle.excerpts.specs.Turned.{AreTurned};
+ghost use Rattle.net_data.specs.Edits.{replay};
+ghost use Rattle.excerpts.specs.Turned.{HasTurned};
 
 use crate::indexed::Indexed;
 use crate::neighbours::Neighbours;
-use crate::turned::{Ends, turned_ends};
-use net_data::Net;
+use crate::turned::{Ends, turned_by};
+use net_data::{Event, Net};
 use net_items::LinkSet;
 use point_codes::PointCode;
 use std::alloc::{AllocError, Global};
@@ -40,6 +41,16 @@ impl Frozen {
         ensures { IfOk result (λ f. f ≡ net) }
     {
         let indexed = Indexed::new(alloc, net)?;
+        Ok(Frozen {
+            indexed: Arc::new(alloc, indexed)?,
+        })
+    }
+
+    /// The same, with less work if the sets of an earlier network join the same points, as after events on links alone.
+    pub fn after(alloc: Global, net: Net, before: &Frozen) -> Result<Frozen, AllocError>
+        ensures { IfOk result (λ f. f ≡ net) }
+    {
+        let indexed = Indexed::after(alloc, net, &before.indexed)?;
         Ok(Frozen {
             indexed: Arc::new(alloc, indexed)?,
         })
@@ -97,11 +108,18 @@ impl Frozen {
         Neighbours::new(&self.indexed, point)
     }
 
-    /// Pairs of points, in both orders, and among them all that an available set joins in this network or in an earlier one,
-    /// and not in both. That it has no others isn't promised. It fails only if memory is refused.
-    pub fn turned(&self, alloc: Global, before: &Frozen) -> Result<Vec<Ends>, AllocError>
-        ensures { IfOk result (λ list. AreTurned before.now.sets self.now.sets list.items) }
+    /// If some events made this network of an earlier one, and changed links and sets alone: pairs of points, in both orders,
+    /// and among them all that an available set joins in one of the two networks alone. That it has no others isn't promised,
+    /// and none are told if there are more than 64. It fails only if memory is refused.
+    pub fn turned_by(
+        &self,
+        alloc: Global,
+        before: &Frozen,
+        events: &[Event],
+    ) -> Result<Option<Vec<Ends>>, AllocError>
+        requires { self.now ≡ replay before.now events.now }
+        ensures { IfOk result (λ o. IfSome o (λ list. HasTurned before.now self.now list.items)) }
     {
-        turned_ends(alloc, self, before)
+        turned_by(alloc, self, before, events)
     }
 }

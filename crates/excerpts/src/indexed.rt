@@ -7,7 +7,7 @@ ghost use Rattle.net_data.specs.Valid.{IsValid};
 ghost use Rattle.link_sets.specs.Availability.{connected};
 ghost use Rattle.link_sets.specs.Neighbours.{next_from, IsCodeFrom};
 
-use crate::index::{find_joint, index_of, next_up};
+use crate::index::{are_same_ends, find_joint, index_after, index_of, next_up};
 use crate::joints::Joints;
 use net_data::Net;
 use net_items::LinkSet;
@@ -39,6 +39,19 @@ impl Indexed {
         ensures { IfOk result (λ f. f ≡ net) }
     {
         let list = index_of(alloc, net.sets())?;
+        let joints = Joints::new(alloc, list)?;
+        Ok(Indexed { net, joints })
+    }
+
+    /// The same, made faster if the sets of an earlier network join the same points, place by place.
+    pub fn after(alloc: Global, net: Net, before: &Indexed) -> Result<Indexed, AllocError>
+        ensures { IfOk result (λ f. f ≡ net) }
+    {
+        net.validity();
+        if !are_same_ends(before.net.sets(), net.sets()) {
+            return Indexed::new(alloc, net);
+        }
+        let list = index_after(alloc, before.joints.as_slice(), net.sets())?;
         let joints = Joints::new(alloc, list)?;
         Ok(Indexed { net, joints })
     }

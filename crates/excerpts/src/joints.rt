@@ -70,6 +70,13 @@ impl Joints {
         Ok(Joints { list, firsts })
     }
 
+    /// All joints.
+    pub fn as_slice(&self) -> &[Joint]
+        ensures { result.now ≡ self.now }
+    {
+        self.list.as_slice()
+    }
+
     /// The joints of the pairs whose first point is this one.
     pub fn of_point(&self, point: PointCode) -> &[Joint]
         ensures rise { IsRising (λ j. j.pair) result.now }

@@ -3,9 +3,13 @@
 ghost use Rattle.std.specs.Prelude.{◌≡◌, ◌≢◌, ◌↔◌, ℕ, IsTrue, true, IfOk, OnOk, is_some};
 ghost use Rattle.net_items.specs.Lookups.{set_between};
 ghost use Rattle.link_sets.specs.Availability.{connected};
-ghost use Rattle.excerpts.specs.Turned.{has_ends, AreTurned};
+ghost use Rattle.std.specs.List.{list_all};
+ghost use Rattle.std.specs.Option.{IfSome};
+ghost use Rattle.net_data.specs.Edits.{replay};
+ghost use Rattle.excerpts.specs.Turned.{has_ends, keeps_plans, AreTurned, HasTurned};
 
 use crate::Frozen;
+use net_data::Event;
 use net_items::LinkSet;
 use point_codes::PointCode;
 use std::alloc::{AllocError, Global};
@@ -73,13 +77,51 @@ fn put_turned(
     Ok(())
 }
 
-/// Pairs of points, in both orders, and among them all that an available set joins in one of two networks alone. It fails only
-/// if memory is refused.
-pub(crate) fn turned_ends(
+/// How many ends of turned sets are told at most.
+const TURNED_LIMIT: usize = 64;
+
+/// Whether an event leaves points, plans and the transfer-restricted option as they are.
+fn is_keeping(event: &Event) -> bool
+    ensures { result ≡ keeps_plans event.now }
+{
+    match event {
+        Event::Link(_, _, _) | Event::AddLink(_, _) | Event::RemoveLink(_, _) => true,
+        Event::AddSet(_, _, _, _) | Event::RemoveSet(_) => true,
+        _ => false,
+    }
+}
+
+/// Whether all events do so.
+fn are_keeping(events: &[Event]) -> bool
+    ensures { result ≡ list_all keeps_plans events.now }
+{
+    events.iter().all(is_keeping)
+}
+
+/// The ends of the sets that turned by some events, in both orders, if these leave points, plans and the option as they are, and
+/// few sets turned. It fails only if memory is refused.
+pub(crate) fn turned_by(
     alloc: Global,
     net: &Frozen,
     before: &Frozen,
-) -> Result<Vec<Ends>, AllocError>
+    events: &[Event],
+) -> Result<Option<Vec<Ends>>, AllocError>
+    requires { net.now ≡ replay before.now events.now }
+    ensures { IfOk result (λ o. IfSome o (λ list. HasTurned before.now net.now list.items)) }
+{
+    if !are_keeping(events) {
+        return Ok(None);
+    }
+    let turned = turned_ends(alloc, net, before)?;
+    if turned.len() > TURNED_LIMIT {
+        return Ok(None);
+    }
+    Ok(Some(turned))
+}
+
+/// Pairs of points, in both orders, and among them all that an available set joins in one of two networks alone. It fails only
+/// if memory is refused.
+fn turned_ends(alloc: Global, net: &Frozen, before: &Frozen) -> Result<Vec<Ends>, AllocError>
     ensures { IfOk result (λ list. AreTurned before.now.sets net.now.sets list.items) }
 {
     let mut list = Vec::new(alloc);

@@ -6,3 +6,4 @@ pub mod MemberLemmas
 pub mod PromiseLemmas
 pub mod RouteLemmas
 pub mod SizeLemmas
+pub mod StatusLemmas

@@ -3,6 +3,7 @@ use Rattle.std.specs.Prelude.{◌≡◌, ℕ, Bool, List, [], ◌∷◌, Option,
 use Rattle.std.specs.Option.{option_map, option_and_then}
 use Rattle.net_items.specs.declared.lists.Row.{Row}
 use Rattle.route_choice.specs.declared.choices.Choice.{Choice}
+use Rattle.route_choice.specs.declared.choices.Far.{Far}
 use Rattle.profile.specs.declared.tables.RowState.{RowState}
 use Rattle.profile.specs.declared.tables.Table.{Table}
 use Rattle.profile.specs.declared.hops.Hop.{Hop}
@@ -25,6 +26,10 @@ hop_by src row c s =
 -- the choices of the rows of an excerpt's plan, in their places
 abbrev pub IsChosen : ExcerptValue → List Choice → Type 0
 IsChosen x choices = choices ≡ map (choice (source_of x)) x.plan.rows
+
+-- the statuses of choices, in their places
+abbrev pub statuses_of : List Choice → List Far
+statuses_of choices = map (λ (c : Choice). c.status) choices
 
 -- a settled routing: its excerpt, and the choices that it keeps, in the places of the plan's rows
 pub record RoutingValue : Type 0 where

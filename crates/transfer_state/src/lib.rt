@@ -20,6 +20,7 @@
 #![tactic(auto)]
 
 mod choosing;
+mod comparing;
 pub mod complaints;
 mod following;
 mod hearing;

@@ -1,13 +1,14 @@
 //! The settled routing towards one destination: what each point of its plan uses.
 
-ghost use Rattle.std.specs.Prelude.{◌≡◌, ◌<◌, true, false, None, Some, IfOk, IfErr, if◌then◌else◌};
+ghost use Rattle.std.specs.Prelude.{◌≡◌, ◌↔◌, ◌<◌, IsTrue, true, false, None, Some, IfOk, IfErr, if◌then◌else◌};
 ghost use Rattle.std.specs.Option.{option_map};
 ghost use Rattle.profile.specs.Traces.{hop_of};
 ghost use Rattle.profile.specs.Whole.{scratch};
 ghost use Rattle.excerpts.specs.Excerpt.{content_of, source_of};
 ghost use Rattle.excerpts.specs.Turned.{HasTurned};
-ghost use Rattle.transfer_state.specs.Routing.{settled_routing, state_at};
+ghost use Rattle.transfer_state.specs.Routing.{settled_routing, state_at, statuses_of};
 
+use crate::comparing::have_same_statuses;
 use crate::following::choices_after;
 use crate::routes::{choice_at, hop_at, links_at, messages_at};
 use crate::sweep::choices;
@@ -126,6 +127,13 @@ impl Routing {
         ensures { result ≡ option_map (λ s. s.choice) (state_at self.now.excerpt point) }
     {
         choice_at(&self.excerpt, &self.choices, point)
+    }
+
+    /// Whether all rows have the statuses that those in their places have in another routing.
+    pub fn has_same_statuses(&self, other: &Routing) -> bool
+        ensures { IsTrue result ↔ (statuses_of self.now.choices ≡ statuses_of other.now.choices) }
+    {
+        have_same_statuses(&self.choices, &other.choices)
     }
 
     /// The link of each signalling link selection of a point, if it has a row (Q.704 clause 2.3).

@@ -17,6 +17,7 @@ use Rattle.route_choice.specs.declared.choices.Far.TheVariants.{Prohibited}
 use Rattle.route_choice.specs.Routes.{same_far}
 use Rattle.profile.specs.Status.{choice}
 use Rattle.excerpts.specs.Excerpt.{ExcerptValue, excerpt_at, source_of}
+use Rattle.transfer_state.specs.Routing.{RoutingValue, statuses_of}
 use Rattle.what_if.specs.declared.changes.Change.{Change}
 use Rattle.what_if.specs.declared.reports.Refused.{Refused}
 use Rattle.what_if.specs.declared.reports.Report.{Report}
@@ -54,6 +55,11 @@ change_between old new x y =
 -- the changes towards a destination, of each point that has a row before or after
 abbrev pub changes_between : Option ExcerptValue → Option ExcerptValue → ℕ → List Change
 changes_between old new x = flat_map (change_between old new x) (both (points old) (points new))
+
+-- a routing, if there is one, has the statuses of another in their places
+abbrev pub IsAlike : RoutingValue → Option RoutingValue → Type 0
+IsAlike before None = ⊥
+IsAlike before (Some after) = statuses_of after.choices ≡ statuses_of before.choices
 
 -- the changes from a network to another, towards each destination that is planned before or after
 abbrev pub changes : Network → Network → List Change

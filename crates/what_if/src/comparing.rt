@@ -1,15 +1,16 @@
 //! The changes from a network to another.
 
-ghost use Rattle.std.specs.Prelude.{◌≡◌, ◌++◌, [], true, IfOk, OnOk};
-ghost use Rattle.std.specs.Option.{option_copied};
+ghost use Rattle.std.specs.Prelude.{◌≡◌, ◌++◌, [], true, Some, IfOk, OnOk};
+ghost use Rattle.std.specs.Option.{IfSome, option_copied};
 ghost use Rattle.excerpts.specs.Excerpt.{excerpt_at};
+ghost use Rattle.excerpts.specs.Turned.{HasTurned};
 ghost use Rattle.transfer_state.specs.Routing.{routed_excerpt, settled_routing};
 ghost use Rattle.net_versions.specs.Versions.{routing_at};
-ghost use Rattle.what_if.specs.Reports.{changes as the_changes, change_between, changes_between, status_of as the_status};
+ghost use Rattle.what_if.specs.Reports.{changes as the_changes, IsAlike, change_between, changes_between, status_of as the_status};
 
 use crate::changes::{Change, is_same};
 use crate::codes::{dests_of, merged, points_of};
-use excerpts::{Excerpt, ExcerptFault, Frozen};
+use excerpts::{Ends, Excerpt, ExcerptFault, Frozen};
 use net_versions::Version;
 use point_codes::PointCode;
 use route_choice::Far;
@@ -105,17 +106,83 @@ fn reads_the_same(before: Option<&Routing>, net: &Frozen, dest: PointCode) -> bo
     }
 }
 
-/// Adds the changes towards a destination from a version to a network.
-fn add_changes(
+/// The settled routing of an excerpt, followed from that of the same plan in a network before.
+fn followed(
     alloc: Global,
-    version: &Version,
+    excerpt: Excerpt,
+    before: &Routing,
+    turned: &[Ends],
+) -> Result<Routing, AllocError>
+    requires dest { excerpt.plan.dest ≡ before.now.excerpt.plan.dest }
+    requires turned { HasTurned before.now.excerpt.network excerpt.network turned.now }
+    ensures { IfOk result (λ r. r ≡ settled_routing excerpt) }
+{
+    match Routing::follow(alloc, excerpt, before, turned) {
+        Ok(routing) => Ok(routing),
+        Err((_, refused)) => Err(refused),
+    }
+}
+
+/// The settled routing towards a destination of a network, followed from that in a network before, if it is planned.
+fn routing_after(
+    alloc: Global,
+    net: &Frozen,
+    before: &Routing,
+    turned: &[Ends],
+    dest: PointCode,
+) -> Result<Option<Routing>, AllocError>
+    requires planned { excerpt_at before.now.excerpt.network dest ≡ Some before.now.excerpt }
+    requires turned { HasTurned before.now.excerpt.network net.now turned.now }
+    ensures { IfOk result (λ r. r ≡ routing_at net.now dest) }
+{
+    match Excerpt::of(net, dest) {
+        Ok(excerpt) => Ok(Some(followed(alloc, excerpt, before, turned)?)),
+        Err(ExcerptFault::NoPlan) => Ok(None),
+        Err(ExcerptFault::OutOfMemory) => Err(AllocError),
+    }
+}
+
+/// Whether there is a routing that has the statuses of the one before in their places.
+fn is_alike(before: &Routing, after: Option<&Routing>) -> bool
+    ensures { result ≡ true → IsAlike before.now (option_copied after.entry) }
+{
+    match after {
+        Some(after) => after.has_same_statuses(before),
+        None => false,
+    }
+}
+
+/// Adds the changes towards a destination, followed from its routing before.
+fn add_followed(
+    alloc: Global,
+    before: &Routing,
+    net: &Frozen,
+    turned: &[Ends],
+    dest: PointCode,
+    changes: &mut Vec<Change>,
+) -> Result<(), AllocError>
+    requires planned { excerpt_at before.now.excerpt.network dest ≡ Some before.now.excerpt }
+    requires turned { HasTurned before.now.excerpt.network net.now turned.now }
+    ensures { OnOk result (changes.new.items ≡ changes.old.items ++ changes_between (Some before.now.excerpt) (excerpt_at net.now dest) dest) }
+{
+    before.validity();
+    let after = routing_after(alloc, net, before, turned, dest)?;
+    if is_alike(before, after.as_ref()) {
+        return Ok(());
+    }
+    add_changes_between(alloc, Some(before), after.as_ref(), dest, changes)
+}
+
+/// Adds the changes towards a destination, settled anew if it doesn't read the same.
+fn add_settled(
+    alloc: Global,
+    before: Option<&Routing>,
     net: &Frozen,
     dest: PointCode,
     changes: &mut Vec<Change>,
 ) -> Result<(), AllocError>
-    ensures { OnOk result (changes.new.items ≡ changes.old.items ++ changes_between (excerpt_at version.now.network dest) (excerpt_at net.now dest) dest) }
+    ensures { OnOk result (changes.new.items ≡ changes.old.items ++ changes_between (routed_excerpt (option_copied before.entry)) (excerpt_at net.now dest) dest) }
 {
-    let before = version.routing(dest);
     if reads_the_same(before, net, dest) {
         return Ok(());
     }
@@ -123,19 +190,41 @@ fn add_changes(
     add_changes_between(alloc, before, after.as_ref(), dest, changes)
 }
 
-/// The changes from a version to a network.
+/// Adds the changes towards a destination from a version to a network. If the ends of the sets that turned are known, its
+/// routing is followed.
+fn add_changes(
+    alloc: Global,
+    version: &Version,
+    net: &Frozen,
+    turned: Option<&[Ends]>,
+    dest: PointCode,
+    changes: &mut Vec<Change>,
+) -> Result<(), AllocError>
+    requires { IfSome turned (λ list. HasTurned version.now.network net.now list.now) }
+    ensures { OnOk result (changes.new.items ≡ changes.old.items ++ changes_between (excerpt_at version.now.network dest) (excerpt_at net.now dest) dest) }
+{
+    let before = version.routing(dest);
+    match (before, turned) {
+        (Some(routing), Some(turned)) => add_followed(alloc, routing, net, turned, dest, changes),
+        _ => add_settled(alloc, before, net, dest, changes),
+    }
+}
+
+/// The changes from a version to a network, by the ends of the sets that turned, if these are known.
 pub(crate) fn changes_of(
     alloc: Global,
     version: &Version,
     net: &Frozen,
+    turned: Option<&[Ends]>,
 ) -> Result<Vec<Change>, AllocError>
+    requires { IfSome turned (λ list. HasTurned version.now.network net.now list.now) }
     ensures { IfOk result (λ v. v.items ≡ the_changes version.now.network net.now) }
 {
     let old_dests = dests_of(alloc, version.net().net())?;
     let dests = merged(old_dests.as_slice(), dests_of(alloc, net.net())?)?;
     let mut changes = Vec::new(alloc);
     for dest in dests.as_slice() {
-        add_changes(alloc, version, net, *dest, &mut changes)?;
+        add_changes(alloc, version, net, turned, *dest, &mut changes)?;
     }
     Ok(changes)
 }

@@ -2,6 +2,7 @@
 
 ghost use Rattle.std.specs.Prelude.{◌≡◌, IfOk};
 ghost use Rattle.std.specs.List.{list_any};
+ghost use Rattle.net_data.specs.Edits.{replay};
 ghost use Rattle.what_if.specs.Reports.{apply_from, inhibits as is_inhibition, is_inhibit as inhibited_by, report_between, report_of, IsReported};
 
 use crate::changes::{Changes, any_loss};
@@ -77,16 +78,18 @@ fn after_events(
     Ok(Ok(net))
 }
 
-/// What changes from a version to a network.
+/// What changes from a version to the network that the events make of its own.
 fn compare(
     alloc: Global,
     version: &Version,
     net: &Frozen,
     events: &[Event],
 ) -> Result<Report, AllocError>
+    requires { net.now ≡ replay version.now.network events.now }
     ensures { IfOk result (λ r. r ≡ report_between version.now.network net.now events.now) }
 {
-    let changes = changes_of(alloc, version, net)?;
+    let turned = net.turned_by(alloc, version.net(), events)?;
+    let changes = changes_of(alloc, version, net, turned.as_deref())?;
     let denied = any_inhibit(events) && any_loss(changes.as_slice());
     Ok(Report {
         changes: Changes::from_vec(changes),
@@ -105,7 +108,7 @@ fn make_report(
     let copy = version.net().net().copy(alloc)?;
     match after_events(alloc, copy, events)? {
         Ok(net) => {
-            let net = Frozen::new(alloc, net)?;
+            let net = Frozen::after(alloc, net, version.net())?;
             Ok(Ok(compare(alloc, version, &net, events)?))
         }
         Err(refused) => Ok(Err(refused)),

@@ -1,11 +1,11 @@
 //! What a desk tells of itself.
 
-ghost use Rattle.std.specs.Prelude.{◌≡◌, length};
+ghost use Rattle.std.specs.Prelude.{◌≡◌, is_some, length};
 ghost use Rattle.std.specs.Option.{option_map_or, option_and_then};
 ghost use Rattle.std.specs.Arc.{arc_value};
 ghost use Rattle.dirty_sets.specs.Waiting.{least, out, waiting};
 ghost use Rattle.desk_core.specs.Desk.{accepted, net_now};
-ghost use Rattle.desk_core.specs.Steps.{last_of, target_number};
+ghost use Rattle.desk_core.specs.Steps.{first_of, last_of, target_number};
 ghost use Rattle.desk_core.specs.Runs.{IsSteadyDesk};
 
 use crate::desk::Desk;
@@ -44,6 +44,16 @@ impl Desk {
         match &self.target {
             Some(target) => Some(target.number()),
             None => None,
+        }
+    }
+
+    /// Whether a destination waits. It costs less than to count them.
+    pub fn has_waiting(&self) -> bool
+        ensures { result ≡ is_some (first_of self.now) }
+    {
+        match &self.target {
+            Some(target) => target.has_waiting(),
+            None => false,
         }
     }
 
