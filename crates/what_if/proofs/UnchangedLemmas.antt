@@ -24,6 +24,7 @@ use Rattle.transfer_state.specs.Routing.{RoutingValue, settled_routing, statuses
 use Rattle.net_versions.specs.Versions.{routing_at}
 use Rattle.excerpts.specs.Excerpt.{ExcerptValue, IsRight, source_of, content_in, content_of, content_at, excerpt_in, excerpt_at}
 use Rattle.excerpts.proofs.ExcerptLemmas.{extract_right, table_equal}
+use Rattle.excerpts.proofs.TurnedLemmas.{place_found}
 use Rattle.what_if.specs.declared.changes.Change.{Change}
 use Rattle.what_if.specs.Reports.{IsAlike, apply_from, both, points, status_of, is_same, change_between, changes_between}
 use Rattle.what_if.proofs.GatheringLemmas.{status_is}
@@ -81,15 +82,6 @@ found_alike h k p (row ∷ rows) e =
     go true here rest = ap Some here
     go false here rest = rest
 
--- what is found passes
-find_passes : (t : Plan → Bool) (ps : List Plan) (p : Plan) → find t ps ≡ Some p → t p ≡ true
-find_passes t [] p none = cc
-find_passes t (q ∷ qs) p there = step (t q) refl (find_passes t qs p)
-  where
-    step : (b : Bool) → t q ≡ b → (find t qs ≡ Some p → t p ≡ true) → t p ≡ true
-    step true is rec = let here : Some q ≡ Some p = rw is at there in ap t (sym (same_Some q p here)) ∙ is
-    step false is rec = rec (rw is at there)
-
 -- the excerpt of a destination is of that network and destination
 pub excerpt_is : (net : Network) (dest : ℕ) (x : ExcerptValue) → excerpt_at net dest ≡ Some x → (x.network ≡ net) × (x.plan.dest ≡ dest) × (plan_at net.plans dest ≡ Some x.plan)
 excerpt_is net dest x e = go (plan_at net.plans dest) refl
@@ -99,7 +91,7 @@ excerpt_is net dest x e = go (plan_at net.plans dest) refl
     go (Some plan) at =
         let some : Some (excerpt_in net plan) ≡ Some x = rw at at e in
         let is : excerpt_in net plan ≡ x = same_Some (excerpt_in net plan) x some in
-        let passes : plan.dest ≡ dest = eqb-true plan.dest dest (find_passes (λ (p : Plan). eqb p.dest dest) net.plans plan at) in
+        let passes : plan.dest ≡ dest = eqb-true plan.dest dest (place_found (λ (p : Plan). eqb p.dest dest) net.plans plan at).2 in
         (ap (λ (y : ExcerptValue). y.network) (sym is), ap (λ (y : ExcerptValue). y.plan.dest) (sym is) ∙ passes, at ∙ ap (λ (y : ExcerptValue). Some y.plan) is)
 
 -- a destination whose routing has the statuses of the one before has no changes
