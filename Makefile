@@ -17,7 +17,7 @@ demo: build
 build: $(BUILT)
 
 $(BUILT): $(SOURCES)
-	@scripts/build.sh
+	@scripts/build.py
 	@touch $(BUILT)
 
 test:

@@ -17,13 +17,13 @@ found_of (s ∷ states) y state at = go (eqb s.point y) refl (found_of states y 
     go false t rec = rec (rw t at at)
 
 -- the octets that are said of a point, by its messages
-abbrev pub octets_by : ℕ → ℕ → ℕ → ℕ → List Message → List ℕ
-octets_by ni dest y z messages = octets_text (option_map (λ (m : Message). octets_of ni z y m.kind dest) (message_to messages z))
+abbrev pub octets_by : ℕ → ℕ → ℕ → ℕ → Option Message → List ℕ
+octets_by ni dest y z message = octets_text (option_map (λ (m : Message). octets_of ni z y m.kind dest) message)
 
--- the octets by the messages of the row that is found
-pub octets_found : (ni dest y z : ℕ) (messages : List Message) (no_row : List ℕ) (states : List RowState) (o : Option RowState) → find (λ (s : RowState). s.point == y) states ≡ o → Some messages ≡ option_map (λ (s : RowState). s.messages) o
-    → octets_by ni dest y z messages ≡ option_map_or (λ (s : RowState). octets_text (octets_to ni dest s z)) o no_row
-octets_found ni dest y z messages no_row states None at is = absurd (cc)
-octets_found ni dest y z messages no_row states (Some state) at is =
-    let same : messages ≡ state.messages = cc in
-    ap (octets_by ni dest y z) same ∙ ap (λ k. octets_by ni dest k z state.messages) (sym (found_of states y state at))
+-- the octets by the message of the row that is found
+pub octets_found : (ni dest y z : ℕ) (message : Option Message) (no_row : List ℕ) (states : List RowState) (o : Option RowState) → find (λ (s : RowState). s.point == y) states ≡ o → Some message ≡ option_map (λ (s : RowState). message_to s.messages z) o
+    → octets_by ni dest y z message ≡ option_map_or (λ (s : RowState). octets_text (octets_to ni dest s z)) o no_row
+octets_found ni dest y z message no_row states None at is = absurd (cc)
+octets_found ni dest y z message no_row states (Some state) at is =
+    let same : message ≡ message_to state.messages z = cc in
+    ap (octets_by ni dest y z) same ∙ ap (λ k. octets_by ni dest k z (message_to state.messages z)) (sym (found_of states y state at))

@@ -1,19 +1,13 @@
 //! The answer to `audit`.
 
-ghost use Rattle.std.specs.Prelude.{◌≡◌, ◌≢◌, ◌++◌, IfOk, OnErr, OnOk, length, string_bytes};
-ghost use Rattle.std.specs.Option.{IfSome, MatchOption};
-ghost use Rattle.profile.specs.Whole.{scratch, IsSettledTable};
-ghost use Rattle.excerpts.specs.Excerpt.{source_of};
-ghost use Rattle.transfer_state.specs.Complaints.{IsFirstComplaint};
+ghost use Rattle.std.specs.Prelude.{◌≡◌, ◌++◌, IfOk, OnErr, OnOk, length, string_bytes};
 ghost use Rattle.answers.specs.Audits.{audit_right, audit_wrong, clause_letter, complaint_text};
 ghost use Rattle.answers.specs.Text.{line_count};
 
-use excerpts::Excerpt;
 use net_versions::Version;
 use point_codes::PointCode;
-use profile::Table;
 use std::alloc::{AllocError, Global};
-use transfer_state::{Clause, Complaint, check};
+use transfer_state::{Clause, Complaint};
 
 /// The letter of what is wrong.
 pub fn clause_word(clause: Clause) -> &'static str
@@ -66,18 +60,6 @@ fn write_wrong(alloc: Global, dest: PointCode, complaint: Complaint) -> Result<S
     Ok(text)
 }
 
-/// What is wrong with a table, by the local rule: nothing exactly if it is the settled one.
-fn judge(excerpt: &Excerpt, table: &Table) -> Option<Complaint>
-    ensures first { MatchOption result (IsSettledTable (source_of excerpt.now) table.now)
-        (IsFirstComplaint (source_of excerpt.now) table.now) }
-    ensures wrong { IfSome result (λ _. table.now ≢ scratch (source_of excerpt.now)) }
-{
-    match check(excerpt, table) {
-        Ok(()) => None,
-        Err(complaint) => Some(complaint),
-    }
-}
-
 /// The check of every table of a version by the local rule, without a line feed: `audit ok P` for P tables, or
 /// `audit bad X Y c` for the first wrong one (own, after Q.704 clauses 13.2 to 13.4). A version has settled tables
 /// alone, so it is always `ok`, which is the contract.
@@ -87,8 +69,8 @@ pub fn answer_audit(alloc: Global, version: &Version) -> Result<String, AllocErr
 {
     let routings = version.routings();
     for routing in routings {
-        let table = routing.table(alloc)?;
-        if let Some(complaint) = judge(routing.excerpt(), &table) {
+        routing.validity();
+        if let Err(complaint) = routing.audit() {
             return write_wrong(alloc, routing.dest(), complaint);
         }
     }

@@ -1,9 +1,10 @@
 //! The answers to `messages` and `octets`.
 
-ghost use Rattle.std.specs.Prelude.{◌≡◌, ◌++◌, ◌<◌, IfOk, OnOk, Some, option_map, string_bytes};
+ghost use Rattle.std.specs.Prelude.{◌≡◌, ◌++◌, ◌<◌, IfOk, OnOk, Some, true, option_map, string_bytes};
 ghost use Rattle.std.specs.List.{flat_map};
 ghost use Rattle.point_codes.specs.Octets.{octets_of};
-ghost use Rattle.answers.specs.Messages.{message_kind_text, message_text, messages_text, octet_text, octets_text, message_to};
+ghost use Rattle.std.specs.Fmt.{digit_glyph};
+ghost use Rattle.answers.specs.Messages.{message_kind_text, message_text, messages_text, octet_text, octets_text};
 ghost use Rattle.answers.specs.Text.{line_count};
 
 use crate::codes::write_code;
@@ -57,53 +58,56 @@ pub(crate) fn write_messages(alloc: Global, messages: &Messages) -> Result<Strin
     Ok(text)
 }
 
-/// An octet after a space.
-fn octet_word(alloc: Global, octet: u8) -> Result<String, AllocError>
-    ensures { IfOk result (λ word. string_bytes word ≡ octet_text octet) }
+/// A hexadecimal digit, in upper case.
+fn hex_digit(value: u8) -> char
+    requires { value < 16 }
+    ensures { result ≡ digit_glyph true value }
 {
-    format!(in alloc; " {octet:02X}")
+    let first = if value < 10 { b'0' } else { b'A' - 10 };
+    char::from(first + value)
 }
 
 /// Adds an octet after a space.
-fn put_octet(alloc: Global, text: &mut String, octet: u8) -> Result<(), AllocError>
+fn put_octet(text: &mut String, octet: u8) -> Result<(), AllocError>
     ensures text { OnOk result (string_bytes text.new ≡ string_bytes text.old ++ octet_text octet) }
     ensures plain { line_count (octet_text octet) ≡ 0 }
 {
-    let word = octet_word(alloc, octet)?;
-    text.push_str(word.as_str())
+    text.push(' ')?;
+    text.push(hex_digit(octet / 16))?;
+    text.push(hex_digit(octet % 16))
 }
 
 /// Adds octets, each after a space.
-fn put_octets(alloc: Global, text: &mut String, octets: &[u8]) -> Result<(), AllocError>
+fn put_octets(text: &mut String, octets: &[u8]) -> Result<(), AllocError>
     ensures text { OnOk result (string_bytes text.new ≡ string_bytes text.old ++ flat_map octet_text octets.now) }
     ensures plain { OnOk result (line_count (string_bytes text.new) ≡ line_count (string_bytes text.old)) }
 {
     for octet in octets {
-        put_octet(alloc, text, *octet)?;
+        put_octet(text, *octet)?;
     }
     Ok(())
 }
 
-/// The octets of the message from a point to another about a destination, among the messages in force, in text.
+/// The octets of the message in force from a point to another about a destination, if there is one, in text.
 pub(crate) fn write_octets(
     alloc: Global,
     ni: u8,
     dest: PointCode,
     point: PointCode,
-    messages: &Messages,
     neighbour: PointCode,
+    message: Option<Message>,
 ) -> Result<String, AllocError>
     requires { ni < 4 }
     ensures text { IfOk result (λ text. string_bytes text ≡
-        octets_text (option_map (λ m. octets_of ni neighbour point m.kind dest) (message_to messages.now neighbour))) }
+        octets_text (option_map (λ m. octets_of ni neighbour point m.kind dest) message)) }
     ensures plain { IfOk result (λ text. line_count (string_bytes text) ≡ 0) }
 {
-    match messages.to(neighbour) {
+    match message {
         None => String::from_str(alloc, "octets none"),
         Some(message) => {
             let octets = tfm_octets(ni, neighbour, point, message.kind, dest);
             let mut text = String::from_str(alloc, "octets")?;
-            put_octets(alloc, &mut text, &octets)?;
+            put_octets(&mut text, &octets)?;
             Ok(text)
         }
     }

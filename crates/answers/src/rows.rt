@@ -72,8 +72,8 @@ fn answer_octets(
         (state_at routing.now.excerpt point) no_row) }
     ensures plain { IfOk result (λ text. line_count (string_bytes text) ≡ 0) }
 {
-    match routing.messages(alloc, point)? {
-        Some(messages) => write_octets(alloc, ni, routing.dest(), point, &messages, neighbour),
+    match routing.message(point, neighbour) {
+        Some(message) => write_octets(alloc, ni, routing.dest(), point, neighbour, message),
         None => write_no_row(alloc),
     }
 }

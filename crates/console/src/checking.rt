@@ -3,7 +3,7 @@
 ghost use Rattle.std.specs.Prelude.{◌≡◌, IfOk, length, string_bytes, true};
 ghost use Rattle.console.specs.Checking.{right_text, wrong_text, verdict_text};
 
-use all_tables::{Wrong, check_tables, tables_of};
+use all_tables::{Wrong, check_plans};
 use answers::put_complaint;
 use excerpts::Frozen;
 use std::alloc::{AllocError, Global};
@@ -37,7 +37,7 @@ fn write_verdict(alloc: Global, count: usize, wrong: Option<Wrong>) -> Result<St
     }
 }
 
-/// Works out the settled tables of all planned destinations, checks each by the local rule, and says `ok P` for P plans
+/// Settles the routing of all planned destinations, checks each by the local rule, and says `ok P` for P plans
 /// or `bad X Y c` for the first wrong one: its destination, and the point and the letter of the first complaint. That
 /// it always says `ok P` is its contract. It fails if memory is refused.
 pub fn check_net(
@@ -48,9 +48,8 @@ pub fn check_net(
     ensures text { IfOk result (λ end. string_bytes end.text ≡ right_text (length net.now.plans)) }
     ensures right { IfOk result (λ end. end.right ≡ true) }
 {
-    let tables = tables_of(rt, alloc, net)?;
-    let wrong = check_tables(rt, alloc, net, &tables)?;
-    let text = write_verdict(alloc, tables.len(), wrong)?;
+    let wrong = check_plans(rt, alloc, net)?;
+    let text = write_verdict(alloc, net.net().plans().len(), wrong)?;
     Ok(CheckEnd {
         text,
         right: wrong.is_none(),

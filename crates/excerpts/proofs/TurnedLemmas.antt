@@ -1,5 +1,6 @@
 -- What a list of ends tells of the availability between two points.
-use Rattle.std.proofs.Common.{◌≡◌, ◌≢◌, ℕ, zero, suc, ◌+◌, ◌<◌, Bool, true, false, ◌&&◌, ◌||◌, cond, eqb, Option, Some, None, List, [], ◌∷◌, refl, sym, ap, ◌∙◌, arith, inl, inr, ◌⊎◌, slice_get}
+use Rattle.std.proofs.Common.{◌≡◌, ◌≢◌, ℕ, zero, suc, ◌+◌, ◌<◌, Bool, true, false, ◌&&◌, ◌||◌, cond, eqb, Option, Some, None, List, [], ◌∷◌, ◌≤◌, length, get_or, drop, refl, sym, ap, ◌∙◌, arith, inl, inr, ◌⊎◌, slice_get}
+use Rattle.std.proofs.lemmas.List.{drop_all, drop_more}
 use Rattle.std.specs.Prelude.{find, is_some}
 use Rattle.std.specs.Option.{option_map_or}
 use Rattle.std.proofs.lemmas.Bool.{eqb-true, cases_eq}
@@ -9,7 +10,8 @@ use Rattle.net_items.specs.Lookups.{joins, set_between}
 use Rattle.link_sets.specs.Availability.{set_available, connected}
 use Rattle.profile.proofs.CertificateLemmas.{connected_back}
 use Rattle.excerpts.specs.declared.turned.Ends.{Ends}
-use Rattle.excerpts.specs.Turned.{has_ends}
+use Rattle.excerpts.specs.Index.{HasSameEnds}
+use Rattle.excerpts.specs.Turned.{has_ends, AreTurned}
 
 -- what is found has a place, and passes
 pub place_found : {X : Type 0} (p : X → Bool) (xs : List X) (x : X) → find p xs ≡ Some x → (k : ℕ) × (slice_get xs k ≡ Some x) × (p x ≡ true)
@@ -97,3 +99,53 @@ module _ (after before : List LinkSet) where
       go false ep true eq =
           let has : has_ends list y z ≡ true = theirs y z (no_set before y z eq) (λ e. (let no : false ≡ true = sym ep ∙ e ∙ eq in cc)) in
           let no : true ≡ false = sym has ∙ lacks in cc
+
+-- ---- sets that join the same points, place by place
+
+module _ (sets others : List LinkSet) where
+  -- between points that the list lacks, the sets from a place on tell whether all join alike
+  abbrev pub TellFrom : List Ends → ℕ → Type 0
+  TellFrom list i = (y z : ℕ) → has_ends list y z ≡ false → connected (drop i sets) y z ≡ connected (drop i others) y z → connected sets y z ≡ connected others y z
+
+  -- one place more
+  pub tell_more : (list longer : List Ends) (i : ℕ) (s t : LinkSet) → i < length sets → s ≡ get_or sets i s → i < length others → t ≡ get_or others i t → HasSameEnds s t
+      → ((y z : ℕ) → has_ends list y z ≡ true → has_ends longer y z ≡ true)
+      → (set_available s ≢ set_available t → has_ends longer s.a s.b ≡ true)
+      → (set_available s ≢ set_available t → has_ends longer s.b s.a ≡ true)
+      → TellFrom list i → TellFrom longer (i + 1)
+  tell_more list longer i s t within is low other same kept there back tell y z lacks rest =
+      tell y z (shorter (has_ends list y z) refl) (rw (drop_more sets i s within, drop_more others i t low, ← is, ← other) here)
+    where
+      shorter : (b : Bool) → has_ends list y z ≡ b → has_ends list y z ≡ false
+      shorter false e = e
+      shorter true e = let bad : true ≡ false = sym (kept y z e) ∙ lacks in cc
+
+      alike : joins y z t ≡ joins y z s
+      alike = rw (← same.first, ← same.second) refl
+
+      -- a set between the two points is available in both or in neither
+      available : joins y z s ≡ true → set_available s ≡ set_available t
+      available e = go (set_available s) refl (set_available t) refl
+        where
+          has : (set_available s ≢ set_available t) → has_ends longer y z ≡ true
+          has differ = elim (ends_of_joint y z s e) [
+            | inl w ↦ rw (w.0, w.1) at (there differ)
+            | inr w ↦ rw (w.0, w.1) at (back differ)
+          ]
+
+          go : (p : Bool) → set_available s ≡ p → (q : Bool) → set_available t ≡ q → set_available s ≡ set_available t
+          go true a true b = a ∙ sym b
+          go false a false b = a ∙ sym b
+          go true a false b = let bad : true ≡ false = sym (has (λ eq. (let no : true ≡ false = sym a ∙ (eq ∙ b) in cc))) ∙ lacks in cc
+          go false a true b = let bad : true ≡ false = sym (has (λ eq. (let no : false ≡ true = sym a ∙ (eq ∙ b) in cc))) ∙ lacks in cc
+
+      here : connected (s ∷ drop (i + 1) sets) y z ≡ connected (t ∷ drop (i + 1) others) y z
+      here = go (joins y z s) refl
+        where
+          go : (b : Bool) → joins y z s ≡ b → connected (s ∷ drop (i + 1) sets) y z ≡ connected (t ∷ drop (i + 1) others) y z
+          go true e = let both = alike ∙ e in rw (e, both) (available e)
+          go false e = let neither = alike ∙ e in rw (e, neither) rest
+
+  -- past the end nothing is left
+  pub tell_all : (list : List Ends) (i : ℕ) → length sets ≤ i → length others ≤ i → TellFrom list i → AreTurned others sets list
+  tell_all list i within low tell y z lacks = tell y z lacks (rw (drop_all i sets within, drop_all i others low) refl)

@@ -1,8 +1,8 @@
 //! The excerpt of one destination.
 
-ghost use Rattle.std.specs.Prelude.{◌≡◌, ◌↔◌, IsTrue, Some, IfOk};
+ghost use Rattle.std.specs.Prelude.{◌≡◌, ◌↔◌, IsTrue, Some, IfErr, IfOk};
 ghost use Rattle.std.specs.Option.{option_copied, option_map};
-ghost use Rattle.net_items.specs.Keyed.{IsRising};
+ghost use Rattle.net_items.specs.Keyed.{IsRising, IsFoundAt, IsGapAt};
 ghost use Rattle.net_items.specs.Lookups.{point_at, mate_of as the_mate, is_stp as stp_is, row_at, set_between as between};
 ghost use Rattle.link_sets.specs.Availability.{connected};
 ghost use Rattle.link_sets.specs.Neighbours.{neighbours as neighbours_of};
@@ -10,12 +10,14 @@ ghost use Rattle.excerpts.specs.Around.{neighbours_left};
 ghost use Rattle.excerpts.specs.Excerpt.{ExcerptValue, content_at, content_in, content_of, excerpt_at, is_read_by, leads as row_leads, IsExcerptAnswer, IsRight};
 
 use crate::faults::ExcerptFault;
-use crate::reading::{are_same_reads, are_same_row_points, is_read, leads, row_in};
+use crate::places::place_of_row;
+use crate::reading::{are_same_reads, are_same_row_points, is_read};
 use crate::{Frozen, Neighbours};
 use net_data::Net;
 use net_items::equals::{are_same_points, are_same_sets, is_same_plan};
 use net_items::lookups::{find_point, is_stp};
 use net_items::{Kind, LinkSet, Plan, Row};
+use plan_rows::uses::is_via;
 use point_codes::PointCode;
 use std::alloc::AllocError;
 use std::marker::Model;
@@ -129,20 +131,34 @@ impl Excerpt {
         &self.plan
     }
 
+    /// The place of a point's row among the plan's rows, or where it would go.
+    pub fn place_of_row(&self, point: PointCode) -> Result<usize, usize>
+        ensures found { IfOk result (IsFoundAt (λ r. r.point) point self.now.plan.rows) }
+        ensures absent { IfErr result (IsGapAt (λ r. r.point) point self.now.plan.rows) }
+    {
+        self.validity();
+        place_of_row(self.net.net().points(), self.plan.rows.as_slice(), point)
+    }
+
     /// The row of a point, if it has one.
     pub fn row(&self, point: PointCode) -> Option<&Row>
         ensures { option_copied result ≡ row_at self.now.plan.rows point }
     {
-        self.validity();
-        row_in(self.plan.rows.as_slice(), point)
+        let rows = self.plan.rows.as_slice();
+        match self.place_of_row(point) {
+            Ok(at) => Some(&rows[at]),
+            Err(_) => None,
+        }
     }
 
     /// Whether the row of a point leads to another point.
     pub fn leads(&self, point: PointCode, other: PointCode) -> bool
         ensures { result ≡ row_leads self.now.plan.rows point other }
     {
-        self.validity();
-        leads(self.plan.rows.as_slice(), point, other)
+        match self.row(point) {
+            Some(row) => is_via(row, other),
+            None => false,
+        }
     }
 
     /// The kind of a point.

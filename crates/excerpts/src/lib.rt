@@ -23,6 +23,7 @@ mod indexed;
 mod joints;
 pub mod laws;
 pub mod neighbours;
+mod places;
 pub mod reading;
 pub mod turned;
 

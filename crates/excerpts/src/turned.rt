@@ -2,13 +2,15 @@
 
 ghost use Rattle.std.specs.Prelude.{◌≡◌, ◌≢◌, ◌↔◌, ℕ, IsTrue, true, IfOk, OnOk, is_some};
 ghost use Rattle.net_items.specs.Lookups.{set_between};
-ghost use Rattle.link_sets.specs.Availability.{connected};
+ghost use Rattle.link_sets.specs.Availability.{connected, set_available as set_is_available};
 ghost use Rattle.std.specs.List.{list_all};
 ghost use Rattle.std.specs.Option.{IfSome};
 ghost use Rattle.net_data.specs.Edits.{replay};
 ghost use Rattle.excerpts.specs.Turned.{has_ends, keeps_plans, AreTurned, HasTurned};
 
 use crate::Frozen;
+use crate::index::has_same_ends;
+use link_sets::set_available;
 use net_data::Event;
 use net_items::LinkSet;
 use point_codes::PointCode;
@@ -43,6 +45,16 @@ fn put_ends(list: &mut Vec<Ends>, point: PointCode, other: PointCode) -> Result<
     Ok(())
 }
 
+/// Puts in the ends of a set, in both orders.
+fn put_both(list: &mut Vec<Ends>, set: &LinkSet) -> Result<(), AllocError>
+    ensures kept { OnOk result ((y z : ℕ) → has_ends list.old.items y z ≡ true → has_ends list.new.items y z ≡ true) }
+    ensures there { OnOk result (has_ends list.new.items set.now.a set.now.b ≡ true) }
+    ensures back { OnOk result (has_ends list.new.items set.now.b set.now.a ≡ true) }
+{
+    put_ends(list, set.a, set.b)?;
+    put_ends(list, set.b, set.a)
+}
+
 /// Puts in the ends of a set, in both orders, if an available set joins them in one of two networks alone.
 fn put_if_turned(
     list: &mut Vec<Ends>,
@@ -55,8 +67,7 @@ fn put_if_turned(
     ensures back { OnOk result (connected net.now.sets set.now.a set.now.b ≢ connected before.now.sets set.now.a set.now.b → has_ends list.new.items set.now.b set.now.a ≡ true) }
 {
     if net.is_connected(set.a, set.b) != before.is_connected(set.a, set.b) {
-        put_ends(list, set.a, set.b)?;
-        put_ends(list, set.b, set.a)?;
+        put_both(list, set)?;
     }
     Ok(())
 }
@@ -119,11 +130,48 @@ pub(crate) fn turned_by(
     Ok(Some(turned))
 }
 
+/// Puts in the ends of a set, in both orders, if it is available and the other one isn't, or the other way round.
+fn put_if_differs(list: &mut Vec<Ends>, set: &LinkSet, other: &LinkSet) -> Result<(), AllocError>
+    ensures kept { OnOk result ((y z : ℕ) → has_ends list.old.items y z ≡ true → has_ends list.new.items y z ≡ true) }
+    ensures there { OnOk result (set_is_available set.now ≢ set_is_available other.now → has_ends list.new.items set.now.a set.now.b ≡ true) }
+    ensures back { OnOk result (set_is_available set.now ≢ set_is_available other.now → has_ends list.new.items set.now.b set.now.a ≡ true) }
+{
+    if set_available(set) != set_available(other) {
+        put_both(list, set)?;
+    }
+    Ok(())
+}
+
+/// The ends of the sets that are available in one of two lists alone, if the sets of both join the same points, place by place.
+fn turned_in_place(
+    alloc: Global,
+    sets: &[LinkSet],
+    others: &[LinkSet],
+) -> Result<Option<Vec<Ends>>, AllocError>
+    ensures { IfOk result (λ o. IfSome o (λ list. AreTurned others.now sets.now list.items)) }
+{
+    if sets.len() != others.len() {
+        return Ok(None);
+    }
+    let mut list = Vec::new(alloc);
+    for position in 0..sets.len() {
+        let (set, other) = (&sets[position], &others[position]);
+        if !has_same_ends(set, other) {
+            return Ok(None);
+        }
+        put_if_differs(&mut list, set, other)?;
+    }
+    Ok(Some(list))
+}
+
 /// Pairs of points, in both orders, and among them all that an available set joins in one of two networks alone. It fails only
 /// if memory is refused.
 fn turned_ends(alloc: Global, net: &Frozen, before: &Frozen) -> Result<Vec<Ends>, AllocError>
     ensures { IfOk result (λ list. AreTurned before.now.sets net.now.sets list.items) }
 {
+    if let Some(list) = turned_in_place(alloc, net.net().sets(), before.net().sets())? {
+        return Ok(list);
+    }
     let mut list = Vec::new(alloc);
     put_turned(&mut list, net.net().sets(), net, before)?;
     put_turned(&mut list, before.net().sets(), net, before)?;

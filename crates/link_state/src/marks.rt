@@ -13,7 +13,7 @@ pub enum End {
 }
 
 /// The marks of a link (Q.704 clause 3.2).
-#[derive(Clone, Copy, Debug, PartialEq, Eq)]
+#[derive(Clone, Copy, Debug, Default, PartialEq, Eq)]
 pub struct Marks {
     /// Failed, or inactive.
     pub failed: bool,

@@ -18,10 +18,10 @@ pub fn position_of_link(links: &[Link], slc: u8) -> Result<usize, usize>
     links.binary_search_by_key(&slc, |l| l.slc)
 }
 
-/// The links of a set.
+/// The links of a set. Sixteen of them, all that a set may have, need no memory.
 #[derive(Debug, Drop)]
 pub struct Links {
-    list: Vec<Link>,
+    list: SmallVec<Link, 16>,
 }
 
 impl Model for Links {
@@ -38,15 +38,18 @@ impl Links {
     pub fn from_vec(list: Vec<Link>) -> Links
         ensures { result ≡ list.items }
     {
-        Links { list }
+        Links {
+            list: SmallVec::from_vec(list),
+        }
     }
 
-    /// The links in a vector.
-    pub fn into_vec(self) -> Vec<Link>
-        ensures { result.items ≡ self }
+    /// A copy of these links.
+    pub fn from_slice(alloc: Global, links: &[Link]) -> Result<Links, AllocError>
+        ensures { IfOk result (λ l. l ≡ links.now) }
     {
-        let Links { list } = self;
-        list
+        Ok(Links {
+            list: SmallVec::from_slice(alloc, links)?,
+        })
     }
 
     /// The links as a slice.
@@ -61,7 +64,7 @@ impl Links {
         requires { at < length self.old }
         ensures { self.new ≡ slice_set self.old at link }
     {
-        self.list[at] = link;
+        self.list.as_mut_slice()[at] = link;
     }
 
     /// Puts in a link, in the place of one of its code.
@@ -72,7 +75,7 @@ impl Links {
     {
         match position_of_link(self.list.as_slice(), link.slc) {
             Ok(at) => {
-                self.list[at] = link;
+                self.list.as_mut_slice()[at] = link;
             }
             Err(at) => {
                 self.list.insert(at, link)?;

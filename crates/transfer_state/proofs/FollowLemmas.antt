@@ -1,5 +1,5 @@
 -- Choices that obey the rule, and what is marked where they may not.
-use Rattle.std.proofs.Common.{IsTrue, ◌≡◌, ◌≢◌, ℕ, zero, suc, ◌+◌, ◌<◌, List, [], ◌∷◌, Option, Some, None, All, set, map, cond, eqb, Bool, true, false, ◌||◌, refl, sym, ap, ◌∙◌, arith, inl, inr, subst, length, slice_get, get_or, ◌≤◌, ◌&&◌, ◌⊎◌, ◌++◌}
+use Rattle.std.proofs.Common.{◌≡◌, ◌≢◌, ℕ, zero, suc, ◌+◌, ◌<◌, List, [], ◌∷◌, Option, Some, None, All, set, map, cond, eqb, Bool, true, false, ◌||◌, refl, sym, ap, ◌∙◌, arith, inl, inr, subst, length, slice_get, get_or, ◌≤◌, ◌&&◌, ◌⊎◌, ◌++◌}
 use Rattle.std.specs.Prelude.{find, filter, slice_index_or}
 use Rattle.std.specs.List.{AllByRecursion, list_any, swap_remove}
 use Rattle.std.proofs.lemmas.List.Sorted.{IsPermutation-swap_remove, list_any-IsPermutation}
@@ -7,7 +7,7 @@ use Rattle.std.proofs.lemmas.List.Folds.{list_any-append, list_any_at}
 use Rattle.std.specs.Option.{option_and_then, option_map, option_map_or}
 use Rattle.std.proofs.lemmas.List.{length-map, nil_from_length}
 use Rattle.std.proofs.lemmas.List.Elements.{All-weaker}
-use Rattle.std.proofs.lemmas.Bool.{eq-eqb, ne_eqb, eqb-true, eqb-false, cases_eq, cases_lt, or_left, or_right}
+use Rattle.std.proofs.lemmas.Bool.{eq-eqb, ne_eqb, eqb-true, eqb-false, cases_eq, cases_lt, or_right}
 use Rattle.std.proofs.lemmas.Option.{same_Some, slice_get_within, get_or_from_slice_get, slice_get-map, slice_get-get_or, slice_get_cases}
 use Rattle.net_items.specs.declared.lists.Row.{Row}
 use Rattle.net_items.specs.declared.items.Plan.{Plan}
@@ -24,15 +24,15 @@ use Rattle.profile.specs.Valid.{IsValidSource}
 use Rattle.profile.proofs.UnfoldingLemmas.{row_valid, mate_row_has, choice_same, status_is, status_alone}
 use Rattle.profile.proofs.PlacingLemmas.{row_at_place}
 use Rattle.profile.proofs.ReadLemmas.{each_via}
-use Rattle.profile.proofs.SettledLemmas.{status_of_row}
 use Rattle.profile.proofs.CertificateLemmas.{connected_back}
 use Rattle.excerpts.specs.Excerpt.{ExcerptValue, source_of, IsRight, leads}
 use Rattle.excerpts.specs.Turned.{has_ends, HasTurned}
 use Rattle.excerpts.specs.declared.turned.Ends.{Ends}
+use Rattle.transfer_state.specs.Kept.{KeptValue, kept, opened_rows}
 use Rattle.transfer_state.specs.Told.{far_in, far_from, AreChoices}
-use Rattle.transfer_state.specs.Following.{is_marked, HasMark, HasMarks, HasMarksOf, HasReaders, IsWithoutMark, KeepsMarks, ObeysBut}
-use Rattle.transfer_state.specs.Routing.{IsChosen}
-use Rattle.transfer_state.proofs.RouteLemmas.{chosen}
+use Rattle.transfer_state.specs.Following.{is_marked, rests_on, HasMark, HasMarks, HasMarksOf, HasReaders, IsWithoutMark, KeepsMarks, KeepsStatuses, ObeysBut}
+use Rattle.transfer_state.specs.Routing.{statuses_of, IsChosen}
+use Rattle.transfer_state.proofs.RouteLemmas.{chosen, opened_chosen, statuses_kept}
 use Rattle.transfer_state.proofs.SweepLemmas.{at_index, found_place, slice_get-set_other, slice_get-set_same}
 
 -- ---- the status that choices tell
@@ -42,17 +42,17 @@ all_in_place : {X : Type 0} (P : X → Type 0) (xs : List X) (k : ℕ) (x : X) �
 all_in_place P xs k x all at = subst P (get_or_from_slice_get xs k x x at) (at_index P xs k x all (slice_get_within xs k x at))
 
 -- a row's status is that of the choice in its place
-far_in_place : (rows : List Row) (choices : List Choice) (k : ℕ) (row : Row) (c : Choice) → IsRising (λ (r : Row). r.point) rows → slice_get rows k ≡ Some row → slice_get choices k ≡ Some c → far_in rows choices row.point ≡ c.status
+far_in_place : (rows : List Row) (choices : List KeptValue) (k : ℕ) (row : Row) (c : KeptValue) → IsRising (λ (r : Row). r.point) rows → slice_get rows k ≡ Some row → slice_get choices k ≡ Some c → far_in rows choices row.point ≡ c.status
 far_in_place [] choices k row c rise at is = cc
 far_in_place (r ∷ rs) [] k row c rise at is = cc
 far_in_place (r ∷ rs) (d ∷ ds) zero row c rise at is =
-    rw (eq-eqb r.point row.point (ap (λ (q : Row). q.point) (same_Some r row at))) (ap (λ (q : Choice). q.status) (same_Some d c is))
+    rw (eq-eqb r.point row.point (ap (λ (q : Row). q.point) (same_Some r row at))) (ap (λ (q : KeptValue). q.status) (same_Some d c is))
 far_in_place (r ∷ rs) (d ∷ ds) (suc k) row c rise at is =
     let above : r.point < row.point = all_in_place (λ (q : Row). r.point < q.point) rs k row rise.0 at in
     rw (ne_eqb r.point row.point (λ e. omega (arith, above, e))) (far_in_place rs ds k row c rise.1 at is)
 
 -- without a row it is prohibited
-far_nowhere : (rows : List Row) (choices : List Choice) (z : ℕ) → find (λ r. eqb r.point z) rows ≡ None → far_in rows choices z ≡ Prohibited
+far_nowhere : (rows : List Row) (choices : List KeptValue) (z : ℕ) → find (λ r. eqb r.point z) rows ≡ None → far_in rows choices z ≡ Prohibited
 far_nowhere [] choices z none = refl
 far_nowhere (r ∷ rs) [] z none = refl
 far_nowhere (r ∷ rs) (d ∷ ds) z none = go (eqb r.point z) refl (far_nowhere rs ds z)
@@ -62,30 +62,30 @@ far_nowhere (r ∷ rs) (d ∷ ds) z none = go (eqb r.point z) refl (far_nowhere 
     go false t rec = rw t (rec (rw t at none))
 
 -- a choice written in a place changes the status of its row alone
-far_elsewhere : (rows : List Row) (choices : List Choice) (k : ℕ) (row : Row) (c : Choice) (z : ℕ) → slice_get rows k ≡ Some row → z ≢ row.point → far_in rows (set choices k c) z ≡ far_in rows choices z
+far_elsewhere : (rows : List Row) (choices : List KeptValue) (k : ℕ) (row : Row) (c : KeptValue) (z : ℕ) → slice_get rows k ≡ Some row → z ≢ row.point → far_in rows (set choices k c) z ≡ far_in rows choices z
 far_elsewhere [] choices k row c z at other = refl
 far_elsewhere (r ∷ rs) [] k row c z at other = refl
 far_elsewhere (r ∷ rs) (d ∷ ds) zero row c z at other = rw (ne_eqb r.point z (λ e. other (sym e ∙ ap (λ (q : Row). q.point) (same_Some r row at)))) refl
 far_elsewhere (r ∷ rs) (d ∷ ds) (suc k) row c z at other = ap (λ f. cond (eqb r.point z) d.status f) (far_elsewhere rs ds k row c z at other)
 
 -- and none, if it has the same status
-far_kept : (rows : List Row) (choices : List Choice) (k : ℕ) (was c : Choice) (z : ℕ) → slice_get choices k ≡ Some was → c.status ≡ was.status → far_in rows (set choices k c) z ≡ far_in rows choices z
+far_kept : (rows : List Row) (choices : List KeptValue) (k : ℕ) (was c : KeptValue) (z : ℕ) → slice_get choices k ≡ Some was → c.status ≡ was.status → far_in rows (set choices k c) z ≡ far_in rows choices z
 far_kept [] choices k was c z at same = refl
 far_kept (r ∷ rs) [] k was c z at same = refl
-far_kept (r ∷ rs) (d ∷ ds) zero was c z at same = ap (λ f. cond (eqb r.point z) f (far_in rs ds z)) (same ∙ ap (λ (q : Choice). q.status) (sym (same_Some d was at)))
+far_kept (r ∷ rs) (d ∷ ds) zero was c z at same = ap (λ f. cond (eqb r.point z) f (far_in rs ds z)) (same ∙ ap (λ (q : KeptValue). q.status) (sym (same_Some d was at)))
 far_kept (r ∷ rs) (d ∷ ds) (suc k) was c z at same = ap (λ f. cond (eqb r.point z) d.status f) (far_kept rs ds k was c z at same)
 
 -- ---- all choices obey the rule
 
 module _ (src : Source) (valid : IsValidSource src) (rise : IsRising (λ (r : Row). r.point) src.rows) where
   -- the status that choices tell of a point is that of its row's choice
-  far_of_row : (choices : List Choice) (k : ℕ) (row : Row) (c : Choice) → slice_get src.rows k ≡ Some row → slice_get choices k ≡ Some c → far_from src choices row.point ≡ c.status
+  far_of_row : (choices : List KeptValue) (k : ℕ) (row : Row) (c : KeptValue) → slice_get src.rows k ≡ Some row → slice_get choices k ≡ Some c → far_from src choices row.point ≡ c.status
   far_of_row choices k row c at is =
       let apart = (row_valid src valid row.point row (row_at_place src valid k row at)).1.apart in
       rw (ne_eqb row.point src.dest apart) (far_in_place src.rows choices k row c rise at is)
 
   -- choices that are what the rule gives by some statuses tell what it gives
-  told_by_rule : (choices : List Choice) (f : ℕ → Far) → ((k : ℕ) (row : Row) → slice_get src.rows k ≡ Some row → slice_get choices k ≡ Some (choice_by src f row)) → (z : ℕ) → far_from src choices z ≡ status_by src f z
+  told_by_rule : (choices : List KeptValue) (f : ℕ → Far) → ((k : ℕ) (row : Row) → slice_get src.rows k ≡ Some row → slice_get choices k ≡ Some (kept (choice_by src f row))) → (z : ℕ) → far_from src choices z ≡ status_by src f z
   told_by_rule choices f obey z = go (source_row src z) refl
     where
       go : (o : Option Row) → source_row src z ≡ o → far_from src choices z ≡ status_by src f z
@@ -93,19 +93,19 @@ module _ (src : Source) (valid : IsValidSource src) (rise : IsRising (λ (r : Ro
       go (Some row) e =
           let place = found_place src.rows z row e in
           let point : row.point ≡ z = (row_valid src valid z row e).0 in
-          let here : far_in src.rows choices row.point ≡ (choice_by src f row).status = far_in_place src.rows choices place.0 row (choice_by src f row) rise place.1 (obey place.0 row place.1) in
+          let here : far_in src.rows choices row.point ≡ (choice_by src f row).status = far_in_place src.rows choices place.0 row (kept (choice_by src f row)) rise place.1 (obey place.0 row place.1) in
           rw e (ap (λ g. cond (eqb z src.dest) Allowed g) (subst (λ y. far_in src.rows choices y ≡ (choice_by src f row).status) point here))
 
   -- choices that all obey the rule are those from scratch
-  pub all_obey : (choices : List Choice) → ((k : ℕ) (row : Row) → slice_get src.rows k ≡ Some row → slice_get choices k ≡ Some (choice_by src (far_from src choices) row)) → AreChoices src choices
+  pub all_obey : (choices : List KeptValue) → ((k : ℕ) (row : Row) → slice_get src.rows k ≡ Some row → slice_get choices k ≡ Some (kept (choice_by src (far_from src choices) row))) → AreChoices src choices
   all_obey choices obey k row at =
       let far = far_from src choices in
       let settled : (z : ℕ) → far z ≡ status src z = λ z. status_alone src valid far (suc (source_rank src z)) (λ y low. told_by_rule choices far obey y) z (omega arith) in
       let ok = (row_valid src valid row.point row (row_at_place src valid k row at)).1 in
-      obey k row at ∙ ap Some (choice_same src valid far (status src) row ok (record { agree = λ z low. settled z }))
+      obey k row at ∙ ap (λ (c : Choice). Some (kept c)) (choice_same src valid far (status src) row ok (record { agree = λ z low. settled z }))
 
   -- the choices from scratch tell the statuses
-  pub scratch_tells : (choices : List Choice) → AreChoices src choices → (z : ℕ) → far_from src choices z ≡ status src z
+  pub scratch_tells : (choices : List KeptValue) → AreChoices src choices → (z : ℕ) → far_from src choices z ≡ status src z
   scratch_tells choices are z = told_by_rule choices (status src) are z ∙ sym (status_is src valid z)
 
   -- ---- what the choice of a row rests on
@@ -245,7 +245,7 @@ still_unmarked before after kept k unmarked = go (is_marked before k) refl
 
 module _ (x : ExcerptValue) (right : IsRight x) where
   -- the statuses that choices tell, by the place that a search finds
-  pub far_found : (choices : List Choice) (at z : ℕ) (c : Choice) → IsFoundAt (λ (r : Row). r.point) z x.plan.rows at → length choices ≡ length x.plan.rows → (eqb z x.plan.dest) ≡ false
+  pub far_found : (choices : List KeptValue) (at z : ℕ) (c : KeptValue) → IsFoundAt (λ (r : Row). r.point) z x.plan.rows at → length choices ≡ length x.plan.rows → (eqb z x.plan.dest) ≡ false
       → (slice_index_or choices at c).status ≡ far_from (source_of x) choices z
   far_found choices at z c found together other =
       elim (slice_get_cases x.plan.rows at).1 [
@@ -256,7 +256,7 @@ module _ (x : ExcerptValue) (right : IsRight x) where
         | inr w ↦ absurd (omega (arith, w.0, found.in_range))
       ]
 
-  pub far_gap : (choices : List Choice) (z at : ℕ) → IsGapAt (λ (r : Row). r.point) z x.plan.rows at → eqb z x.plan.dest ≡ false → Prohibited ≡ far_from (source_of x) choices z
+  pub far_gap : (choices : List KeptValue) (z at : ℕ) → IsGapAt (λ (r : Row). r.point) z x.plan.rows at → eqb z x.plan.dest ≡ false → Prohibited ≡ far_from (source_of x) choices z
   far_gap choices z at gap other = rw other (sym (far_nowhere x.plan.rows choices z gap.absent))
 
   -- a row stands in one place
@@ -330,25 +330,25 @@ module _ (x : ExcerptValue) (right : IsRight x) where
 
   -- ---- a row chosen anew
 
-  module _ (choices : List Choice) (before : List ℕ) (k : ℕ) (row : Row) (was : Choice) (at : slice_get x.plan.rows k ≡ Some row) (there : slice_get choices k ≡ Some was) (obey : ObeysBut (source_of x) choices (k ∷ before)) where
+  module _ (choices : List KeptValue) (before : List ℕ) (k : ℕ) (row : Row) (was : KeptValue) (at : slice_get x.plan.rows k ≡ Some row) (there : slice_get choices k ≡ Some was) (obey : ObeysBut (source_of x) choices (k ∷ before)) where
     -- the choice that the rule gives
-    abbrev anew : Choice
-    anew = choice_by (source_of x) (far_from (source_of x) choices) row
+    abbrev anew : KeptValue
+    anew = kept (choice_by (source_of x) (far_from (source_of x) choices) row)
 
     -- the choices with it
-    abbrev renewed : List Choice
+    abbrev renewed : List KeptValue
     renewed = set choices k anew
 
     -- if a row's choice rests on no status that changed, it obeys the rule still
     obeys_still : (j : ℕ) (r : Row) → slice_get x.plan.rows j ≡ Some r → is_marked before j ≡ false → choice_by (source_of x) (far_from (source_of x) choices) r ≡ choice_by (source_of x) (far_from (source_of x) renewed) r
-        → slice_get renewed j ≡ Some (choice_by (source_of x) (far_from (source_of x) renewed) r)
+        → slice_get renewed j ≡ Some (kept (choice_by (source_of x) (far_from (source_of x) renewed) r))
     obeys_still j r here unmarked same = elim (cases_eq j k) [
       | inl e ↦
           let is : r ≡ row = same_Some r row (sym here ∙ ap (slice_get x.plan.rows) e ∙ at) in
-          ap (slice_get renewed) e ∙ slice_get-set_same choices k anew (slice_get_within choices k was there) ∙ ap (λ (q : Row). Some (choice_by (source_of x) (far_from (source_of x) choices) q)) (sym is) ∙ ap Some same
+          ap (slice_get renewed) e ∙ slice_get-set_same choices k anew (slice_get_within choices k was there) ∙ ap (λ (q : Row). Some (kept (choice_by (source_of x) (far_from (source_of x) choices) q))) (sym is) ∙ ap (λ (d : Choice). Some (kept d)) same
       | inr ne ↦
           let other : is_marked (k ∷ before) j ≡ false = rw (ne_eqb k j (λ e. ne (sym e))) unmarked in
-          slice_get-set_other choices k j anew ne ∙ obey j r here other ∙ ap Some same
+          slice_get-set_other choices k j anew ne ∙ obey j r here other ∙ ap (λ (d : Choice). Some (kept d)) same
     ]
 
     -- with the same status nothing else changes
@@ -370,15 +370,15 @@ module _ (x : ExcerptValue) (right : IsRight x) where
         told z other = ap (λ f. cond (eqb z x.plan.dest) Allowed f) (sym (far_elsewhere x.plan.rows choices k row anew z at other))
 
   -- with no mark left they are those from scratch
-  pub none_left : (choices : List Choice) → length choices ≡ length x.plan.rows → ObeysBut (source_of x) choices [] → IsChosen x choices
+  pub none_left : (choices : List KeptValue) → length choices ≡ length x.plan.rows → ObeysBut (source_of x) choices [] → IsChosen x choices
   none_left choices together obey = chosen x choices (all_obey (source_of x) right.valid right.rows_rise choices (λ k row at. obey k row at refl)) together
 
   -- taking out a mark to choose its row
-  pub mark_taken : (choices : List Choice) (before after : List ℕ) (position : ℕ) → IsWithoutMark before after position → ObeysBut (source_of x) choices before → ObeysBut (source_of x) choices (position ∷ after)
+  pub mark_taken : (choices : List KeptValue) (before after : List ℕ) (position : ℕ) → IsWithoutMark before after position → ObeysBut (source_of x) choices before → ObeysBut (source_of x) choices (position ∷ after)
   mark_taken choices before after position taken obey k row at unmarked =
       go (eqb position k) refl unmarked
     where
-      go : (b : Bool) → eqb position k ≡ b → (b || is_marked after k) ≡ false → slice_get choices k ≡ Some (choice_by (source_of x) (far_from (source_of x) choices) row)
+      go : (b : Bool) → eqb position k ≡ b → (b || is_marked after k) ≡ false → slice_get choices k ≡ Some (kept (choice_by (source_of x) (far_from (source_of x) choices) row))
       go true e left = let bad : true ≡ false = left in cc
       go false e left = obey k row at (taken.rest k left (λ same. eqb-false position k e (sym same)))
 
@@ -390,17 +390,17 @@ module _ (old x : ExcerptValue) (was : IsRight old) (right : IsRight x) (turned 
   same_plan = same_Some x.plan old.plan (sym right.planned ∙ rw (has.plans, dest) was.planned)
 
   -- the choices before obey the rule but where the marks tell
-  pub obeys_after : (choices : List Choice) → IsChosen old choices → (marks : List ℕ) → ((y z : ℕ) → has_ends turned y z ≡ true → HasMarksOf x marks y z) → ObeysBut (source_of x) choices marks
+  pub obeys_after : (choices : List KeptValue) → IsChosen old choices → (marks : List ℕ) → ((y z : ℕ) → has_ends turned y z ≡ true → HasMarksOf x marks y z) → ObeysBut (source_of x) choices marks
   obeys_after choices before marks marked k row at unmarked =
-      there ∙ ap Some (sym (choice_turned (status (source_of old))) ∙ choice_same (source_of x) right.valid (status (source_of old)) (far_from (source_of x) choices) row (row_valid (source_of x) right.valid row.point row (row_here x right k row at)).1 (record { agree = λ z low. told z }))
+      there ∙ ap (λ (d : Choice). Some (kept d)) (sym (choice_turned (status (source_of old))) ∙ choice_same (source_of x) right.valid (status (source_of old)) (far_from (source_of x) choices) row (row_valid (source_of x) right.valid row.point row (row_here x right k row at)).1 (record { agree = λ z low. told z }))
     where
       planned : row_at x.plan.rows row.point ≡ Some row
       planned = row_here x right k row at
 
-      at_old : (j : ℕ) (r : Row) → slice_get old.plan.rows j ≡ Some r → slice_get choices j ≡ Some (choice (source_of old) r)
-      at_old j r here = ap (λ (cs : List Choice). slice_get cs j) before ∙ slice_get-map (choice (source_of old)) old.plan.rows j ∙ ap (option_map (choice (source_of old))) here
+      at_old : (j : ℕ) (r : Row) → slice_get old.plan.rows j ≡ Some r → slice_get choices j ≡ Some (kept (choice (source_of old) r))
+      at_old j r here = ap (λ (cs : List KeptValue). slice_get cs j) before ∙ slice_get-map (λ (r : Row). kept (choice (source_of old) r)) old.plan.rows j ∙ ap (option_map (λ (r : Row). kept (choice (source_of old) r))) here
 
-      there : slice_get choices k ≡ Some (choice (source_of old) row)
+      there : slice_get choices k ≡ Some (kept (choice (source_of old) row))
       there = at_old k row (rw (← same_plan) at)
 
       told : (z : ℕ) → status (source_of old) z ≡ far_from (source_of x) choices z
@@ -448,7 +448,48 @@ module _ (old x : ExcerptValue) (was : IsRight old) (right : IsRight x) (turned 
               rw (mate_row_old, e, joined, there) refl
 
   -- if no row is marked, the choices are those from scratch
-  pub kept_whole : (choices : List Choice) → IsChosen old choices → (marks : List ℕ) → length marks ≡ 0 → ((y z : ℕ) → has_ends turned y z ≡ true → HasMarksOf x marks y z) → IsChosen x choices
+  pub kept_whole : (choices : List KeptValue) → IsChosen old choices → (marks : List ℕ) → length marks ≡ 0 → ((y z : ℕ) → has_ends turned y z ≡ true → HasMarksOf x marks y z) → IsChosen x choices
   kept_whole choices before marks empty marked =
-      none_left x right choices (ap (length {A = Choice}) before ∙ length-map old.plan.rows (choice (source_of old)) ∙ ap (λ (p : Plan). length p.rows) (sym same_plan))
+      none_left x right choices (ap (length {A = KeptValue}) before ∙ length-map old.plan.rows (λ (r : Row). kept (choice (source_of old) r)) ∙ ap (λ (p : Plan). length p.rows) (sym same_plan))
       (subst (λ (ms : List ℕ). ObeysBut (source_of x) choices ms) (nil_from_length marks empty) (obeys_after choices before marks marked))
+
+-- ---- statuses that stay
+
+-- ends that a list has pass no test that none of it passes
+none_rests : (p : ℕ → ℕ → Bool) (turned : List Ends) (y z : ℕ) → list_any (λ (ends : Ends). p ends.point ends.other) turned ≡ false → has_ends turned y z ≡ true → p y z ≡ false
+none_rests p [] y z none has = cc
+none_rests p (ends ∷ turned) y z none has = go (p ends.point ends.other) refl (eqb ends.point y && eqb ends.other z) refl (none_rests p turned y z)
+  where
+    go : (a : Bool) → p ends.point ends.other ≡ a → (b : Bool) → (eqb ends.point y && eqb ends.other z) ≡ b
+        → (list_any (λ (ends : Ends). p ends.point ends.other) turned ≡ false → has_ends turned y z ≡ true → p y z ≡ false) → p y z ≡ false
+    go true e b f rest = let bad : true ≡ false = rw e at none in cc
+    go false e true f rest =
+        let same = both_true (eqb ends.point y) (eqb ends.other z) f in
+        rw (← eqb-true ends.point y same.0, ← eqb-true ends.other z same.1) e
+    go false e false f rest = rest (rw e at none) (rw f at has)
+
+no_left : (a b : Bool) → (a || b) ≡ false → (a ≡ false) × (b ≡ false)
+no_left true b e = cc
+no_left false b e = (refl, e)
+
+-- where no row rests on a set that turned, the statuses stay
+pub keeps_statuses : (old : ExcerptValue) (choices : List KeptValue) (turned : List Ends) → IsRight old → IsChosen old choices → list_any (λ (ends : Ends). rests_on old ends.point ends.other) turned ≡ false
+    → KeepsStatuses (record { excerpt = old; choices = opened_rows (source_of old) old.plan.rows choices }) turned
+keeps_statuses old choices turned was before none x right dest has =
+    ap statuses_of (sym (opened_chosen x right choices now)) ∙ statuses_kept x right choices now ∙ sym (statuses_kept old was choices before)
+  where
+    unread : (y z : ℕ) → has_ends turned y z ≡ true → (leads old.plan.rows y z ≡ false) × (option_map_or (λ m. eqb m z) (mate_of old.network.points y) false ≡ false)
+    unread y z ends = no_left (leads old.plan.rows y z) (option_map_or (λ m. eqb m z) (mate_of old.network.points y) false) (none_rests (rests_on old) turned y z none ends)
+
+    no_marks : (y z : ℕ) → has_ends turned y z ≡ true → HasMarksOf x [] y z
+    no_marks y z ends = record {
+      via = λ leading.
+          let bad : true ≡ false = sym leading ∙ (ap (λ (p : Plan). leads p.rows y z) (same_plan old x was right turned dest has) ∙ (unread y z ends).0) in cc;
+      mate = λ paired.
+          let there : mate_of old.network.points y ≡ Some z = rw (← has.points) paired in
+          let yes : option_map_or (λ m. eqb m z) (mate_of old.network.points y) false ≡ true = rw there (eq-eqb z z refl) in
+          let bad : true ≡ false = sym yes ∙ (unread y z ends).1 in cc;
+    }
+
+    now : IsChosen x choices
+    now = kept_whole old x was right turned dest has choices before [] refl no_marks

@@ -1,8 +1,11 @@
+pub mod AuditLemmas
+pub mod KeptLemmas
 pub mod SweepLemmas
 pub mod FollowLemmas
 pub mod TableLemmas
 pub mod MatchLemmas
 pub mod MemberLemmas
+pub mod MessageLemmas
 pub mod PromiseLemmas
 pub mod RouteLemmas
 pub mod SizeLemmas

@@ -7,10 +7,10 @@ use Rattle.route_choice.specs.declared.choices.Far.{Far}
 use Rattle.route_choice.specs.declared.choices.Far.TheVariants.{Allowed, Prohibited}
 use Rattle.net_items.specs.declared.lists.Row.{Row}
 use Rattle.route_choice.specs.Routes.{Offer, offered_in, offered}
-use Rattle.route_choice.specs.declared.choices.Choice.{Choice}
 use Rattle.std.specs.Prelude.{find, slice_get}
 use Rattle.std.proofs.lemmas.Option.{same_Some, slice_get_within}
 use Rattle.profile.specs.Status.{Source, source_row, source_rank, choice_by, choice, status}
+use Rattle.transfer_state.specs.Kept.{KeptValue, kept}
 use Rattle.transfer_state.specs.Told.{far_at, KnowsBelow, TellsBelow}
 use Rattle.profile.specs.Valid.{IsValidSource, IsValidRow, IsSmall}
 use Rattle.link_sets.proofs.ListLemmas.{find_gives}
@@ -123,7 +123,7 @@ module _ (src : Source) (valid : IsValidSource src) where
   rows_small = All-weaker (IsValidRow src) IsSmall (λ row ok. record { few = ok.few; small = ok.small }) src.rows valid.rows
 
   -- a choice written in its place keeps those of lower rank
-  pub knows_kept : (choices : List Choice) (n i : ℕ) (row : Row) (f : Choice) → slice_get src.rows i ≡ Some row → n ≤ row.rank → KnowsBelow src choices n → KnowsBelow src (set choices i f) n
+  pub knows_kept : (choices : List KeptValue) (n i : ℕ) (row : Row) (f : KeptValue) → slice_get src.rows i ≡ Some row → n ≤ row.rank → KnowsBelow src choices n → KnowsBelow src (set choices i f) n
   knows_kept choices n i row f at high knows k r there low =
       let other : k ≢ i = λ e. (let same : r ≡ row = same_Some r row (sym there ∙ ap (slice_get src.rows) e ∙ at) in omega (arith, low, high, ap (λ (q : Row). q.rank) same)) in
       slice_get-set_other choices i k f other ∙ knows k r there low
@@ -132,18 +132,18 @@ pub found_small : (rows : List Row) (p : Row → Bool) (row : Row) → All IsSma
 found_small rows p row small e = (find_gives p IsSmall rows row small e).1
 
 -- the choices and statuses of lower rank stand, and so do those of rank n in the places before i
-pub record IsSwept (src : Source) (choices : List Choice) (fars : List Far) (n i : ℕ) : Type 0 where
+pub record IsSwept (src : Source) (choices : List KeptValue) (fars : List Far) (n i : ℕ) : Type 0 where
   pub together : length choices ≡ length src.rows
   pub coded : length fars ≡ 16384
   pub below : KnowsBelow src choices n
-  pub here : (k : ℕ) (row : Row) → k < i → slice_get src.rows k ≡ Some row → row.rank ≡ n → slice_get choices k ≡ Some (choice src row)
+  pub here : (k : ℕ) (row : Row) → k < i → slice_get src.rows k ≡ Some row → row.rank ≡ n → slice_get choices k ≡ Some (kept (choice src row))
   pub told : TellsBelow src fars n
   pub told_here : (k : ℕ) (row : Row) → k < i → slice_get src.rows k ≡ Some row → row.rank ≡ n → far_at fars row.point ≡ status src row.point
 
 module _ (src : Source) (valid : IsValidSource src) where
   -- a row of this rank gets its choice, and its status is told
-  pub swept_more : (choices : List Choice) (fars : List Far) (n i : ℕ) (row : Row) (c : Choice) → slice_get src.rows i ≡ Some row → row.rank ≡ n → IsSwept src choices fars n i
-      → c ≡ choice_by src (far_at fars) row → IsSwept src (set choices i c) (set fars row.point c.status) n (i + 1)
+  pub swept_more : (choices : List KeptValue) (fars : List Far) (n i : ℕ) (row : Row) (c : KeptValue) → slice_get src.rows i ≡ Some row → row.rank ≡ n → IsSwept src choices fars n i
+      → c ≡ kept (choice_by src (far_at fars) row) → IsSwept src (set choices i c) (set fars row.point c.status) n (i + 1)
   swept_more choices fars n i row c at rank swept is = record {
     together = length-set choices i c ∙ swept.together;
     coded = length-set fars row.point c.status ∙ swept.coded;
@@ -156,8 +156,8 @@ module _ (src : Source) (valid : IsValidSource src) where
     ];
   }
     where
-      right : c ≡ choice src row
-      right = is ∙ choice_in_place src valid fars i row at (subst (TellsBelow src fars) (sym rank) swept.told)
+      right : c ≡ kept (choice src row)
+      right = is ∙ ap kept (choice_in_place src valid fars i row at (subst (TellsBelow src fars) (sym rank) swept.told))
 
       within : i < length choices
       within = omega (arith, slice_get_within src.rows i row at, swept.together)
@@ -170,7 +170,7 @@ module _ (src : Source) (valid : IsValidSource src) where
       written z e =
           ap (far_at (set fars row.point c.status)) e
           ∙ (far_at-set_same fars row.point c.status coded
-          ∙ (ap (λ (d : Choice). d.status) right ∙ (sym (status_in_place src valid i row at) ∙ ap (status src) (sym e))))
+          ∙ (ap (λ (d : KeptValue). d.status) right ∙ (sym (status_in_place src valid i row at) ∙ ap (status src) (sym e))))
 
       -- what was told still is
       tell : (z : ℕ) → far_at fars z ≡ status src z → far_at (set fars row.point c.status) z ≡ status src z
@@ -179,14 +179,14 @@ module _ (src : Source) (valid : IsValidSource src) where
         | inr ne ↦ far_at-set_other fars row.point z c.status ne ∙ was
       ]
 
-      go : (k : ℕ) (r : Row) → k < i + 1 → slice_get src.rows k ≡ Some r → r.rank ≡ n → (k ≡ i) ⊎ (k ≢ i) → slice_get (set choices i c) k ≡ Some (choice src r)
+      go : (k : ℕ) (r : Row) → k < i + 1 → slice_get src.rows k ≡ Some r → r.rank ≡ n → (k ≡ i) ⊎ (k ≢ i) → slice_get (set choices i c) k ≡ Some (kept (choice src r))
       go k r low there same_rank (inl e) =
           let same : row ≡ r = same_Some row r (sym at ∙ ap (slice_get src.rows) (sym e) ∙ there) in
-          ap (slice_get (set choices i c)) e ∙ slice_get-set_same choices i c within ∙ ap Some (right ∙ ap (choice src) same)
+          ap (slice_get (set choices i c)) e ∙ slice_get-set_same choices i c within ∙ ap Some (right ∙ ap (λ (q : Row). kept (choice src q)) same)
       go k r low there same_rank (inr ne) = slice_get-set_other choices i k c ne ∙ swept.here k r (omega arith) there same_rank
 
   -- a row of another rank is passed
-  pub swept_past : (choices : List Choice) (fars : List Far) (n i : ℕ) (row : Row) → slice_get src.rows i ≡ Some row → row.rank ≢ n → IsSwept src choices fars n i → IsSwept src choices fars n (i + 1)
+  pub swept_past : (choices : List KeptValue) (fars : List Far) (n i : ℕ) (row : Row) → slice_get src.rows i ≡ Some row → row.rank ≢ n → IsSwept src choices fars n i → IsSwept src choices fars n (i + 1)
   swept_past choices fars n i row at other swept = record {
     together = swept.together;
     coded = swept.coded;
@@ -208,7 +208,7 @@ module _ (src : Source) (valid : IsValidSource src) where
       passed k r there e = ap (λ (q : Row). q.rank) (same_Some row r (sym at ∙ ap (slice_get src.rows) (sym e) ∙ there))
 
   -- after all places the next rank is known
-  pub swept_all : (choices : List Choice) (fars : List Far) (n i : ℕ) → IsSwept src choices fars n i → length src.rows ≤ i → KnowsBelow src choices (n + 1)
+  pub swept_all : (choices : List KeptValue) (fars : List Far) (n i : ℕ) → IsSwept src choices fars n i → length src.rows ≤ i → KnowsBelow src choices (n + 1)
   swept_all choices fars n i swept all k r there low =
       elim (cases_eq r.rank n) [
         | inl e ↦ swept.here k r (omega (arith, slice_get_within src.rows k r there, all)) there e
@@ -216,7 +216,7 @@ module _ (src : Source) (valid : IsValidSource src) where
       ]
 
   -- and told
-  pub told_all : (choices : List Choice) (fars : List Far) (n i : ℕ) → 1 ≤ n → IsSwept src choices fars n i → length src.rows ≤ i → TellsBelow src fars (n + 1)
+  pub told_all : (choices : List KeptValue) (fars : List Far) (n i : ℕ) → 1 ≤ n → IsSwept src choices fars n i → length src.rows ≤ i → TellsBelow src fars (n + 1)
   told_all choices fars n i ranked swept all z low = go (source_row src z) refl
     where
       go : (o : Option Row) → source_row src z ≡ o → far_at fars z ≡ status src z
@@ -230,7 +230,7 @@ module _ (src : Source) (valid : IsValidSource src) where
             | inr ne ↦ swept.told z (omega (arith, low, rank, ne))
           ]
 
-  pub nothing_swept : (choices : List Choice) (fars : List Far) (n : ℕ) → length choices ≡ length src.rows → length fars ≡ 16384 → KnowsBelow src choices n → TellsBelow src fars n → IsSwept src choices fars n 0
+  pub nothing_swept : (choices : List KeptValue) (fars : List Far) (n : ℕ) → length choices ≡ length src.rows → length fars ≡ 16384 → KnowsBelow src choices n → TellsBelow src fars n → IsSwept src choices fars n 0
   nothing_swept choices fars n together coded below told = record {
     together = together;
     coded = coded;

@@ -1,17 +1,40 @@
 -- What is wrong with a table: the first row that isn't what its neighbours' messages make it (own).
-use Rattle.std.specs.Prelude.{◌≡◌, ◌≢◌, ◌<◌, ℕ, ◌==◌, Option, Some, map, slice_get, if◌then◌else◌, ◌⊎◌}
+use Rattle.std.specs.Prelude.{◌≡◌, ◌≢◌, ◌<◌, ℕ, ◌==◌, List, [], ◌∷◌, Option, Some, length, map, slice_get, if◌then◌else◌, ◌⊎◌}
 use Rattle.std.specs.Option.{option_and_then}
 use Rattle.route_choice.specs.declared.choices.Far.{Far}
 use Rattle.route_choice.specs.declared.choices.Far.TheVariants.{Allowed}
+use Rattle.route_choice.specs.declared.choices.Choice.{Choice}
 use Rattle.route_choice.specs.Routes.{Offer}
 use Rattle.net_items.specs.declared.lists.Row.{Row}
 use Rattle.profile.specs.declared.tables.RowState.{RowState}
 use Rattle.profile.specs.declared.tables.Table.{Table}
 use Rattle.profile.specs.Status.{Source, mate_row, over_mate}
 use Rattle.profile.specs.Whole.{heard_from, choice_heard, state_of}
+use Rattle.transfer_state.specs.Kept.{KeptValue, opened_rows}
+use Rattle.transfer_state.specs.declared.hearing.Heard.{Heard}
+use Rattle.transfer_state.specs.declared.hearing.Heard.TheVariants.{Written, Kept}
 use Rattle.transfer_state.specs.declared.complaints.Clause.{Clause}
 use Rattle.transfer_state.specs.declared.complaints.Clause.TheVariants.{Points, Route, Status, Links, Messages}
 use Rattle.transfer_state.specs.declared.complaints.Complaint.{Complaint}
+
+-- the states of rows by choices in their places
+abbrev pub chosen_states : Source → List Row → List Choice → List RowState
+chosen_states src [] choices = []
+chosen_states src (row ∷ rows) [] = []
+chosen_states src (row ∷ rows) (c ∷ choices) = state_of src row c ∷ chosen_states src rows choices
+
+-- the table by choices of all rows
+abbrev pub chosen_table : Source → List Choice → Table
+chosen_table src choices = record { dest = src.dest; rows = chosen_states src src.rows choices }
+
+-- the table by what is kept of choices
+abbrev pub kept_table : Source → List KeptValue → Table
+kept_table src ks = chosen_table src (opened_rows src src.rows ks)
+
+-- the table whose messages are heard: one that is written out, or the one by what is kept
+abbrev pub heard_table : Source → Heard → Table
+heard_table src (Written table) = table.now
+heard_table src (Kept choices) = kept_table src choices.now
 
 -- what a point y hears of its vias from a table: the destination is allowed
 abbrev pub far_from : Source → Table → ℕ → ℕ → Far
@@ -29,6 +52,11 @@ right_state src table row = state_of src row (choice_heard src table row)
 pub record HasPoints (src : Source) (table : Table) : Type 0 where
   pub dest : table.dest ≡ src.dest
   pub points : map (λ (state : RowState). state.point) table.rows ≡ map (λ (row : Row). row.point) src.rows
+
+-- the table whose messages are heard has the plan's points
+abbrev pub HasAllPoints : Source → Heard → Type 0
+HasAllPoints src (Written table) = HasPoints src table.now
+HasAllPoints src (Kept choices) = length choices.now ≡ length src.rows
 
 -- class and members are the same
 abbrev pub IsSameRoute : RowState → RowState → Type 0

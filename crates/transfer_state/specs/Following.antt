@@ -1,12 +1,16 @@
 -- How choices are followed from those of the same plan before link sets became available or were so no longer (own).
-use Rattle.std.specs.Prelude.{◌≡◌, ◌≢◌, ◌<◌, ℕ, ◌==◌, Bool, true, false, List, Some, length, slice_get}
+use Rattle.std.specs.Prelude.{◌≡◌, ◌≢◌, ◌<◌, ℕ, ◌==◌, ◌||◌, Bool, true, false, List, Some, length, slice_get}
 use Rattle.std.specs.List.{list_any}
+use Rattle.std.specs.Option.{option_map_or}
 use Rattle.net_items.specs.declared.lists.Row.{Row}
 use Rattle.net_items.specs.Lookups.{mate_of}
-use Rattle.route_choice.specs.declared.choices.Choice.{Choice}
 use Rattle.link_sets.specs.Availability.{connected}
 use Rattle.profile.specs.Status.{Source, choice_by}
-use Rattle.excerpts.specs.Excerpt.{ExcerptValue, leads}
+use Rattle.excerpts.specs.Excerpt.{ExcerptValue, IsRight, leads}
+use Rattle.excerpts.specs.Turned.{HasTurned}
+use Rattle.excerpts.specs.declared.turned.Ends.{Ends}
+use Rattle.transfer_state.specs.Kept.{KeptValue, kept}
+use Rattle.transfer_state.specs.Routing.{RoutingValue, settled_routing, statuses_of}
 use Rattle.transfer_state.specs.Told.{far_from}
 
 -- the row in a place is marked
@@ -46,5 +50,13 @@ abbrev pub HasReaders : ExcerptValue → List ℕ → ℕ → Type 0
 HasReaders x marks z = (y : ℕ) → y < 16384 → connected x.network.sets z y ≡ true → HasMarksOf x marks y z
 
 -- the choice of each row that isn't marked obeys the rule, by the statuses of the choices
-abbrev pub ObeysBut : Source → List Choice → List ℕ → Type 0
-ObeysBut src choices marks = (k : ℕ) (row : Row) → slice_get src.rows k ≡ Some row → is_marked marks k ≡ false → slice_get choices k ≡ Some (choice_by src (far_from src choices) row)
+abbrev pub ObeysBut : Source → List KeptValue → List ℕ → Type 0
+ObeysBut src choices marks = (k : ℕ) (row : Row) → slice_get src.rows k ≡ Some row → is_marked marks k ≡ false → slice_get choices k ≡ Some (kept (choice_by src (far_from src choices) row))
+
+-- the row of a point rests on what another point offers to it, or may: it leads there, or that is its mate
+abbrev pub rests_on : ExcerptValue → ℕ → ℕ → Bool
+rests_on x y z = leads x.plan.rows y z || option_map_or (λ m. m == z) (mate_of x.network.points y) false
+
+-- in each network that differs from a routing's in sets between these ends alone, the statuses towards its destination are the routing's
+abbrev pub KeepsStatuses : RoutingValue → List Ends → Type 0
+KeepsStatuses r turned = (x : ExcerptValue) → IsRight x → x.plan.dest ≡ r.excerpt.plan.dest → HasTurned r.excerpt.network x.network turned → statuses_of (settled_routing x).choices ≡ statuses_of r.choices

@@ -1,3 +1,4 @@
+pub mod Kept
 pub mod Members
 pub mod Promises
 pub mod Told

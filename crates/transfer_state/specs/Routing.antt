@@ -12,6 +12,7 @@ use Rattle.profile.specs.Valid.{IsSmall}
 use Rattle.profile.specs.Status.{Source, choice}
 use Rattle.profile.specs.Whole.{scratch, carrier, link_of, state_of}
 use Rattle.excerpts.specs.Excerpt.{ExcerptValue, source_of}
+use Rattle.transfer_state.specs.Kept.{KeptValue, kept}
 use Rattle.transfer_state.specs.Promises.{state_in}
 
 -- what the settled table of an excerpt, from scratch, has for a point
@@ -23,15 +24,15 @@ abbrev pub hop_by : Source → Row → Choice → ℕ → Option Hop
 hop_by src row c s =
     option_and_then (λ z. option_map (λ link. record { from = row.point; link = link; to = z }) (link_of src row c s)) (carrier row c s)
 
--- the choices of the rows of an excerpt's plan, in their places
-abbrev pub IsChosen : ExcerptValue → List Choice → Type 0
-IsChosen x choices = choices ≡ map (choice (source_of x)) x.plan.rows
+-- what is kept of the choices of the rows of an excerpt's plan, in their places
+abbrev pub IsChosen : ExcerptValue → List KeptValue → Type 0
+IsChosen x choices = choices ≡ map (λ row. kept (choice (source_of x) row)) x.plan.rows
 
 -- the statuses of choices, in their places
 abbrev pub statuses_of : List Choice → List Far
 statuses_of choices = map (λ (c : Choice). c.status) choices
 
--- a settled routing: its excerpt, and the choices that it keeps, in the places of the plan's rows
+-- a settled routing: its excerpt, and the choices by what it keeps, in the places of the plan's rows
 pub record RoutingValue : Type 0 where
   pub excerpt : ExcerptValue
   pub choices : List Choice

@@ -1,10 +1,10 @@
--- What a list of choices in the rows' places tells, and a table of far statuses.
+-- What is told by what is kept of choices in the rows' places, and by a table of far statuses.
 use Rattle.std.specs.Prelude.{◌≡◌, ◌<◌, ℕ, ◌==◌, List, [], ◌∷◌, Some, length, slice_get, slice_index_or, if◌then◌else◌}
 use Rattle.route_choice.specs.declared.choices.Far.{Far}
 use Rattle.route_choice.specs.declared.choices.Far.TheVariants.{Allowed, Prohibited}
-use Rattle.route_choice.specs.declared.choices.Choice.{Choice}
 use Rattle.net_items.specs.declared.lists.Row.{Row}
 use Rattle.profile.specs.Status.{Source, source_rank, choice, status}
+use Rattle.transfer_state.specs.Kept.{KeptValue, kept}
 use Rattle.transfer_state.specs.declared.choosing.Statuses.{Statuses}
 use Rattle.transfer_state.specs.declared.choosing.Statuses.TheVariants.{Table, Choices}
 
@@ -16,22 +16,22 @@ far_at fars z = slice_index_or fars z Prohibited
 abbrev pub TellsBelow : Source → List Far → ℕ → Type 0
 TellsBelow src fars n = (z : ℕ) → source_rank src z < n → far_at fars z ≡ status src z
 
--- the choices of the rows, in their places
-abbrev pub AreChoices : Source → List Choice → Type 0
-AreChoices src choices = (i : ℕ) (row : Row) → slice_get src.rows i ≡ Some row → slice_get choices i ≡ Some (choice src row)
+-- what is kept of the choices of the rows, in their places
+abbrev pub AreChoices : Source → List KeptValue → Type 0
+AreChoices src choices = (i : ℕ) (row : Row) → slice_get src.rows i ≡ Some row → slice_get choices i ≡ Some (kept (choice src row))
 
 -- the rows of rank below n have their choices in place
-abbrev pub KnowsBelow : Source → List Choice → ℕ → Type 0
-KnowsBelow src choices n = (i : ℕ) (row : Row) → slice_get src.rows i ≡ Some row → row.rank < n → slice_get choices i ≡ Some (choice src row)
+abbrev pub KnowsBelow : Source → List KeptValue → ℕ → Type 0
+KnowsBelow src choices n = (i : ℕ) (row : Row) → slice_get src.rows i ≡ Some row → row.rank < n → slice_get choices i ≡ Some (kept (choice src row))
 
 -- the status of the row of a point by choices in the rows' places, prohibited if it has no row
-abbrev pub far_in : List Row → List Choice → ℕ → Far
+abbrev pub far_in : List Row → List KeptValue → ℕ → Far
 far_in [] choices z = Prohibited
 far_in (row ∷ rows) [] z = Prohibited
 far_in (row ∷ rows) (c ∷ choices) z = if row.point == z then c.status else far_in rows choices z
 
 -- the far status of a point by choices in the rows' places: allowed at the destination
-abbrev pub far_from : Source → List Choice → ℕ → Far
+abbrev pub far_from : Source → List KeptValue → ℕ → Far
 far_from src choices z = if z == src.dest then Allowed else far_in src.rows choices z
 
 -- the far status that is told

@@ -5,11 +5,12 @@ ghost use Rattle.route_choice.specs.Routes.{offered, offered_in, mate_of_pair};
 ghost use Rattle.profile.specs.Status.{offers, offer, choice_by, mate_offer as mate_offer_by};
 ghost use Rattle.profile.specs.Valid.{IsSmall};
 ghost use Rattle.excerpts.specs.Excerpt.{source_of};
+ghost use Rattle.transfer_state.specs.Kept.{kept};
 ghost use Rattle.transfer_state.specs.Told.{far_by, far_from, AreFull};
 
+use crate::kept::Kept;
 use excerpts::Excerpt;
 use net_items::Row;
-use net_items::copies::position_of_row;
 use point_codes::PointCode;
 use route_choice::{Choice, Far};
 
@@ -18,8 +19,8 @@ use route_choice::{Choice, Far};
 pub(crate) enum Statuses<'a> {
     /// A table of all codes.
     Table(&'a [Far]),
-    /// The choices of the rows, in their places.
-    Choices(&'a [Choice]),
+    /// What is kept of the choices of the rows, in their places.
+    Choices(&'a [Kept]),
 }
 
 /// The rows of an excerpt's plan.
@@ -37,7 +38,7 @@ pub(crate) fn is_same_status(one: Far, other: Far) -> bool
 }
 
 /// The far status of a point by the choices of the rows.
-fn far_by_choices(e: &Excerpt, choices: &[Choice], code: PointCode) -> Far
+fn far_by_choices(e: &Excerpt, choices: &[Kept], code: PointCode) -> Far
     requires { length choices.now ≡ length e.now.plan.rows }
     ensures { result ≡ far_from (source_of e.now) choices.now code }
 {
@@ -45,8 +46,8 @@ fn far_by_choices(e: &Excerpt, choices: &[Choice], code: PointCode) -> Far
     if code == e.dest() {
         return Far::Allowed;
     }
-    match position_of_row(rows_of(e), code) {
-        Ok(at) => choices[at].status,
+    match e.place_of_row(code) {
+        Ok(at) => choices[at].status(),
         Err(_) => Far::Prohibited,
     }
 }
@@ -125,11 +126,20 @@ fn mate_offer(e: &Excerpt, statuses: &Statuses<'_>, row: &Row) -> Option<(PointC
 }
 
 /// What a row uses, by the statuses of other points.
-pub(crate) fn choice_of(e: &Excerpt, statuses: &Statuses<'_>, row: &Row) -> Choice
+fn choice_of(e: &Excerpt, statuses: &Statuses<'_>, row: &Row) -> Choice
     requires full { AreFull (source_of e.now) statuses.now }
     requires small { IsSmall row.now }
     ensures { result ≡ choice_by (source_of e.now) (far_by (source_of e.now) statuses.now) row.now }
 {
     let mate = mate_offer(e, statuses, row);
     route_choice::choose(row, &fars_of(e, statuses, row), mate, e.tfr())
+}
+
+/// What is kept of it.
+pub(crate) fn kept_choice(e: &Excerpt, statuses: &Statuses<'_>, row: &Row) -> Kept
+    requires full { AreFull (source_of e.now) statuses.now }
+    requires small { IsSmall row.now }
+    ensures { result ≡ kept (choice_by (source_of e.now) (far_by (source_of e.now) statuses.now) row.now) }
+{
+    Kept::of(&choice_of(e, statuses, row))
 }

@@ -9,7 +9,7 @@ ghost use Rattle.excerpts.specs.Excerpt.{source_of};
 ghost use Rattle.transfer_state.specs.Complaints.{right_state, HasPoints, IsWrongIn, IsFirstComplaint};
 
 use crate::choosing::{is_same_status, rows_of};
-use crate::hearing::choice_heard;
+use crate::hearing::{Heard, choice_heard};
 use crate::states::{links_of, message, size_of};
 use excerpts::Excerpt;
 use net_items::Row;
@@ -77,7 +77,7 @@ fn are_same_members(one: &[Option<PointCode>; 2], other: &[Option<PointCode>; 2]
 }
 
 /// Whether class and members are the same.
-fn is_same_route(one: &Choice, other: &Choice) -> bool
+pub(crate) fn is_same_route(one: &Choice, other: &Choice) -> bool
     ensures { IsTrue result ↔ ((one.now.class ≡ other.now.class) × (one.now.members ≡ other.now.members)) }
 {
     one.class == other.class && are_same_members(&one.members, &other.members)
@@ -120,7 +120,7 @@ fn fault_in(e: &Excerpt, table: &Table, row: &Row, state: &RowState) -> Option<C
     requires point { state.now.point ≡ row.now.point }
     ensures { MatchOption result (state.now ≡ right_state (source_of e.now) table.now row.now) (λ clause. IsWrongIn clause state.now (right_state (source_of e.now) table.now row.now)) }
 {
-    let right = choice_heard(e, table, row);
+    let right = choice_heard(e, &Heard::Written(table), row);
     if !is_same_route(&state.choice, &right) {
         return Some(Clause::Route);
     }

@@ -7,16 +7,17 @@ ghost use Rattle.std.specs.Prelude.{◌≡◌, ◌≢◌, ◌<◌, ℕ, ◌∷�
 ghost use Rattle.std.specs.Arc.{arc_value};
 ghost use Rattle.std.specs.Option.{IfSome};
 ghost use Rattle.excerpts.specs.Excerpt.{source_of};
+ghost use Rattle.std.specs.List.{list_any};
 ghost use Rattle.excerpts.specs.Turned.{has_ends, HasTurned};
-ghost use Rattle.transfer_state.specs.Following.{is_marked, AreMarks, HasMark, HasMarks, HasMarksOf, HasReaders, IsWithoutMark, KeepsMarks, ObeysBut};
+ghost use Rattle.excerpts.specs.declared.turned.Ends.{Ends};
+ghost use Rattle.transfer_state.specs.Following.{is_marked, rests_on, AreMarks, HasMark, HasMarks, HasMarksOf, HasReaders, IsWithoutMark, KeepsMarks, ObeysBut};
 ghost use Rattle.transfer_state.specs.Routing.{IsChosen};
 
-use crate::choosing::{Statuses, choice_of, is_same_status, rows_of};
+use crate::choosing::{Statuses, is_same_status, kept_choice, rows_of};
+use crate::kept::Kept;
 use excerpts::{Ends, Excerpt};
 use net_items::Row;
-use net_items::copies::position_of_row;
 use point_codes::PointCode;
-use route_choice::Choice;
 use std::alloc::{AllocError, Global};
 use std::sync::Arc;
 
@@ -43,7 +44,7 @@ fn mark_row(e: &Excerpt, marks: &mut Vec<usize>, point: PointCode) -> Result<(),
     ensures marked { OnOk result (HasMark e.now marks.new.items point) }
 {
     e.validity();
-    match position_of_row(rows_of(e), point) {
+    match e.place_of_row(point) {
         Ok(at) => mark_place(marks, at),
         Err(_) => Ok(()),
     }
@@ -63,6 +64,26 @@ fn mark_with_mate(e: &Excerpt, marks: &mut Vec<usize>, point: PointCode) -> Resu
     }
 }
 
+/// Whether the row of a point rests on what another point offers to it, or may: it leads there, or that is its mate.
+fn rests(e: &Excerpt, point: PointCode, other: PointCode) -> bool
+    ensures { result ≡ rests_on e.now point other }
+{
+    if e.leads(point, other) {
+        return true;
+    }
+    match e.mate_of(point) {
+        Some(mate) => mate == other,
+        None => false,
+    }
+}
+
+/// Whether the row of some point rests on a set between the two points of any of these pairs, or may.
+pub(crate) fn rests_on_any(e: &Excerpt, turned: &[Ends]) -> bool
+    ensures { result ≡ list_any (λ (ends : Ends). rests_on e.now ends.point ends.other) turned.now }
+{
+    turned.iter().any(|ends| rests(e, ends.point, ends.other))
+}
+
 /// Marks the rows of a point and of its mate that rest on what another point offers to the first.
 fn mark_end(
     e: &Excerpt,
@@ -75,7 +96,7 @@ fn mark_end(
     ensures kept { OnOk result (KeepsMarks marks.old.items marks.new.items) }
     ensures marked { OnOk result (HasMarksOf e.now marks.new.items point other) }
 {
-    if e.leads(point, other) || e.mate_of(point) == Some(other) {
+    if rests(e, point, other) {
         return mark_with_mate(e, marks, point);
     }
     Ok(())
@@ -150,7 +171,7 @@ fn row_in_place(e: &Excerpt, position: usize) -> &Row
 /// Chooses the row in a place anew, and marks those that rest on its status, if that changed.
 fn choose_anew(
     e: &Excerpt,
-    choices: &mut [Choice],
+    choices: &mut [Kept],
     marks: &mut Vec<usize>,
     position: usize,
 ) -> Result<(), AllocError>
@@ -164,8 +185,8 @@ fn choose_anew(
 {
     e.validity();
     let row = row_in_place(e, position);
-    let choice = choice_of(e, &Statuses::Choices(choices), row);
-    let is_same = is_same_status(choice.status, choices[position].status);
+    let choice = kept_choice(e, &Statuses::Choices(choices), row);
+    let is_same = is_same_status(choice.status(), choices[position].status());
     choices[position] = choice;
     if !is_same {
         mark_readers(e, marks, row.point)?;
@@ -177,9 +198,9 @@ fn choose_anew(
 fn followed(
     alloc: Global,
     e: &Excerpt,
-    before: &[Choice],
+    before: &[Kept],
     marks: Vec<usize>,
-) -> Result<Option<Vec<Choice>>, AllocError>
+) -> Result<Option<Vec<Kept>>, AllocError>
     requires together { length before.now ≡ length e.now.plan.rows }
     requires within { AreMarks e.now marks.items }
     requires obey { ObeysBut (source_of e.now) before.now marks.items }
@@ -202,9 +223,9 @@ pub(crate) fn choices_after(
     alloc: Global,
     e: &Excerpt,
     before: &Excerpt,
-    choices: &Arc<Vec<Choice>>,
+    choices: &Arc<Vec<Kept>>,
     turned: &[Ends],
-) -> Result<Option<Arc<Vec<Choice>>>, AllocError>
+) -> Result<Option<Arc<Vec<Kept>>>, AllocError>
     requires dest { e.now.plan.dest ≡ before.now.plan.dest }
     requires turned { HasTurned before.now.network e.now.network turned.now }
     requires chosen { IsChosen before.now (arc_value choices.now).items }

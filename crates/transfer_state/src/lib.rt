@@ -10,20 +10,22 @@
 //! 4. The table is the one that the definitions of `profile` give from scratch.
 //! 5. A table that is at hand is checked by the local rule (own): each row is what it makes of the messages that its
 //!    neighbours hold towards it. Exactly the table from scratch passes.
-//! 6. The routing towards a destination is the choice of each row. It is shared, and what follows from the choices, links and
-//!    messages, is worked out when it is asked for.
+//! 6. The routing towards a destination is the choice of each row. A byte is kept of it: class, places used and status (own). It is
+//!    shared, and what follows, members, links and messages, is worked out when it is asked for.
 //! 7. The routing of a plan can be followed from that in another network, if the two differ in link sets alone: only rows that rest on
 //!    a set that became available or was so no longer, or on a status that changed, are chosen anew (own).
 //!
-//! Stands on `excerpts`. A change here also changes specs/ (Complaints, Following, Members, Promises, Routing, Told), proofs/ and
+//! Stands on `excerpts`. A change here also changes specs/ (Complaints, Following, Kept, Members, Promises, Routing, Told), proofs/ and
 //! must-fail/.
 #![tactic(auto)]
 
+mod auditing;
 mod choosing;
 mod comparing;
 pub mod complaints;
 mod following;
 mod hearing;
+mod kept;
 mod routes;
 pub mod routing;
 mod states;

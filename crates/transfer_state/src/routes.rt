@@ -1,6 +1,6 @@
-//! What a row uses, by the choices of all rows.
+//! What a row uses, by what is kept of the choices of all rows.
 
-ghost use Rattle.std.specs.Prelude.{◌≡◌, ◌<◌, None, Some, IfOk, is_some, true};
+ghost use Rattle.std.specs.Prelude.{◌≡◌, ◌==◌, ◌<◌, None, Some, IfOk, find, is_some, true};
 ghost use Rattle.std.specs.Option.{MatchOption, option_map};
 ghost use Rattle.net_items.specs.Lookups.{row_at};
 ghost use Rattle.profile.specs.Status.{choice};
@@ -11,32 +11,35 @@ ghost use Rattle.excerpts.specs.Excerpt.{source_of};
 ghost use Rattle.transfer_state.specs.Routing.{state_at, hop_by, IsChosen, IsFoundRow};
 
 use crate::choosing::rows_of;
-use crate::states::{links_of, member, messages_of, used_size};
+use crate::kept::{Kept, opened_choice};
+use crate::states::{links_of, member, message_to, messages_of, used_size};
 use excerpts::Excerpt;
 use net_items::Row;
-use net_items::copies::position_of_row;
 use point_codes::PointCode;
-use profile::{Hop, LinkRef, Messages, RowLinks};
+use profile::{Hop, LinkRef, Message, Messages, RowLinks};
 use route_choice::Choice;
 use sls_share::{link_for, member_for};
 use std::alloc::{AllocError, Global};
 
 /// The row of a point with its choice.
 #[tactic(auto, using(crate::proofs::RouteLemmas::found_row, crate::proofs::RouteLemmas::state_none))]
-fn found<'a>(e: &'a Excerpt, choices: &[Choice], point: PointCode) -> Option<(&'a Row, Choice)>
+fn found<'a>(e: &'a Excerpt, choices: &[Kept], point: PointCode) -> Option<(&'a Row, Choice)>
     requires { IsChosen e.now choices.now }
     ensures { MatchOption result (state_at e.now point ≡ None) (λ f. IsFoundRow e.now point f.0.now f.1) }
 {
     e.validity();
     let rows = rows_of(e);
-    match position_of_row(rows, point) {
-        Ok(at) => Some((&rows[at], choices[at])),
+    match e.place_of_row(point) {
+        Ok(at) => {
+            let row = &rows[at];
+            Some((row, opened_choice(e, row, choices[at])))
+        }
         Err(_) => None,
     }
 }
 
 /// What a point uses, if it has a row.
-pub(crate) fn choice_at(e: &Excerpt, choices: &[Choice], point: PointCode) -> Option<Choice>
+pub(crate) fn choice_at(e: &Excerpt, choices: &[Kept], point: PointCode) -> Option<Choice>
     requires { IsChosen e.now choices.now }
     ensures { result ≡ option_map (λ s. s.choice) (state_at e.now point) }
 {
@@ -47,7 +50,7 @@ pub(crate) fn choice_at(e: &Excerpt, choices: &[Choice], point: PointCode) -> Op
 }
 
 /// The links of a point, if it has a row.
-pub(crate) fn links_at(e: &Excerpt, choices: &[Choice], point: PointCode) -> Option<RowLinks>
+pub(crate) fn links_at(e: &Excerpt, choices: &[Kept], point: PointCode) -> Option<RowLinks>
     requires { IsChosen e.now choices.now }
     ensures { result ≡ option_map (λ s. s.links) (state_at e.now point) }
 {
@@ -64,7 +67,7 @@ pub(crate) fn links_at(e: &Excerpt, choices: &[Choice], point: PointCode) -> Opt
 pub(crate) fn messages_at(
     alloc: Global,
     e: &Excerpt,
-    choices: &[Choice],
+    choices: &[Kept],
     point: PointCode,
 ) -> Result<Option<Messages>, AllocError>
     requires { IsChosen e.now choices.now }
@@ -73,6 +76,22 @@ pub(crate) fn messages_at(
     match found(e, choices, point) {
         Some((row, choice)) => Ok(Some(messages_of(alloc, e, row, &choice)?)),
         None => Ok(None),
+    }
+}
+
+/// The message in force from a point to another, if it has a row and sends one.
+pub(crate) fn message_at(
+    e: &Excerpt,
+    choices: &[Kept],
+    point: PointCode,
+    neighbour: PointCode,
+) -> Option<Option<Message>>
+    requires { IsChosen e.now choices.now }
+    ensures { result ≡ option_map (λ s. find (λ m. m.to == neighbour) s.messages) (state_at e.now point) }
+{
+    match found(e, choices, point) {
+        Some((row, choice)) => Some(message_to(e, row, &choice, neighbour)),
+        None => None,
     }
 }
 
@@ -97,7 +116,7 @@ fn hop_by_choice(e: &Excerpt, row: &Row, choice: &Choice, s: u8) -> Option<Hop>
 }
 
 /// The link that a signalling link selection takes from a point, with both its ends, if it takes one.
-pub(crate) fn hop_at(e: &Excerpt, choices: &[Choice], point: PointCode, s: u8) -> Option<Hop>
+pub(crate) fn hop_at(e: &Excerpt, choices: &[Kept], point: PointCode, s: u8) -> Option<Hop>
     requires chosen { IsChosen e.now choices.now }
     requires sls { s < 16 }
     ensures { result ≡ hop_of (source_of e.now) point s }

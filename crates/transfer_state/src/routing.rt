@@ -1,65 +1,87 @@
 //! The settled routing towards one destination: what each point of its plan uses.
 
-ghost use Rattle.std.specs.Prelude.{◌≡◌, ◌↔◌, ◌<◌, IsTrue, true, false, None, Some, IfOk, IfErr, if◌then◌else◌};
+ghost use Rattle.std.specs.Prelude.{◌≡◌, ◌≢◌, ◌==◌, ◌↔◌, ◌<◌, IsTrue, true, false, None, Some, IfOk, IfErr, OnOk, OnErr, find, if◌then◌else◌};
 ghost use Rattle.std.specs.Option.{option_map};
 ghost use Rattle.profile.specs.Traces.{hop_of};
-ghost use Rattle.profile.specs.Whole.{scratch};
+ghost use Rattle.profile.specs.Whole.{scratch, IsSettledTable};
 ghost use Rattle.excerpts.specs.Excerpt.{content_of, source_of};
 ghost use Rattle.excerpts.specs.Turned.{HasTurned};
-ghost use Rattle.transfer_state.specs.Routing.{settled_routing, state_at, statuses_of};
+ghost use Rattle.std.specs.Arc.{arc_value};
+ghost use Rattle.transfer_state.specs.Complaints.{chosen_table, IsFirstComplaint};
+ghost use Rattle.transfer_state.specs.Following.{KeepsStatuses};
+ghost use Rattle.transfer_state.specs.Promises.{TellsWalks, KeepsMatesApart};
+ghost use Rattle.transfer_state.specs.Routing.{settled_routing, state_at, statuses_of, IsChosen};
 
+use crate::auditing::check_kept;
 use crate::comparing::have_same_statuses;
-use crate::following::choices_after;
-use crate::routes::{choice_at, hop_at, links_at, messages_at};
+use crate::complaints::Complaint;
+use crate::following::{choices_after, rests_on_any};
+use crate::kept::Kept;
+use crate::routes::{choice_at, hop_at, links_at, message_at, messages_at};
 use crate::sweep::choices;
 use crate::table::table_by;
 use excerpts::{Ends, Excerpt};
 use point_codes::PointCode;
-use profile::{Hop, Messages, RowLinks, Table};
+use profile::{Hop, Message, Messages, RowLinks, Table};
 use route_choice::Choice;
 use std::alloc::{AllocError, Global};
 use std::marker::Model;
 use std::sync::Arc;
 
-/// The settled routing of an excerpt: the choice of each row of its plan.
+/// The settled routing of an excerpt: the choice of each row of its plan, kept in a byte.
 ///
-/// It is shared, and works out links and messages when they are asked for.
+/// It is shared, and works out members, links and messages when they are asked for.
 #[derive(Drop)]
 pub struct Routing {
     /// The destination, beside the excerpt, so that a search among routings reads no plans.
     dest: PointCode,
     excerpt: Excerpt,
-    choices: Arc<Vec<Choice>>,
+    choices: Arc<Vec<Kept>>,
 }
 
 impl Model for Routing {
     ghost use Rattle.std.specs.Prelude.{◌≡◌};
     ghost use Rattle.std.specs.Arc.{arc_value};
+    ghost use Rattle.excerpts.specs.Excerpt.{source_of};
+    ghost use Rattle.transfer_state.specs.Kept.{opened_rows};
     ghost use Rattle.transfer_state.specs.Routing.{RoutingValue, IsChosen};
 
     ghost Value = { RoutingValue };
 
-    ghost view = { λ r. record { excerpt = r.excerpt; choices = (arc_value r.choices).items } };
+    ghost view = { λ r. record { excerpt = r.excerpt; choices = opened_rows (source_of r.excerpt) r.excerpt.plan.rows (arc_value r.choices).items } };
 
     ghost invariant = { λ r. record { chosen : IsChosen r.excerpt (arc_value r.choices).items; dest : r.dest ≡ r.excerpt.plan.dest } };
 }
 
 impl Routing {
+    /// The settled routing of an excerpt by what is kept of its choices.
+    #[tactic(auto, using(crate::proofs::RouteLemmas::opened_chosen))]
+    fn by(excerpt: Excerpt, choices: Arc<Vec<Kept>>) -> Routing
+        requires { IsChosen excerpt (arc_value choices).items }
+        ensures { result ≡ settled_routing excerpt }
+    {
+        excerpt.validity();
+        Routing {
+            dest: excerpt.dest(),
+            excerpt,
+            choices,
+        }
+    }
+
     /// The settled routing of an excerpt, from scratch. If memory is refused it hands the excerpt back.
     pub fn of(alloc: Global, excerpt: Excerpt) -> Result<Routing, (Excerpt, AllocError)>
         ensures ok { IfOk result (λ r. r ≡ settled_routing excerpt) }
+        ensures walks { IfOk result (λ r. TellsWalks (source_of excerpt) (chosen_table (source_of excerpt) r.choices)) }
+        ensures mates { IfOk result (λ r. KeepsMatesApart (source_of excerpt) (chosen_table (source_of excerpt) r.choices)) }
         ensures err { IfErr result (λ e. e.0 ≡ excerpt) }
     {
+        excerpt.validity();
         let list = match choices(alloc, &excerpt) {
             Ok(list) => list,
             Err(refused) => return Err((excerpt, refused)),
         };
         match Arc::new(alloc, list) {
-            Ok(choices) => Ok(Routing {
-                dest: excerpt.dest(),
-                excerpt,
-                choices,
-            }),
+            Ok(choices) => Ok(Routing::by(excerpt, choices)),
             Err(_) => Err((excerpt, AllocError)),
         }
     }
@@ -79,14 +101,19 @@ impl Routing {
         ensures err { IfErr result (λ e. e.0 ≡ excerpt) }
     {
         match choices_after(alloc, &excerpt, &before.excerpt, &before.choices, turned) {
-            Ok(Some(choices)) => Ok(Routing {
-                dest: excerpt.dest(),
-                excerpt,
-                choices,
-            }),
+            Ok(Some(choices)) => Ok(Routing::by(excerpt, choices)),
             Ok(None) => Routing::of(alloc, excerpt),
             Err(refused) => Err((excerpt, refused)),
         }
+    }
+
+    /// Whether the statuses stay in each network that differs in sets between these ends alone, as far as that can be told without
+    /// choosing a row anew.
+    pub fn keeps_statuses(&self, turned: &[Ends]) -> bool
+        ensures { result ≡ true → KeepsStatuses self.now turned.now }
+    {
+        self.excerpt.validity();
+        !rests_on_any(&self.excerpt, turned)
     }
 
     /// The same routing once more. It fails only if no further share can be counted.
@@ -101,11 +128,12 @@ impl Routing {
     }
 
     /// The fact that the type keeps: its choices are those from scratch. It does nothing when it runs.
+    #[tactic(auto, using(crate::proofs::RouteLemmas::opened_chosen))]
     pub fn validity(&self)
         ensures { self.now ≡ settled_routing self.now.excerpt }
     {
         // The proof reads the type's invariant from this.
-        let _dest = self.dest;
+        self.excerpt.validity();
     }
 
     /// What it is the routing of.
@@ -130,9 +158,12 @@ impl Routing {
     }
 
     /// Whether all rows have the statuses that those in their places have in another routing.
+    #[tactic(auto, using(crate::proofs::RouteLemmas::statuses_kept))]
     pub fn has_same_statuses(&self, other: &Routing) -> bool
         ensures { IsTrue result ↔ (statuses_of self.now.choices ≡ statuses_of other.now.choices) }
     {
+        self.excerpt.validity();
+        other.excerpt.validity();
         have_same_statuses(&self.choices, &other.choices)
     }
 
@@ -150,6 +181,13 @@ impl Routing {
         messages_at(alloc, &self.excerpt, &self.choices, point)
     }
 
+    /// The message in force from a point to another, if the point has a row, and if it sends one (Q.704 clauses 13.2 to 13.4).
+    pub fn message(&self, point: PointCode, neighbour: PointCode) -> Option<Option<Message>>
+        ensures { result ≡ option_map (λ s. find (λ m. m.to == neighbour) s.messages) (state_at self.now.excerpt point) }
+    {
+        message_at(&self.excerpt, &self.choices, point, neighbour)
+    }
+
     /// The link that a signalling link selection takes from a point, with both its ends, if it takes one (Q.704 clause
     /// 2.3).
     pub fn hop(&self, point: PointCode, s: u8) -> Option<Hop>
@@ -157,6 +195,16 @@ impl Routing {
         ensures { result ≡ hop_of (source_of self.now.excerpt) point s }
     {
         hop_at(&self.excerpt, &self.choices, point, s)
+    }
+
+    /// Whether what is kept is the table from scratch, told by each row and the messages that its neighbours' choices make (own,
+    /// after Q.704 clauses 13.2 to 13.4): no complaint, since a routing is settled. It takes no memory.
+    pub fn audit(&self) -> Result<(), Complaint>
+        ensures settled { OnOk result (IsSettledTable (source_of self.now.excerpt) (chosen_table (source_of self.now.excerpt) self.now.choices)) }
+        ensures first { IfErr result (IsFirstComplaint (source_of self.now.excerpt) (chosen_table (source_of self.now.excerpt) self.now.choices)) }
+        ensures wrong { OnErr result (self.now ≢ settled_routing self.now.excerpt) }
+    {
+        check_kept(&self.excerpt, &self.choices)
     }
 
     /// The whole table, by the choices that are kept.
@@ -171,7 +219,7 @@ impl Routing {
 #[derive(Drop)]
 pub struct RoutingSlot {
     excerpt: Excerpt,
-    choices: Option<Arc<Vec<Choice>>>,
+    choices: Option<Arc<Vec<Kept>>>,
 }
 
 impl Model for RoutingSlot {
@@ -233,11 +281,7 @@ impl RoutingSlot {
         ensures { IfOk result (λ r. r ≡ (if self.now.settled then Some (settled_routing self.now.excerpt) else None)) }
     {
         match &self.choices {
-            Some(choices) => Ok(Some(Routing {
-                dest: self.excerpt.dest(),
-                excerpt: self.excerpt.share()?,
-                choices: Arc::try_clone(choices)?,
-            })),
+            Some(choices) => Ok(Some(Routing::by(self.excerpt.share()?, Arc::try_clone(choices)?))),
             None => Ok(None),
         }
     }

@@ -1,6 +1,7 @@
 //! The links and the messages of a row with its choice.
 
-ghost use Rattle.std.specs.Prelude.{◌≡◌, ◌<◌, All, IfOk, is_some, true};
+ghost use Rattle.std.specs.Prelude.{◌≡◌, ◌==◌, ◌<◌, ◌&&◌, not, All, IfOk, find, is_some, true};
+ghost use Rattle.link_sets.specs.Availability.{connected};
 ghost use Rattle.profile.specs.Local.{is_member as is_member_of, message as message_of, is_at as is_at_of};
 ghost use Rattle.profile.specs.Valid.{IsSmall, HasFewLinks, HasLinksInOrder};
 ghost use Rattle.profile.specs.Whole.{size_of as size_by, member as member_of, messages_of as messages_by, state_of as state_by};
@@ -110,6 +111,34 @@ pub(crate) fn message(choice: &Choice, neighbour: PointCode) -> MsgKind
         Far::Allowed => MsgKind::Tfa,
         Far::Restricted => MsgKind::Tfr,
         Far::Prohibited => MsgKind::Tfp,
+    }
+}
+
+/// Whether a point tells another of the destination: a transfer point does, to each neighbour but the destination.
+fn sends(e: &Excerpt, point: PointCode, neighbour: PointCode) -> bool
+    ensures { result ≡ ((source_of e.now).is_stp point && (not (neighbour == (source_of e.now).dest) && connected (source_of e.now).sets point neighbour)) }
+{
+    e.is_stp(point) && neighbour != e.dest() && e.is_connected(point, neighbour)
+}
+
+/// The message in force from a row's point to another, if it sends one.
+pub(crate) fn message_to(
+    e: &Excerpt,
+    row: &Row,
+    choice: &Choice,
+    neighbour: PointCode,
+) -> Option<Message>
+    ensures { result ≡ find (λ m. m.to == neighbour) (messages_by (source_of e.now) row.now choice.now) }
+{
+    // The proof reads the code's range from this.
+    let _number = neighbour.number();
+    if sends(e, row.point, neighbour) {
+        Some(Message {
+            kind: message(choice, neighbour),
+            to: neighbour,
+        })
+    } else {
+        None
     }
 }
 

@@ -5,7 +5,8 @@ ghost use Rattle.net_items.specs.declared.lists.Row.{Row};
 ghost use Rattle.excerpts.specs.Excerpt.{source_of};
 ghost use Rattle.transfer_state.specs.Told.{AreChoices, KnowsBelow, TellsBelow};
 
-use crate::choosing::{Statuses, choice_of, rows_of};
+use crate::choosing::{Statuses, kept_choice, rows_of};
+use crate::kept::Kept;
 use excerpts::Excerpt;
 use net_items::Row;
 use point_codes::PointCode;
@@ -23,25 +24,25 @@ fn tell(fars: &mut [Far], code: PointCode, far: Far)
     fars[usize::from(code.number())] = far;
 }
 
-/// Puts a choice in its place, and tells its status.
+/// Puts what is kept of a choice in its place, and tells its status.
 fn put_choice(
-    choices: &mut [Choice],
+    choices: &mut [Kept],
     fars: &mut [Far],
     position: usize,
     code: PointCode,
-    choice: &Choice,
+    choice: Kept,
 )
     requires here { position < length choices.old }
     requires coded { length fars.old ≡ 16384 }
-    ensures choices { choices.new ≡ slice_set choices.old position choice.now }
-    ensures fars { fars.new ≡ slice_set fars.old code choice.now.status }
+    ensures choices { choices.new ≡ slice_set choices.old position choice }
+    ensures fars { fars.new ≡ slice_set fars.old code choice.status }
 {
-    choices[position] = *choice;
-    tell(fars, code, choice.status);
+    choices[position] = choice;
+    tell(fars, code, choice.status());
 }
 
 /// Puts the choices of one rank in their places, and their statuses in the table, where those of lower rank stand.
-fn sweep_rank(e: &Excerpt, choices: &mut [Choice], fars: &mut [Far], rank: u16)
+fn sweep_rank(e: &Excerpt, choices: &mut [Kept], fars: &mut [Far], rank: u16)
     requires together { length choices.old ≡ length e.now.plan.rows }
     requires coded { length fars.old ≡ 16384 }
     requires ranked { 1 ≤ rank }
@@ -55,8 +56,8 @@ fn sweep_rank(e: &Excerpt, choices: &mut [Choice], fars: &mut [Far], rank: u16)
     for i in 0..rows.len() {
         let row = &rows[i];
         if u16::from(row.rank) == rank {
-            let choice = choice_of(e, &Statuses::Table(fars), row);
-            put_choice(choices, fars, i, row.point, &choice);
+            let choice = kept_choice(e, &Statuses::Table(fars), row);
+            put_choice(choices, fars, i, row.point, choice);
         }
     }
 }
@@ -74,14 +75,14 @@ fn highest_rank(rows: &[Row]) -> u8
     highest
 }
 
-/// The choices of all rows, in their places.
-pub(crate) fn choices(alloc: Global, e: &Excerpt) -> Result<Vec<Choice>, AllocError>
+/// What is kept of the choices of all rows, in their places.
+pub(crate) fn choices(alloc: Global, e: &Excerpt) -> Result<Vec<Kept>, AllocError>
     ensures each { IfOk result (λ choices. AreChoices (source_of e.now) choices.items) }
     ensures together { IfOk result (λ choices. length choices.items ≡ length e.now.plan.rows) }
 {
     e.validity();
     let rows = rows_of(e);
-    let mut choices = vec![in alloc; Choice::NONE; rows.len()]?;
+    let mut choices = vec![in alloc; Kept::of(&Choice::NONE); rows.len()]?;
     let mut fars = [Far::Prohibited; CODE_COUNT];
     tell(&mut fars, e.dest(), Far::Allowed);
     for rank in 1..u16::from(highest_rank(rows)) + 1 {

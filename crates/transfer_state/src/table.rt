@@ -7,11 +7,11 @@ ghost use Rattle.transfer_state.specs.Promises.{TellsWalks, KeepsMatesApart};
 ghost use Rattle.transfer_state.specs.Routing.{IsChosen};
 
 use crate::choosing::rows_of;
+use crate::kept::{Kept, opened_choice};
 use crate::states::{links_of, messages_of, size_of};
 use crate::sweep::choices;
 use excerpts::Excerpt;
 use profile::{RowState, RowStates, Table};
-use route_choice::Choice;
 use std::alloc::{AllocError, Global};
 
 /// The table of an excerpt, from scratch (own, after Q.704 clauses 2.3 and 13.2 to 13.4). It fails where memory is
@@ -31,8 +31,8 @@ pub fn table_of(alloc: Global, e: &Excerpt) -> Result<Table, AllocError>
     Ok(table)
 }
 
-/// The table by the choices of all rows.
-pub(crate) fn table_by(alloc: Global, e: &Excerpt, choices: &[Choice]) -> Result<Table, AllocError>
+/// The table by what is kept of the choices of all rows.
+pub(crate) fn table_by(alloc: Global, e: &Excerpt, choices: &[Kept]) -> Result<Table, AllocError>
     requires { IsChosen e.now choices.now }
     ensures { IfOk result (λ table. table ≡ scratch (source_of e.now)) }
 {
@@ -41,7 +41,7 @@ pub(crate) fn table_by(alloc: Global, e: &Excerpt, choices: &[Choice]) -> Result
     let mut list = Vec::with_capacity(alloc, rows.len())?;
     for i in 0..rows.len() {
         let row = &rows[i];
-        let choice = choices[i];
+        let choice = opened_choice(e, row, choices[i]);
         let size = size_of(row, choice.class);
         let links = links_of(e, row, &choice, size);
         let messages = messages_of(alloc, e, row, &choice)?;

@@ -20,6 +20,7 @@ use Rattle.profile.specs.declared.tables.Table.{Table}
 use Rattle.profile.specs.Status.{choice}
 use Rattle.excerpts.specs.declared.turned.Ends.{Ends}
 use Rattle.excerpts.specs.Turned.{HasTurned}
+use Rattle.transfer_state.specs.Following.{KeepsStatuses}
 use Rattle.transfer_state.specs.Routing.{RoutingValue, settled_routing, statuses_of}
 use Rattle.net_versions.specs.Versions.{routing_at}
 use Rattle.excerpts.specs.Excerpt.{ExcerptValue, IsRight, source_of, content_in, content_of, content_at, excerpt_in, excerpt_at}
@@ -107,6 +108,16 @@ alike_unchanged r net turned dest settled planned has after is alike =
     let both_same : statuses_of (map (choice (source_of x)) x.plan.rows) ≡ statuses_of (map (choice (source_of y)) x.plan.rows) = sym (ap (λ (q : RoutingValue). statuses_of q.choices) settled) ∙ sym same in
     ap (λ (o : Option ExcerptValue). changes_between (Some x) o dest) now
     ∙ unchanged x y dest (λ point. found_alike (choice (source_of x)) (choice (source_of y)) (λ (row : Row). eqb row.point point) x.plan.rows both_same)
+
+-- nor has one whose routing keeps its statuses
+pub kept_unchanged : (r : RoutingValue) (net : Network) (turned : List Ends) (dest : ℕ) → r ≡ settled_routing r.excerpt → excerpt_at r.excerpt.network dest ≡ Some r.excerpt → HasTurned r.excerpt.network net turned
+    → IsValidNet net → KeepsStatuses r turned → changes_between (Some r.excerpt) (excerpt_at net dest) dest ≡ []
+kept_unchanged r net turned dest settled planned has valid keeps =
+    let x : ExcerptValue = r.excerpt in
+    let there : plan_at net.plans dest ≡ Some x.plan = ap (λ (ps : List Plan). plan_at ps dest) has.plans ∙ (excerpt_is x.network dest x planned).2 in
+    let y : ExcerptValue = excerpt_in net x.plan in
+    let now : Some (settled_routing y) ≡ routing_at net dest = sym (ap (λ (o : Option Plan). option_map settled_routing (option_map (excerpt_in net) o)) there) in
+    alike_unchanged r net turned dest settled planned has (Some (settled_routing y)) now (keeps y (extract_right net valid dest x.plan there) refl has)
 
 -- the network that events make, none of which is refused
 pub made_by : (place : ℕ) (net new : Network) (events : List Event) → apply_from place net events ≡ Ok new → new ≡ replay net events

@@ -152,6 +152,17 @@ fn is_alike(before: &Routing, after: Option<&Routing>) -> bool
     }
 }
 
+/// Whether no status towards a destination changes, as far as that can be told without choosing a row anew.
+fn stays(before: &Routing, net: &Frozen, turned: &[Ends], dest: PointCode) -> bool
+    requires planned { excerpt_at before.now.excerpt.network dest ≡ Some before.now.excerpt }
+    requires turned { HasTurned before.now.excerpt.network net.now turned.now }
+    ensures { result ≡ true → changes_between (Some before.now.excerpt) (excerpt_at net.now dest) dest ≡ [] }
+{
+    before.validity();
+    net.validity();
+    before.keeps_statuses(turned)
+}
+
 /// Adds the changes towards a destination, followed from its routing before.
 fn add_followed(
     alloc: Global,
@@ -165,6 +176,9 @@ fn add_followed(
     requires turned { HasTurned before.now.excerpt.network net.now turned.now }
     ensures { OnOk result (changes.new.items ≡ changes.old.items ++ changes_between (Some before.now.excerpt) (excerpt_at net.now dest) dest) }
 {
+    if stays(before, net, turned, dest) {
+        return Ok(());
+    }
     before.validity();
     let after = routing_after(alloc, net, before, turned, dest)?;
     if is_alike(before, after.as_ref()) {

@@ -1,6 +1,5 @@
-use Rattle.std.proofs.Common.{◌≡◌, true, false, length, refl, ap, sym, ◌∙◌, arith}
+use Rattle.std.proofs.Common.{◌≡◌, true, false, length, refl, sym, ◌∙◌, arith}
 use Rattle.std.proofs.lemmas.Option.{slice_get_read}
-use Rattle.route_choice.specs.declared.choices.Choice.{Choice}
 use Rattle.transfer_state.proofs.StatusLemmas.{same_at}
 use Rattle.transfer_state.proofs.comparing.have_same_statuses.Goals as goal
 
@@ -14,5 +13,5 @@ returns-then-not-is_same_status c =
     let there = slice_get_read others (length others) c.loop-position.position other.result refl (omega arith) other.is in (
       (λ none. (let no : false ≡ true = none in cc)),
       λ e. c.if-not-is_same_status.ensures.1
-          (ap (λ (x : Choice). x.status) (sym one.is) ∙ (same_at choices others c.loop-position.position one.result other.result here there e ∙ ap (λ (x : Choice). x.status) other.is)),
+          (c.status.ensures ∙ (same_at choices others c.loop-position.position one.result other.result here there e ∙ sym c.status-in-loop-position.ensures)),
     )

@@ -1,4 +1,4 @@
-use Rattle.std.proofs.Common.{arith, ap, List, ℕ, length}
+use Rattle.std.proofs.Common.{arith, ap, ℕ, length}
 use Rattle.transfer_state.proofs.FollowLemmas.{without_mark}
 use Rattle.transfer_state.proofs.following.take_least.Goals as goal
 

@@ -3,7 +3,7 @@ use Rattle.std.specs.Prelude.{slice_get}
 use Rattle.std.proofs.lemmas.Option.{slice_get_read}
 use Rattle.net_items.specs.declared.lists.Row.{Row}
 use Rattle.route_choice.specs.declared.choices.Far.{Far}
-use Rattle.route_choice.specs.declared.choices.Choice.{Choice}
+use Rattle.transfer_state.specs.Kept.{KeptValue}
 use Rattle.excerpts.specs.Excerpt.{source_of}
 use Rattle.transfer_state.proofs.SweepLemmas.{IsSwept, swept_more, swept_past, swept_all, told_all, nothing_swept}
 use Rattle.transfer_state.proofs.sweep.sweep_rank.Goals as goal
@@ -19,12 +19,12 @@ loop-i-preserved c =
     ∙ slice_get_read c.rows_of-rows.result.now (length c.rows_of-rows.result.now) c.loop-i.i c.index-rows-i.result refl (omega arith) c.index-rows-i.is in
     elim c.if-from-rank.branch [
       | then-from-rank w ↦
-          subst (λ (s : List Choice). IsSwept (source_of c.args.e.now) s c.if-from-rank.fars c.args.rank (c.loop-i.i + 1)) (sym (w.choices-is ∙ w.put_choice.ensures.choices))
-          (subst (λ (f : List Far). IsSwept (source_of c.args.e.now) (set c.loop-i.choices c.loop-i.i w.choice_of-choice.result) f c.args.rank (c.loop-i.i + 1)) (sym (w.fars-is ∙ w.put_choice.ensures.fars))
-          (swept_more (source_of c.args.e.now) c.validity.ensures.valid c.loop-i.choices c.loop-i.fars c.args.rank c.loop-i.i c.index-rows-i.result w.choice_of-choice.result at (sym c.from.ensures ∙ w.if-from-rank.true)
-          c.loop-i.invariant w.choice_of-choice.ensures))
+          subst (λ (s : List KeptValue). IsSwept (source_of c.args.e.now) s c.if-from-rank.fars c.args.rank (c.loop-i.i + 1)) (sym (w.choices-is ∙ w.put_choice.ensures.choices))
+          (subst (λ (f : List Far). IsSwept (source_of c.args.e.now) (set c.loop-i.choices c.loop-i.i w.kept_choice-choice.result) f c.args.rank (c.loop-i.i + 1)) (sym (w.fars-is ∙ w.put_choice.ensures.fars))
+          (swept_more (source_of c.args.e.now) c.validity.ensures.valid c.loop-i.choices c.loop-i.fars c.args.rank c.loop-i.i c.index-rows-i.result w.kept_choice-choice.result at (sym c.from.ensures ∙ w.if-from-rank.true)
+          c.loop-i.invariant w.kept_choice-choice.ensures))
       | else-from-rank w ↦
-          subst (λ (s : List Choice). IsSwept (source_of c.args.e.now) s c.if-from-rank.fars c.args.rank (c.loop-i.i + 1)) (sym w.choices-is)
+          subst (λ (s : List KeptValue). IsSwept (source_of c.args.e.now) s c.if-from-rank.fars c.args.rank (c.loop-i.i + 1)) (sym w.choices-is)
           (subst (λ (f : List Far). IsSwept (source_of c.args.e.now) c.loop-i.choices f c.args.rank (c.loop-i.i + 1)) (sym w.fars-is)
           (swept_past (source_of c.args.e.now) c.validity.ensures.valid c.loop-i.choices c.loop-i.fars c.args.rank c.loop-i.i c.index-rows-i.result at (λ e. w.if-from-rank.false (c.from.ensures ∙ e)) c.loop-i.invariant))
     ]

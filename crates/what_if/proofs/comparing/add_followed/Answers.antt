@@ -5,6 +5,9 @@ use Rattle.what_if.specs.Reports.{IsAlike, changes_between}
 use Rattle.what_if.proofs.UnchangedLemmas.{alike_unchanged}
 use Rattle.what_if.proofs.comparing.add_followed.Goals as goal
 
+pub returns-then-stays : goal.returns-then-stays
+returns-then-stays c = sym (ap (λ (more : List Change). c.args.changes.now.items ++ more) (c.stays.ensures c.if-stays.true) ∙ append-nil c.args.changes.now.items)
+
 pub returns-then-is_alike : goal.returns-then-is_alike
 returns-then-is_alike c =
     let none : changes_between (Some c.args.before.now.excerpt) (excerpt_at c.args.net.now c.args.dest) c.args.dest ≡ []

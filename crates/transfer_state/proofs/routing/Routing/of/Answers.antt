@@ -1,20 +1,22 @@
-use Rattle.std.proofs.Common.{List, ap}
-use Rattle.route_choice.specs.declared.choices.Choice.{Choice}
-use Rattle.excerpts.specs.Excerpt.{ExcerptValue}
+use Rattle.std.proofs.Common.{sym, ap, subst}
+use Rattle.profile.specs.declared.tables.Table.{Table}
+use Rattle.excerpts.specs.Excerpt.{source_of}
+use Rattle.transfer_state.specs.Promises.{TellsWalks, KeepsMatesApart}
 use Rattle.transfer_state.specs.Routing.{RoutingValue}
+use Rattle.transfer_state.proofs.AuditLemmas.{table_settled}
+use Rattle.transfer_state.proofs.PromiseLemmas.{tells_walks, keeps_apart}
 use Rattle.transfer_state.proofs.RouteLemmas.{chosen}
 use Rattle.transfer_state.proofs.routing.Routing.of.Goals as goal
 
--- a routing of these choices
-abbrev of_choices : ExcerptValue → List Choice → RoutingValue
-of_choices x choices = record { excerpt = x; choices = choices }
+pub by-requires : goal.by-requires
+by-requires c = rw c.in-Ok-new.ensures.ok (chosen c.args.excerpt c.in-Ok.list.items c.in-Ok.ensures.each c.in-Ok.ensures.together)
 
-pub invariant_of-result : goal.invariant_of-result
-invariant_of-result c = record {
-  chosen = rw c.in-Ok-new.ensures.ok (chosen c.args.excerpt c.in-Ok.list.items c.in-Ok.ensures.each c.in-Ok.ensures.together);
-  dest = c.dest.ensures;
-}
+pub returns-in-Ok-new-clause-walks : goal.returns-in-Ok-new-clause-walks
+returns-in-Ok-new-clause-walks c =
+    let src = source_of c.args.excerpt in
+    subst (λ (t : Table). TellsWalks src t) (sym (table_settled src c.by.result.choices (ap (λ (r : RoutingValue). r.choices) c.by.ensures))) (tells_walks src c.validity.ensures.valid)
 
-pub returns-in-Ok-new-clause-ok : goal.returns-in-Ok-new-clause-ok
-returns-in-Ok-new-clause-ok c =
-    rw c.in-Ok-new.ensures.ok (ap (λ (choices : List Choice). of_choices c.args.excerpt choices) (chosen c.args.excerpt c.in-Ok.list.items c.in-Ok.ensures.each c.in-Ok.ensures.together))
+pub returns-in-Ok-new-clause-mates : goal.returns-in-Ok-new-clause-mates
+returns-in-Ok-new-clause-mates c =
+    let src = source_of c.args.excerpt in
+    subst (λ (t : Table). KeepsMatesApart src t) (sym (table_settled src c.by.result.choices (ap (λ (r : RoutingValue). r.choices) c.by.ensures))) (keeps_apart src c.validity.ensures.valid)

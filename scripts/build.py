@@ -1,0 +1,158 @@
+#!/usr/bin/env python3
+"""Proves and builds the program, and says how far it is: how many crates are done, of how many, and the minutes so far.
+
+What was proved before and hasn't changed is taken as it is. The prover works on one crate of a tree at a time. So the first
+time each crate is proved in a copy of the tree, as soon as those below it are, and what was proved is put beside its sources
+in the tree and in the other copies: the prover knows it by a sum of the sources, wherever they stand. The crate with the most
+work above it gets a job for each processor; others are proved beside it, one job each, and give way to it.
+"""
+import os
+import shutil
+import subprocess
+import sys
+import tempfile
+import time
+from concurrent.futures import FIRST_COMPLETED, ThreadPoolExecutor, wait
+
+PROGRAM = "route_desk"
+START = time.monotonic()
+
+
+def read_graph():
+    """The crates of crates.txt, each with those of them that it names."""
+    graph = {}
+    with open("crates.txt", encoding="utf-8") as lines:
+        for line in lines:
+            if line[:1].isalpha():
+                head, names = line.split(":")
+                graph[head.split()[0]] = names.split()
+    return {crate: [it for it in names if it in graph] for crate, names in graph.items()}
+
+
+def needed(graph, crate, found):
+    """Adds a crate and all below it, those below first."""
+    for it in graph[crate]:
+        if it not in found:
+            needed(graph, it, found)
+    found.append(crate)
+    return found
+
+
+def size(crate):
+    """The bytes of a crate's sources, a measure of its work; the least stands for what every crate takes."""
+    bytes = 20_000
+    for at, folders, files in os.walk(f"crates/{crate}"):
+        folders[:] = [it for it in folders if it not in ("out", "must-fail")]
+        bytes += sum(os.path.getsize(f"{at}/{it}") for it in files if it.endswith((".rt", ".antt")))
+    return bytes
+
+
+def work_above(graph, crates):
+    """For each crate the work of the longest way from it to the program."""
+    above = {}
+    for crate in reversed(crates):
+        users = [above[it] for it in crates if crate in graph[it] and it in above]
+        above[crate] = size(crate) + max(users, default=0)
+    return above
+
+
+def lanes():
+    """A lane for each processor, at most four, and at least 4 GB of memory for each."""
+    with open("/proc/meminfo", encoding="utf-8") as lines:
+        free = next(int(it.split()[1]) for it in lines if it.startswith("MemAvailable"))
+    return max(1, min(os.cpu_count() or 1, 4, free // 4_000_000))
+
+
+def say(text):
+    spent = int(time.monotonic() - START)
+    print(f"{spent // 60}:{spent % 60:02d}  {text}", flush=True)
+
+
+def stop(log):
+    """Shows the end of a prover's output, and ends."""
+    with open(log, encoding="utf-8", errors="replace") as lines:
+        print("".join(lines.readlines()[-40:]), end="")
+    sys.exit(1)
+
+
+def put(crate, source, target):
+    """Gives what was proved in one tree to another, as second names of its files: the prover replaces such files, and never writes into them."""
+    to = f"{target}/crates/{crate}/out"
+    shutil.rmtree(to, ignore_errors=True)
+    shutil.copytree(f"{source}/crates/{crate}/out", to, copy_function=os.link, symlinks=True)
+
+
+def prove(crate, tree, jobs, is_first):
+    """Proves a library in a tree, and returns what it was asked with the prover's status."""
+    nice = [] if is_first else ["nice", "-n", "5"]
+    with open(f"{tree}/{crate}.log", "w", encoding="utf-8") as log:
+        command = [*nice, "rt", "lib", "--jobs", str(jobs)]
+        return crate, tree, subprocess.run(command, cwd=f"{tree}/crates/{crate}", stdout=log, stderr=log, check=False).returncode
+
+
+def prove_side_by_side(graph, crates, count, room):
+    """Proves the libraries below the program, each as soon as those below it are."""
+    above, done, running = work_above(graph, crates), set(), {}
+    trees = [f"{room}/{number}" for number in range(count)]
+    for tree in trees:
+        ignored = shutil.ignore_patterns("out", "must-fail")
+        shutil.copytree("crates", f"{tree}/crates", ignore=ignored)
+        for file in ("crates.txt", "HANDLES"):
+            shutil.copy(file, tree)
+    free, left = list(trees), sorted(crates[:-1], key=lambda it: -above[it])
+    with ThreadPoolExecutor(count) as pool:
+        while left or running:
+            for crate in [it for it in left if done.issuperset(graph[it])][: len(free)]:
+                is_first = all(above[crate] > above[it] for it in running.values())
+                left.remove(crate)
+                running[pool.submit(prove, crate, free.pop(), count if is_first else 1, is_first)] = crate
+            for ended in wait(running, return_when=FIRST_COMPLETED).done:
+                crate, tree, status = ended.result()
+                if status:
+                    for it in running:
+                        it.cancel()
+                    stop(f"{tree}/{crate}.log")
+                for other in (".", *trees):
+                    if other != tree:
+                        put(crate, tree, other)
+                del running[ended]
+                done.add(crate)
+                free.append(tree)
+                say(f"{len(done)} of {len(crates)} crates proved: {crate}")
+
+
+def build(crates, count):
+    """Proves what is left, and builds and starts the program."""
+    log, proved = f"crates/{PROGRAM}/out.log", set()
+    command = ["rt", "run", "--jobs", str(count), "--", "--help"]
+    with open(log, "w", encoding="utf-8") as kept:
+        run = subprocess.Popen(command, cwd=f"crates/{PROGRAM}", stdout=subprocess.PIPE, stderr=subprocess.STDOUT, text=True)
+        for line in run.stdout:
+            kept.write(line)
+            words = line.split()
+            if words[:1] == ["crate"]:
+                proved.add(words[1].rstrip(":"))
+                say(f"proved: {words[1].rstrip(':')}")
+            elif words[:2] == ["so", "far:"] and words[2].isdigit() and words[2] != "0":
+                say(f"the next crate: {words[2]} of {words[4]} functions")
+    if run.wait():
+        print(f"the whole output is in {log}")
+        stop(log)
+    os.remove(log)
+
+
+def main():
+    os.chdir(f"{os.path.dirname(os.path.abspath(__file__))}/..")
+    graph = read_graph()
+    crates, count = needed(graph, PROGRAM, []), lanes()
+    print(f"proving {len(crates)} crates, those that changed, {count} jobs at a time; the first time it takes about half an hour", flush=True)
+    if count > 1 and not any(os.path.exists(f"crates/{it}/out/rlib/stamp") for it in crates):
+        room = tempfile.mkdtemp(dir=".", prefix=".build-")
+        try:
+            prove_side_by_side(graph, crates, count, room)
+        finally:
+            shutil.rmtree(room, ignore_errors=True)
+    build(crates, count)
+
+
+main()
