@@ -1,5 +1,5 @@
 -- The settled tables of a network, and what is wrong with tables that are given.
-use Rattle.std.specs.Prelude.{◌≡◌, ℕ, List, [], ◌∷◌, Option, Some, None, All, map, option_map, slice_get, take}
+use Rattle.std.specs.Prelude.{◌≡◌, ℕ, List, [], ◌∷◌, Option, Some, None, All, map, slice_get, take}
 use Rattle.std.specs.Option.{MatchOption}
 use Rattle.net_data.specs.Network.{Network}
 use Rattle.profile.specs.declared.tables.Table.{Table}

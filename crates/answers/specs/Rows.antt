@@ -1,5 +1,5 @@
 -- What is asked of the row of a point, in the settled table of a destination.
-use Rattle.std.specs.Prelude.{ℕ, ◌==◌, List, Option, Some, None, find, codes}
+use Rattle.std.specs.Prelude.{ℕ, ◌==◌, List, Option, Some, None, find}
 use Rattle.net_items.specs.declared.items.Plan.{Plan}
 use Rattle.net_items.specs.Lookups.{plan_at}
 use Rattle.net_data.specs.Network.{Network}
