@@ -1,6 +1,6 @@
 //! The settled routing towards one destination: what each point of its plan uses.
 
-ghost use Rattle.std.specs.Prelude.{◌≡◌, ◌≢◌, ◌==◌, ◌↔◌, ◌<◌, IsTrue, true, false, None, Some, IfOk, IfErr, OnOk, OnErr, find, if◌then◌else◌};
+ghost use Rattle.std.specs.Prelude.{◌≡◌, ◌≢◌, ◌==◌, ◌↔◌, ◌<◌, IsTrue, true, false, None, Some, IfOk, IfErr, OnOk, OnErr, find, not, if◌then◌else◌};
 ghost use Rattle.std.specs.Option.{option_map};
 ghost use Rattle.profile.specs.Traces.{hop_of};
 ghost use Rattle.profile.specs.Whole.{scratch, IsSettledTable};
@@ -8,7 +8,9 @@ ghost use Rattle.excerpts.specs.Excerpt.{content_of, source_of};
 ghost use Rattle.excerpts.specs.Turned.{HasTurned};
 ghost use Rattle.std.specs.Arc.{arc_value};
 ghost use Rattle.transfer_state.specs.Complaints.{chosen_table, IsFirstComplaint};
-ghost use Rattle.transfer_state.specs.Following.{KeepsStatuses};
+ghost use Rattle.std.specs.List.{list_any};
+ghost use Rattle.excerpts.specs.declared.turned.Ends.{Ends};
+ghost use Rattle.transfer_state.specs.Following.{rests_on, KeepsStatuses};
 ghost use Rattle.transfer_state.specs.Promises.{TellsWalks, KeepsMatesApart};
 ghost use Rattle.transfer_state.specs.Routing.{settled_routing, state_at, statuses_of, IsChosen};
 
@@ -107,10 +109,11 @@ impl Routing {
         }
     }
 
-    /// Whether the statuses stay in each network that differs in sets between these ends alone, as far as that can be told without
-    /// choosing a row anew.
+    /// Whether no row rests on a set between these ends: then the statuses stay in each network that differs in such sets alone. No
+    /// row is chosen anew to tell it.
     pub fn keeps_statuses(&self, turned: &[Ends]) -> bool
-        ensures { result ≡ true → KeepsStatuses self.now turned.now }
+        ensures told { result ≡ not (list_any (λ (ends : Ends). rests_on self.now.excerpt ends.point ends.other) turned.now) }
+        ensures stay { result ≡ true → KeepsStatuses self.now turned.now }
     {
         self.excerpt.validity();
         !rests_on_any(&self.excerpt, turned)

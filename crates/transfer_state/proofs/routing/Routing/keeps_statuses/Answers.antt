@@ -9,7 +9,7 @@ none : (b : Bool) → not b ≡ true → b ≡ false
 none true e = cc
 none false e = refl
 
-pub returns : goal.returns
-returns c = λ kept.
+pub returns-clause-stay : goal.returns-clause-stay
+returns-clause-stay c = λ kept.
     subst (λ (r : RoutingValue). KeepsStatuses r c.args.turned.now) c.self.view_is
     (keeps_statuses c.self.inside.excerpt (arc_value c.self.inside.choices).items c.args.turned.now c.validity.ensures c.self.invariant.chosen (sym c.rests_on_any.ensures ∙ none c.rests_on_any.result kept))
