@@ -1,6 +1,6 @@
 //! What a row hears from a table, or from what is kept of it, and the choice that follows: the local rule of `profile`.
 //!
-//! The rows of the table stand in the places of the plan's, so a point's row is found by binary search among the plan's rows.
+//! The rows of the table stand in the places of the plan's, so a point's row is found where it stands among the plan's rows.
 
 ghost use Rattle.std.specs.Prelude.{◌≡◌, ◌<◌, ◌≤◌, ◌==◌, length, All, map, find, slice_index_or};
 ghost use Rattle.profile.specs.declared.tables.RowState.{RowState};

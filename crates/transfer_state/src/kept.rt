@@ -1,7 +1,6 @@
 //! What is kept of what a row uses: a byte a row. The members are found again in the row and its mate.
 
 ghost use Rattle.std.specs.Prelude.{◌≡◌, ◌<◌};
-ghost use Rattle.profile.specs.Valid.{IsSmall};
 ghost use Rattle.excerpts.specs.Excerpt.{source_of};
 ghost use Rattle.transfer_state.specs.Kept.{member_in, used_member, opened, status_number};
 

@@ -9,7 +9,7 @@
 //!    neighbour, and else its status. An end point tells nothing (Q.704 clauses 13.2 to 13.4).
 //! 4. The table is the one that the definitions of `profile` give from scratch.
 //! 5. A table that is at hand is checked by the local rule (own): each row is what it makes of the messages that its
-//!    neighbours hold towards it. Exactly the table from scratch passes.
+//!    neighbours hold towards it. Exactly the table from scratch passes. What is kept of a table is checked by the same rule.
 //! 6. The routing towards a destination is the choice of each row. A byte is kept of it: class, places used and status (own). It is
 //!    shared, and what follows, members, links and messages, is worked out when it is asked for.
 //! 7. The routing of a plan can be followed from that in another network, if the two differ in link sets alone: only rows that rest on
