@@ -1,12 +1,17 @@
 #!/usr/bin/env python3
 """Proves and builds the program, and says how far it is: how many crates are done, of how many, and the minutes so far.
 
-What was proved before and hasn't changed is taken as it is. The prover works on one crate of a tree at a time. So the first
-time each crate is proved in a copy of the tree, as soon as those below it are, and what was proved is put beside its sources
-in the tree and in the other copies: the prover knows it by a sum of the sources, wherever they stand. The crate with the most
-work above it gets a job for each processor; others are proved beside it, one job each, and give way to it.
+build.py        proves the program's crates as the gate does, side by side in a copy of them, with no wrong bodies and no tests:
+                from nothing, or from what an earlier run of the gate or of this proved of the same files on this machine. It
+                keeps the proofs of whole crates alone. Where `build.py keep` was run before, it goes on from what that left.
+build.py keep   proves them as `rt check` does, and keeps the proof of each function in the tree, so that a check of a crate
+                starts from there. It takes longer. The prover works on one crate of a tree at a time, so each crate is proved
+                in a copy of the tree, as soon as those below it are, and what was proved is put beside its sources in the tree
+                and in the other copies: the prover knows it by a sum of the sources, wherever they stand. The crate with the
+                most work above it gets a job for each processor; others are proved beside it, one job each, and give way to it.
 """
 import os
+import re
 import shutil
 import subprocess
 import sys
@@ -54,6 +59,34 @@ def work_above(graph, crates):
         users = [above[it] for it in crates if crate in graph[it] and it in above]
         above[crate] = size(crate) + max(users, default=0)
     return above
+
+
+def prove_anew(graph, crates, room):
+    """Proves the crates in a copy of them, side by side, builds the program there, and puts it in the tree."""
+    ignored = shutil.ignore_patterns("out", "must-fail")
+    for crate in crates:
+        shutil.copytree(f"crates/{crate}", f"{room}/crates/{crate}", ignore=ignored)
+    with open("crates.txt", encoding="utf-8") as lines, open(f"{room}/crates.txt", "w", encoding="utf-8") as kept:
+        kept.writelines(line for line in lines if line.split(" ")[0].rstrip(":\n") in crates)
+    shutil.copy("HANDLES", room)
+    # the prover wants the top of a repository
+    os.mkdir(f"{room}/.git")
+    log, proved = f"{room}/log", set()
+    with open(log, "w", encoding="utf-8") as kept:
+        how = {"cwd": room, "stdout": subprocess.PIPE, "stderr": subprocess.STDOUT, "text": True, "errors": "replace"}
+        run = subprocess.Popen(["rt", "ci"], env={**os.environ, "PYTHONUNBUFFERED": "1"}, **how)
+        for line in run.stdout:
+            kept.write(line)
+            found = re.match(r"rt: (\w+) (proved|is kept)\b", line)
+            if found:
+                proved.add(found[1])
+                left = [it for it in crates if it not in proved and proved.issuperset(graph[it])]
+                next = f"; the next: {', '.join(left)}" if left else ""
+                say(f"{len(proved)} of {len(crates)} crates proved: {found[1]}{next}")
+    if run.wait():
+        stop(log)
+    os.makedirs(f"crates/{PROGRAM}/out", exist_ok=True)
+    shutil.copy(f"{room}/crates/{PROGRAM}/out/{PROGRAM}", f"crates/{PROGRAM}/out")
 
 
 def lanes():
@@ -143,15 +176,20 @@ def build(crates, count):
 
 def main():
     os.chdir(f"{os.path.dirname(os.path.abspath(__file__))}/..")
+    keeps = sys.argv[1:] == ["keep"]
     graph = read_graph()
     crates, count = needed(graph, PROGRAM, []), lanes()
-    print(f"proving {len(crates)} crates, those that changed, {count} jobs at a time; the first time it takes about half an hour", flush=True)
-    if count > 1 and not any(os.path.exists(f"crates/{it}/out/rlib/stamp") for it in crates):
-        room = tempfile.mkdtemp(dir=".", prefix=".build-")
-        try:
+    print(f"proving {len(crates)} crates, those that changed; the first time it takes about half an hour on four processors", flush=True)
+    has_kept = any(os.path.exists(f"crates/{it}/out/rlib/stamp") for it in crates)
+    room = tempfile.mkdtemp(dir=".", prefix=".build-")
+    try:
+        if not keeps and not has_kept:
+            prove_anew(graph, crates, room)
+            return
+        if count > 1 and not has_kept:
             prove_side_by_side(graph, crates, count, room)
-        finally:
-            shutil.rmtree(room, ignore_errors=True)
+    finally:
+        shutil.rmtree(room, ignore_errors=True)
     build(crates, count)
 
 
