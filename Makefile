@@ -1,6 +1,7 @@
 # make demo      builds the program, if its sources have changed, and runs it on the networks of examples/
 # make test      the gate: every proof from nothing, the edits that must be refused, the tests, the stored run, the transcripts
 #                of the pages, the worked examples, and a part of the hostile runs
+# make keep      proves the program's crates as `rt check` does, which keeps the proof of each function: for who will change them
 # make soak      runs many threads at one hub, thirty million events, and tells what became of them
 # make hostile   takes memory away from the program and breaks its input and output, at each place in turn
 
@@ -9,7 +10,7 @@ PROGRAM = crates/route_desk/out/route_desk
 BUILT = crates/route_desk/out/built
 SOURCES = crates.txt $(shell find crates \( -name out -o -name must-fail \) -prune -o -type f \( -name '*.rt' -o -name '*.antt' \) -print)
 
-.PHONY: demo build test soak hostile
+.PHONY: demo build keep test soak hostile
 
 demo: build
 	@scripts/demo.sh $(PROGRAM)
@@ -18,6 +19,10 @@ build: $(BUILT)
 
 $(BUILT): $(SOURCES)
 	@scripts/build.py
+	@touch $(BUILT)
+
+keep:
+	@scripts/build.py keep
 	@touch $(BUILT)
 
 test:

@@ -2,9 +2,9 @@
 """Proves and builds the program, and says how far it is: how many crates are done, of how many, and the minutes so far.
 
 build.py        proves the program's crates as the gate does, side by side in a copy of them, with no wrong bodies and no tests:
-                from nothing, or from what an earlier run of the gate or of this proved of the same files on this machine. It
-                keeps the proofs of whole crates alone. Where `build.py keep` was run before, it goes on from what that left.
-build.py keep   proves them as `rt check` does, and keeps the proof of each function in the tree, so that a check of a crate
+                from nothing, or from what an earlier run of the gate or of this proved of the same files on this machine. Where
+                `build.py keep` was run before, it goes on from what that left.
+build.py keep   proves them as `rt check` does, which keeps the proof of each function in the tree, so that a check of a crate
                 starts from there. It takes longer. The prover works on one crate of a tree at a time, so each crate is proved
                 in a copy of the tree, as soon as those below it are, and what was proved is put beside its sources in the tree
                 and in the other copies: the prover knows it by a sum of the sources, wherever they stand. The crate with the
@@ -180,13 +180,13 @@ def main():
     graph = read_graph()
     crates, count = needed(graph, PROGRAM, []), lanes()
     print(f"proving {len(crates)} crates, those that changed; the first time it takes about half an hour on four processors", flush=True)
-    has_kept = any(os.path.exists(f"crates/{it}/out/rlib/stamp") for it in crates)
+    kept = [it for it in crates[:-1] if os.path.exists(f"crates/{it}/out/rlib/stamp")]
     room = tempfile.mkdtemp(dir=".", prefix=".build-")
     try:
-        if not keeps and not has_kept:
+        if not keeps and len(kept) < len(crates) - 1:
             prove_anew(graph, crates, room)
             return
-        if count > 1 and not has_kept:
+        if count > 1 and not kept:
             prove_side_by_side(graph, crates, count, room)
     finally:
         shutil.rmtree(room, ignore_errors=True)

@@ -5,37 +5,44 @@ ghost use Rattle.std.specs.List.{flat_map};
 ghost use Rattle.answers.specs.Links.{link_text};
 ghost use Rattle.answers.specs.Text.{line_count};
 
+use itoa::Buffer;
 use profile::{LinkRef, RowLinks};
 use std::alloc::{AllocError, Global};
 
-/// A link after a space, by its set and its signalling link code.
-fn link_word(alloc: Global, id: u16, slc: u8) -> Result<String, AllocError>
-    ensures text { IfOk result (λ word. string_bytes word ≡ link_text (Some (record { id = id; slc = slc }))) }
-    ensures plain { line_count (link_text (Some (record { id = id; slc = slc }))) ≡ 0 }
+/// The room for `sls` and sixteen links, each after a space with at most four digits, a colon and two digits.
+const ROOM: usize = 131;
+
+/// Adds a link after a space, by its set and its signalling link code. It takes no memory but that of the text.
+pub(crate) fn put_link(text: &mut String, link: LinkRef) -> Result<(), AllocError>
+    ensures text { OnOk result (string_bytes text.new ≡ string_bytes text.old ++ link_text (Some link)) }
+    ensures plain { line_count (link_text (Some link)) ≡ 0 }
 {
-    format!(in alloc; " {id}:{slc}")
+    let mut digits = Buffer::new();
+    text.push(' ')?;
+    text.push_str(digits.format(link.id))?;
+    text.push(':')?;
+    text.push_str(digits.format(link.slc))
 }
 
-/// Adds a link after a space.
-fn put_link(alloc: Global, text: &mut String, link: Option<LinkRef>) -> Result<(), AllocError>
+/// Adds a link after a space, or nothing if there is none.
+fn put_selected(text: &mut String, link: Option<LinkRef>) -> Result<(), AllocError>
     ensures text { OnOk result (string_bytes text.new ≡ string_bytes text.old ++ link_text link) }
     ensures plain { line_count (link_text link) ≡ 0 }
 {
-    let Some(link) = link else {
-        return Ok(());
-    };
-    let word = link_word(alloc, link.id, link.slc)?;
-    text.push_str(word.as_str())
+    match link {
+        Some(link) => put_link(text, link),
+        None => Ok(()),
+    }
 }
 
 /// Adds the sixteen links, each after a space.
-fn put_links(alloc: Global, text: &mut String, links: &RowLinks) -> Result<(), AllocError>
+fn put_links(text: &mut String, links: &RowLinks) -> Result<(), AllocError>
     ensures text { OnOk result (string_bytes text.new ≡ string_bytes text.old ++ flat_map link_text links.now) }
     ensures plain { OnOk result (line_count (string_bytes text.new) ≡ line_count (string_bytes text.old)) }
 {
     links.validity();
     for s in 0..16u8 {
-        put_link(alloc, text, links.at(s))?;
+        put_selected(text, links.at(s))?;
     }
     Ok(())
 }
@@ -49,7 +56,8 @@ pub(crate) fn write_links(alloc: Global, class: u8, links: &RowLinks) -> Result<
     if class == 0 {
         return String::from_str(alloc, "sls none");
     }
-    let mut text = String::from_str(alloc, "sls")?;
-    put_links(alloc, &mut text, links)?;
+    let mut text = String::with_capacity(alloc, ROOM)?;
+    text.push_str("sls")?;
+    put_links(&mut text, links)?;
     Ok(text)
 }

@@ -48,13 +48,20 @@ fn put_messages(text: &mut String, messages: &[Message]) -> Result<(), AllocErro
     Ok(())
 }
 
+/// Room for the word and so many messages: a space, three letters, `>` and a code of at most seven bytes.
+fn room_for(count: usize) -> usize {
+    count.saturating_mul(12).saturating_add(8)
+}
+
 /// The messages in force from a point in text, in rising code of the receiver.
 pub(crate) fn write_messages(alloc: Global, messages: &Messages) -> Result<String, AllocError>
     ensures text { IfOk result (λ text. string_bytes text ≡ messages_text messages.now) }
     ensures plain { IfOk result (λ text. line_count (string_bytes text) ≡ 0) }
 {
-    let mut text = String::from_str(alloc, "messages")?;
-    put_messages(&mut text, messages.as_slice())?;
+    let list = messages.as_slice();
+    let mut text = String::with_capacity(alloc, room_for(list.len()))?;
+    text.push_str("messages")?;
+    put_messages(&mut text, list)?;
     Ok(text)
 }
 

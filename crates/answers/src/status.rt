@@ -1,11 +1,13 @@
 //! The answer to `status`.
 
-ghost use Rattle.std.specs.Prelude.{◌≡◌, ◌++◌, IfOk, OnOk, string_bytes};
+ghost use Rattle.std.specs.Prelude.{◌≡◌, ◌++◌, IfOk, OnOk, codes, string_bytes};
+ghost use Rattle.std.specs.Fmt.{decimal};
 ghost use Rattle.std.specs.List.{flat_map};
 ghost use Rattle.answers.specs.Status.{far_text, member_text, status_text};
 ghost use Rattle.answers.specs.Text.{line_count};
 
 use crate::codes::write_code;
+use itoa::Buffer;
 use point_codes::PointCode;
 use route_choice::{Choice, Far};
 use std::alloc::{AllocError, Global};
@@ -46,6 +48,20 @@ fn put_members(text: &mut String, members: &[Option<PointCode>]) -> Result<(), A
     Ok(())
 }
 
+/// A status and a class, with room for the longest status, three digits and two members.
+fn write_head(alloc: Global, word: &str, class: u8) -> Result<String, AllocError>
+    ensures { IfOk result (λ text. string_bytes text ≡ codes "status " ++ (word.now ++ (codes " class " ++ (decimal class ++ codes " by")))) }
+{
+    let mut digits = Buffer::new();
+    let mut text = String::with_capacity(alloc, 46)?;
+    text.push_str("status ")?;
+    text.push_str(word)?;
+    text.push_str(" class ")?;
+    text.push_str(digits.format(class))?;
+    text.push_str(" by")?;
+    Ok(text)
+}
+
 /// What a point uses towards a destination, in text: its status, its class and the members of the class.
 pub(crate) fn write_status(alloc: Global, choice: &Choice) -> Result<String, AllocError>
     ensures text { IfOk result (λ text. string_bytes text ≡ status_text choice.now) }
@@ -55,8 +71,7 @@ pub(crate) fn write_status(alloc: Global, choice: &Choice) -> Result<String, All
     if class == 0 {
         return String::from_str(alloc, "status prohibited");
     }
-    let word = far_word(choice.status);
-    let mut text = format!(in alloc; "status {word} class {class} by")?;
+    let mut text = write_head(alloc, far_word(choice.status), class)?;
     put_members(&mut text, &choice.members)?;
     Ok(text)
 }

@@ -9,24 +9,13 @@ ghost use Rattle.answers.specs.Text.{line_count};
 ghost use Rattle.answers.specs.Traces.{hop_text, trace_answer, trace_text};
 
 use crate::codes::write_code;
+use crate::links::put_link;
 use crate::plain::{write_no_plan, write_no_row};
-use itoa::Buffer;
 use net_versions::Version;
 use path_trace::{TraceFault, trace};
 use point_codes::PointCode;
-use profile::{Hop, LinkRef, Trace};
+use profile::{Hop, Trace};
 use std::alloc::{AllocError, Global};
-
-/// Adds a link after a space, by the id of its set and its link code.
-fn put_link(text: &mut String, link: LinkRef) -> Result<(), AllocError>
-    ensures { OnOk result (string_bytes text.new ≡ string_bytes text.old ++ 32 ∷ (decimal link.id ++ 58 ∷ decimal link.slc)) }
-{
-    let mut digits = Buffer::new();
-    text.push(' ')?;
-    text.push_str(digits.format(link.id))?;
-    text.push(':')?;
-    text.push_str(digits.format(link.slc))
-}
 
 /// Adds a hop after a space, by its link and the point that it reaches.
 fn put_hop(text: &mut String, hop: Hop) -> Result<(), AllocError>
@@ -52,6 +41,11 @@ fn put_hops(text: &mut String, hops: &[Hop]) -> Result<(), AllocError>
     Ok(())
 }
 
+/// Room for the two words and so many hops: a space, four digits, a colon, two digits, `>` and a code of at most seven bytes.
+fn room_for(count: usize) -> usize {
+    count.saturating_mul(16).saturating_add(13)
+}
+
 /// A trace in text, in the order of its hops.
 fn write_trace(alloc: Global, trace: &Trace) -> Result<String, AllocError>
     ensures text { IfOk result (λ text. string_bytes text ≡ trace_text (hops_in trace.now)) }
@@ -59,8 +53,10 @@ fn write_trace(alloc: Global, trace: &Trace) -> Result<String, AllocError>
 {
     match trace {
         Trace::Reached(hops) => {
-            let mut text = String::from_str(alloc, "trace reached")?;
-            put_hops(&mut text, hops.as_slice())?;
+            let list = hops.as_slice();
+            let mut text = String::with_capacity(alloc, room_for(list.len()))?;
+            text.push_str("trace reached")?;
+            put_hops(&mut text, list)?;
             Ok(text)
         }
         Trace::Stopped => String::from_str(alloc, "trace stopped"),

@@ -3,6 +3,7 @@ pub mod UntouchedPointLemmas
 pub mod UntouchedLemmas
 pub mod WaitingEntryLemmas
 pub mod WaitingPositionLemmas
+pub mod WaitingTurnLemmas
 pub mod BitLemmas
 pub mod ChangeLemmas
 pub mod ReaderLemmas

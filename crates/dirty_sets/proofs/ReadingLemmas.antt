@@ -1,7 +1,7 @@
 -- The sets that a plan's table can read.
-use Rattle.std.proofs.Common.{◌≡◌, ◌≢◌, ℕ, Bool, true, false, ◌&&◌, ◌||◌, eqb, is_some, Some, All, ◌⊎◌, inl, inr, refl, ap, sym, ◌∙◌, List, arith}
+use Rattle.std.proofs.Common.{◌≡◌, ℕ, Bool, true, false, ◌&&◌, ◌||◌, eqb, is_some, Some, All, ◌⊎◌, inl, inr, refl, ap, sym, ◌∙◌, List, arith}
 use Rattle.std.specs.List.{list_any}
-use Rattle.std.proofs.lemmas.Bool.{eq-eqb, ne_eqb, or_cases}
+use Rattle.std.proofs.lemmas.Bool.{eq-eqb, ne_eqb}
 use Rattle.std.proofs.lemmas.List.Elements.{All-weaker}
 use Rattle.std.proofs.lemmas.List.Folds.{list_any_none}
 use Rattle.net_items.specs.declared.items.Point.{Point}
@@ -12,7 +12,6 @@ use Rattle.net_items.specs.Lookups.{joins, row_at, is_stp}
 use Rattle.net_data.specs.Network.{Network}
 use Rattle.net_data.specs.Valid.{IsRightPlan}
 use Rattle.net_data.specs.Valid.{IsValid as IsValidNet}
-use Rattle.profile.specs.Status.{Source, source_row}
 use Rattle.profile.specs.Valid.{IsVia, IsValidRow}
 use Rattle.excerpts.specs.Excerpt.{network_source}
 use Rattle.excerpts.proofs.SourceLemmas.{source_valid}

@@ -1,21 +1,21 @@
 -- The entries of a waiting list: how they are found, marked, moved and put in.
-use Rattle.std.proofs.Common.{⊎_elim, ◌≡◌, ℕ, zero, suc, ◌+◌, ◌<◌, Bool, true, false, not, eqb, Option, Some, None, MatchOption, List, [], ◌∷◌, ◌++◌, length, take, drop, get_or, map, slice_get, position, cond, refl, ap, sym, ◌∙◌, subst, arith}
+use Rattle.std.proofs.Common.{⊎_elim, ◌≡◌, ℕ, zero, suc, ◌<◌, ◌≤◌, Bool, true, false, not, eqb, Option, Some, None, List, [], ◌∷◌, ◌++◌, length, take, drop, get_or, map, slice_get, position, reverse, cond, refl, ap, sym, ◌∙◌, subst, arith}
 use Rattle.std.specs.Prelude.{filter, insert, remove}
 use Rattle.std.specs.List.{AllByRecursion, IsDistinct, list_any}
 use Rattle.std.specs.Map.{keys_of, lookup}
 use Rattle.std.specs.Option.{option_map, option_map_or}
-use Rattle.std.proofs.Math.Numerals.{add-one}
-use Rattle.std.proofs.Math.Seq.{take-length}
 use Rattle.std.proofs.lemmas.Bool.{cases_Bool, cond_both, eqb-true, eqb-false, eq-eqb, ne_eqb}
-use Rattle.std.proofs.lemmas.List.Elements.{All-from_recursion}
+use Rattle.std.proofs.lemmas.List.{map-append, reverse-reverse}
+use mathlib.Core.List.{reverse-cons}
 use Rattle.std.proofs.lemmas.List.Quantifiers.{position-Some}
 use Rattle.std.proofs.lemmas.Option.{slice_get-map}
 use Rattle.net_items.specs.Keyed.{IsRising}
 use Rattle.net_items.proofs.ListLemmas.{map_insert, map_remove}
 use Rattle.indexmap.specs.IndexMap.{insert_entry, move_index, set_value_at}
 use Rattle.indexmap.proofs.MapLemmas.{Missing-position}
-use Rattle.dirty_sets.specs.Waiting.{Task, all_waiting, is_out, without_task}
+use Rattle.dirty_sets.specs.Waiting.{Task, all_waiting, is_out, waiting_task, without_task}
 use Rattle.dirty_sets.specs.Entries.{task_of, tasks_of, marked, IsAt}
+use Rattle.dirty_sets.proofs.WaitingTurnLemmas.{map_turned}
 
 -- the entries of those that wait
 abbrev pub waiting_entries : List ℕ → List (ℕ × Bool)
@@ -89,9 +89,11 @@ missing x (e ∷ es) none =
     (cases_Bool (eqb x e.0))
 
 -- what a look-up of a place says
-pub position_is : (x : ℕ) (es : List (ℕ × Bool)) → IsDistinct eqb (keys_of es) → (r : Option ℕ) → r ≡ position (eqb x) (keys_of es) → MatchOption r (is_out (tasks_of es) x ≡ false) (IsAt (tasks_of es) x)
-position_is x es apart None e = missing x es (Missing-position (eqb x) es (sym e)).value
-position_is x es apart (Some i) e =
+pub not_found : (x : ℕ) (es : List (ℕ × Bool)) → None ≡ position (eqb x) (keys_of es) → is_out (tasks_of es) x ≡ false
+not_found x es e = missing x es (Missing-position (eqb x) es (sym e)).value
+
+pub found_at : (x : ℕ) (es : List (ℕ × Bool)) → IsDistinct eqb (keys_of es) → (i : ℕ) → Some i ≡ position (eqb x) (keys_of es) → IsAt (tasks_of es) x i
+found_at x es apart i e =
     let found : (d : ℕ) → (i < length (keys_of es)) × (eqb x (get_or (keys_of es) i d) ≡ true) × ((k : ℕ) → k < i → eqb x (get_or (keys_of es) k d) ≡ false) = λ d. position-Some (eqb x) (keys_of es) i d (sym e) in
     at_place x i es apart (found 0).0 (λ d. (found d).1) (λ d. (found d).2)
 
@@ -158,25 +160,38 @@ small-insert_entry [] x b small all = (small, tt)
 small-insert_entry (e ∷ es) x b small all =
     cond_both (eqb x e.0) ((e.0, b) ∷ es) (e ∷ insert_entry eqb es x b) (AllByRecursion (λ e. e.0 < 16384)) (λ here. all) (λ other. (all.0, small-insert_entry es x b small all.1))
 
--- one more of rising destinations is put in last
-fill-suc : (xs : List ℕ) (i d : ℕ) → IsRising (λ x. x) xs → i < length xs → insert_entry eqb (waiting_entries (take i xs)) (get_or xs i d) false ≡ waiting_entries (take (suc i) xs)
-fill-suc [] i d up within = absurd (omega arith)
-fill-suc (x ∷ xs) zero d up within = refl
-fill-suc (x ∷ xs) (suc i) d up within =
-    let above : x < get_or xs i d = All-from_recursion (λ y. x < y) xs up.0 i d (omega arith) in
-    let other : eqb (get_or xs i d) x ≡ false = ne_eqb _ _ (λ e. omega arith) in
-    ap (λ b. cond b ((x, false) ∷ waiting_entries (take i xs)) ((x, false) ∷ insert_entry eqb (waiting_entries (take i xs)) (get_or xs i d) false)) other
-    ∙ ap (λ es. (x, false) ∷ es) (fill-suc xs i d up.1 (omega arith))
+-- one that no entry has is put in last
+insert_last : (es : List (ℕ × Bool)) (x : ℕ) → AllByRecursion (λ e. eqb x e.0 ≡ false) es → insert_entry eqb es x false ≡ es ++ (x, false) ∷ []
+insert_last [] x all = refl
+insert_last (e ∷ es) x all = rw all.0 (ap (λ fs. e ∷ fs) (insert_last es x all.1))
+
+others : (x : ℕ) (ys : List ℕ) → AllByRecursion (λ y. x < y) ys → AllByRecursion (λ e. eqb x e.0 ≡ false) (waiting_entries ys)
+others x [] all = tt
+others x (y ∷ ys) all = (ne_eqb x y (λ e. let above = all.0 in omega arith), others x ys all.1)
+
+All-turned : (P : ℕ → Type 0) (xs : List ℕ) → AllByRecursion P xs → AllByRecursion P (reverse xs)
+All-turned P [] all = tt
+All-turned P (x ∷ xs) all = subst (AllByRecursion P) (sym (reverse-cons x xs)) (All-append P (reverse xs) (x ∷ []) (All-turned P xs all.1) (all.0, tt))
+
+-- of rising destinations, from the last, one more is put in last
+fill-suc : (xs : List ℕ) (k d : ℕ) → IsRising (λ x. x) xs → k < length xs → insert_entry eqb (waiting_entries (reverse (drop (suc k) xs))) (get_or xs k d) false ≡ waiting_entries (reverse (drop k xs))
+fill-suc [] k d up within = absurd (omega arith)
+fill-suc (x ∷ xs) zero d up within =
+    insert_last (waiting_entries (reverse xs)) x (others x (reverse xs) (All-turned (λ y. x < y) xs up.0))
+    ∙ (sym (map-append (λ y. (y, false)) (reverse xs) (x ∷ [])) ∙ ap waiting_entries (sym (reverse-cons x xs)))
+fill-suc (x ∷ xs) (suc k) d up within = fill-suc xs k d up.1 (omega arith)
 
 -- the tasks of entries that wait
 tasks-waiting : (xs : List ℕ) → tasks_of (waiting_entries xs) ≡ all_waiting xs
 tasks-waiting [] = refl
 tasks-waiting (x ∷ xs) = ap (λ ts. task_of (x, false) ∷ ts) (tasks-waiting xs)
 
-module _ (xs : List ℕ) (i : ℕ) (up : IsRising (λ x. x) xs) (es : List (ℕ × Bool)) (filled : es ≡ waiting_entries (take i xs)) where
-  pub fill-more : (d x : ℕ) → i < length xs → x ≡ get_or xs i d → insert_entry eqb es x false ≡ waiting_entries (take (i + 1) xs)
-  fill-more d x within is = rw (filled, is, add-one i) (fill-suc xs i d up within)
+module _ (xs : List ℕ) (k : ℕ) (up : IsRising (λ x. x) xs) (es : List (ℕ × Bool)) (filled : es ≡ waiting_entries (reverse (drop k xs))) where
+  pub fill-more : (l d x : ℕ) → k ≡ suc l → k ≤ length xs → x ≡ get_or xs l d → insert_entry eqb es x false ≡ waiting_entries (reverse (drop l xs))
+  fill-more l d x next within is = rw (filled, is, next) (fill-suc xs l d up (omega arith))
 
   -- all are put in
-  pub fill-all : i ≡ length xs → tasks_of es ≡ all_waiting xs
-  fill-all e = ap tasks_of filled ∙ (ap (λ n. tasks_of (waiting_entries (take n xs))) e ∙ (ap (λ ys. tasks_of (waiting_entries ys)) (take-length xs) ∙ tasks-waiting xs))
+  pub fill-all : k ≡ 0 → reverse (tasks_of es) ≡ all_waiting xs
+  fill-all e =
+      ap (λ fs. reverse (tasks_of fs)) (filled ∙ ap (λ n. waiting_entries (reverse (drop n xs))) e)
+      ∙ (ap reverse (tasks-waiting (reverse xs) ∙ map_turned waiting_task xs) ∙ reverse-reverse (all_waiting xs))

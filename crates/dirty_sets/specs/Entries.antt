@@ -1,5 +1,5 @@
 -- A waiting list as the entries of a map, and its places.
-use Rattle.std.specs.Prelude.{◌≡◌, ℕ, zero, suc, ◌<◌, Bool, true, false, Some, List, [], ◌∷◌, map, length, slice_get, remove}
+use Rattle.std.specs.Prelude.{◌≡◌, ℕ, zero, suc, ◌<◌, Bool, true, Some, List, [], ◌∷◌, map, length, slice_get, remove}
 use Rattle.dirty_sets.specs.Waiting.{Task, first_waiting, taken, is_out, without_task}
 
 -- a destination, and whether it is out

@@ -1,6 +1,6 @@
 //! What waits for a result, and what is out.
 
-ghost use Rattle.std.specs.Prelude.{◌≡◌, ◌<◌, None, Some, IfOk, MatchOption, if◌then◌else◌, length, slice_get, true, false};
+ghost use Rattle.std.specs.Prelude.{◌≡◌, ◌<◌, ◌+◌, suc, None, Some, IfOk, MatchOption, if◌then◌else◌, length, slice_get, true, false};
 ghost use Rattle.net_items.specs.Keyed.{IsRising};
 ghost use Rattle.indexmap.specs.IndexMap.{move_index as with_moved};
 ghost use Rattle.dirty_sets.specs.Entries.{task_of, marked, IsAt, IsFirstWaiting};
@@ -14,19 +14,20 @@ use std::marker::Model;
 /// The destinations that wait for a result, in order, and those that are out (own).
 #[derive(Drop)]
 pub struct Waiting {
-    // The number of each destination, and whether it is out.
+    // The number of each destination, and whether it is out, from the last to the first: those in front are removed first,
+    // and the map moves all that stand behind what it removes.
     entries: IndexMap<u16, bool>,
 }
 
 impl Model for Waiting {
-    ghost use Rattle.std.specs.Prelude.{List, ◌<◌};
+    ghost use Rattle.std.specs.Prelude.{List, reverse, ◌<◌};
     ghost use Rattle.std.specs.List.{AllByRecursion};
     ghost use Rattle.dirty_sets.specs.Waiting.{Task};
     ghost use Rattle.dirty_sets.specs.Entries.{tasks_of};
 
     ghost Value = { List Task };
 
-    ghost view = { λ w. tasks_of w.entries.entries };
+    ghost view = { λ w. reverse (tasks_of w.entries.entries) };
 
     ghost invariant = { λ w. AllByRecursion (λ e. e.0 < 16384) w.entries.entries };
 }
@@ -38,8 +39,10 @@ impl Waiting {
         ensures { IfOk result (λ w. w ≡ all_waiting dests.now) }
     {
         let mut entries = IndexMap::new(alloc);
-        for dest in dests {
-            entries.insert(dest.number(), false)?;
+        let mut left = dests.len();
+        while left > 0 {
+            left -= 1;
+            entries.insert(dests[left].number(), false)?;
         }
         Ok(Waiting { entries })
     }
@@ -127,8 +130,17 @@ impl Waiting {
         ensures { self.new ≡ without_task dest self.old }
     {
         if let Some(position) = self.position_of(dest) {
-            self.entries.shift_remove_index(position);
+            let entry = self.turned(position);
+            self.entries.shift_remove_index(entry);
         }
+    }
+
+    /// A place seen from the other end.
+    fn turned(&self, place: usize) -> usize
+        requires { place < length self.now }
+        ensures { result + suc place ≡ length self.now }
+    {
+        self.left() - 1 - place
     }
 
     /// The destination at a place, and whether it is out.
@@ -136,7 +148,8 @@ impl Waiting {
         requires { position < length self.now }
         ensures { slice_get self.now position ≡ Some (task_of result) }
     {
-        match self.entries.get_index(position) {
+        let entry = self.turned(position);
+        match self.entries.get_index(entry) {
             Some((number, is_out)) => match PointCode::new(*number) {
                 Some(dest) => (dest, *is_out),
                 None => unreachable!(),
@@ -149,7 +162,8 @@ impl Waiting {
     fn position_of(&self, dest: PointCode) -> Option<usize>
         ensures { MatchOption result (is_task_out self.now dest ≡ false) (IsAt self.now dest) }
     {
-        self.entries.get_index_of(&dest.number())
+        let entry = self.entries.get_index_of(&dest.number())?;
+        Some(self.turned(entry))
     }
 
     /// The place of the first that waits, and its destination.
@@ -170,7 +184,8 @@ impl Waiting {
         requires { position < length self.old }
         ensures { self.new ≡ marked position is_out self.old }
     {
-        match self.entries.get_index_mut(position) {
+        let entry = self.turned(position);
+        match self.entries.get_index_mut(entry) {
             Some(out) => *out = is_out,
             None => unreachable!(),
         }
@@ -182,7 +197,8 @@ impl Waiting {
         requires to { to < length self.old }
         ensures { self.new ≡ with_moved self.old from to }
     {
-        self.entries.move_index(from, to);
+        let (first, last) = (self.turned(from), self.turned(to));
+        self.entries.move_index(first, last);
     }
 }
 

@@ -4,7 +4,8 @@ ghost use Rattle.std.specs.Prelude.{◌≡◌, ◌↔◌, IsTrue};
 
 use crate::items::{LinkSet, Plan, Point};
 use crate::links::Link;
-use crate::lists::{Row, Vias};
+use crate::lists::Row;
+use crate::vias::Vias;
 use link_state::LinkChange;
 use point_codes::PointCode;
 

@@ -9,7 +9,7 @@
 //! The lists inside these types are small types of their own, which contracts see as lists. Whether they make a
 //! valid network is the subject of the crate `net_data`.
 //!
-//! Stands on `point_codes`, `link_state`, `smallvec`. A change here also changes specs/ (Keyed, Lookups), proofs/ and
+//! Stands on `point_codes`, `link_state`, `smallvec`. A change here also changes specs/ (Keyed, Lookups, Vias), proofs/ and
 //! must-fail/.
 #![tactic(auto)]
 
@@ -19,7 +19,9 @@ pub mod items;
 pub mod links;
 pub mod lists;
 pub mod lookups;
+pub mod vias;
 
 pub use items::{Kind, LinkSet, Plan, Point};
 pub use links::Link;
-pub use lists::{Classes, Links, Row, Rows, Slcs, Vias};
+pub use lists::{Classes, Links, Row, Rows, Slcs};
+pub use vias::Vias;

@@ -4,6 +4,7 @@ ghost use Rattle.std.specs.Prelude.{◌≡◌, ◌<◌, ◌++◌, ◌∷◌, [],
 ghost use Rattle.net_items.specs.Keyed.{IsRising, IsFoundAt, IsGapAt, at_key, put, without};
 
 use crate::links::Link;
+use crate::vias::Vias;
 use point_codes::PointCode;
 use smallvec::SmallVec;
 use std::alloc::{AllocError, Global};
@@ -99,58 +100,10 @@ impl Links {
     }
 }
 
-/// The vias of a class in order of priority. Two of them need no memory.
-#[derive(Debug, Drop)]
-pub struct Vias {
-    list: SmallVec<PointCode, 2>,
-}
-
-impl Model for Vias {
-    ghost Value = { List ℕ };
-
-    ghost view = { λ l. l.list.items };
-}
-
-impl Vias {
-    /// No vias.
-    pub fn new(alloc: Global) -> Vias
-        ensures { result ≡ [] }
-    {
-        Vias {
-            list: SmallVec::new(alloc),
-        }
-    }
-
-    /// A copy of these vias.
-    pub fn from_slice(alloc: Global, vias: &[PointCode]) -> Result<Vias, AllocError>
-        ensures { IfOk result (λ l. l ≡ vias.now) }
-    {
-        Ok(Vias {
-            list: SmallVec::from_slice(alloc, vias)?,
-        })
-    }
-
-    /// Adds a via at the end.
-    pub fn push(&mut self, via: PointCode) -> Result<(), AllocError>
-        ensures ok { OnOk result (self.new ≡ self.old ++ via ∷ []) }
-        ensures err { OnErr result (self.new ≡ self.old) }
-    {
-        self.list.push(via)?;
-        Ok(())
-    }
-
-    /// The vias as a slice.
-    pub fn as_slice(&self) -> &[PointCode]
-        ensures { result.now ≡ self.now }
-    {
-        self.list.as_slice()
-    }
-}
-
-/// The classes of a row, the first first.
+/// The classes of a row, the first first. One of them needs no memory.
 #[derive(Debug, Drop)]
 pub struct Classes {
-    list: Vec<Vias>,
+    list: SmallVec<Vias, 1>,
 }
 
 impl Model for Classes {
@@ -164,7 +117,18 @@ impl Classes {
     pub fn from_vec(list: Vec<Vias>) -> Classes
         ensures { result ≡ list.items }
     {
-        Classes { list }
+        Classes {
+            list: SmallVec::from_vec(list),
+        }
+    }
+
+    /// One class.
+    pub fn of_one(alloc: Global, vias: Vias) -> Classes
+        ensures { result ≡ vias ∷ [] }
+    {
+        Classes {
+            list: SmallVec::from_buf(alloc, [vias]),
+        }
     }
 
     /// The classes as a slice.
@@ -182,10 +146,10 @@ pub struct Row {
     pub point: PointCode,
     /// Its rank, 1 to 255 in a valid network: each via is the destination or of lower rank (own).
     pub rank: u8,
-    /// Its classes of vias, the first first; at most four in a valid network.
-    pub classes: Classes,
     /// Whether it may use its mate.
     pub mate: bool,
+    /// Its classes of vias, the first first; at most four in a valid network.
+    pub classes: Classes,
 }
 
 /// The rows of a plan.

@@ -189,7 +189,7 @@ fn a_link_takes_the_place_of_one_of_its_code(rt: HostRuntime) -> Result<(), Fail
 /// Two vias, and a third put behind them.
 fn three_vias(alloc: Global, [a, b, c]: [PointCode; 3]) -> Result<Vias, AllocError> {
     let mut vias = Vias::from_slice(alloc, &[a, b])?;
-    vias.push(c)?;
+    vias.push(alloc, c)?;
     Ok(vias)
 }
 

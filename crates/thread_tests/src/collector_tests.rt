@@ -76,17 +76,20 @@ fn table_of(rt: &impl Abort, alloc: Global, version: &Version) -> Table {
     table.expect(rt, "a plan")
 }
 
+/// The number of the version that a reader sees, in which 2-10-2 leads over its mate.
+fn look<N: Naming, R: Abort>(rt: &R, alloc: Global, reader: &mut Reader<N>) -> u64 {
+    let seen = reader.look().expect(rt, "a version");
+    expect_mate(rt, &table_of(rt, alloc, &seen));
+    seen.number()
+}
+
 /// A reader in another thread learns a note and looks, both ways.
 fn look_after<N: Naming, R: Abort>(rt: &R, alloc: Global, mut reader: Reader<N>, note: Note<N>) {
     reader.learn(note);
-    let seen = reader.look().expect(rt, "a version");
-    assert!(rt; seen.number() >= 4001);
-    let table = table_of(rt, alloc, &seen);
-    expect_mate(rt, &table);
-    assert_eq!(rt;
-        (reader.refresh(), reader.newest().number()),
-        (Ok(()), seen.number())
-    );
+    let seen = look(rt, alloc, &mut reader);
+    let refreshed = reader.refresh();
+    assert!(rt; seen >= 4001);
+    assert_eq!(rt; (refreshed, reader.newest().number()), (Ok(()), seen));
 }
 
 /// The collectors beside two workers.

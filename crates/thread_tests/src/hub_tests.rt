@@ -56,25 +56,19 @@ fn publish<N: Naming, R: Wait>(rt: &R, alloc: Global, hub: &Mutex<Hub<N>>) -> Re
     hub.lock(rt).publish(rt, alloc)
 }
 
-/// What a second thread does with the results of the first: it gives one, publishes, opens the next target, and gives the
-/// other, which is late.
-fn go_on<N: Naming, R: Wait + Abort>(
-    rt: &R,
-    alloc: Global,
-    hub: &Mutex<Hub<N>>,
-    late: Settled,
-    settled: Settled,
-) {
+/// What a second thread does with the result of the first: it gives it, publishes, and opens the next target.
+fn go_on<N: Naming, R: Wait + Abort>(rt: &R, alloc: Global, hub: &Mutex<Hub<N>>, settled: Settled) {
     let given = give(rt, hub, settled);
     assert_eq!(rt; (given, publish(rt, alloc, hub)), (Ok(()), Ok(1)));
     let again = hub.lock(rt).post(alloc, 0, 2, restore(4, 0));
-    let opened = open_twice(rt, alloc, hub);
+    assert_eq!(rt; again, Ok(Posted::Taken(2)));
+    expect_opened(rt, open_twice(rt, alloc, hub), 2);
+}
+
+/// It gives the other result too, which is late.
+fn give_late<N: Naming, R: Wait + Abort>(rt: &R, hub: &Mutex<Hub<N>>, late: Settled) {
     let refused = give(rt, hub, late);
-    assert_eq!(rt;
-        (again, refused),
-        (Ok(Posted::Taken(2)), Err(Refusal::Stale(Some(2))))
-    );
-    expect_opened(rt, opened, 2);
+    assert_eq!(rt; refused, Err(Refusal::Stale(Some(2))));
 }
 
 /// A target of a number was opened, for which one destination waits, and then no other.
@@ -83,7 +77,7 @@ fn expect_opened(rt: &impl Abort, opened: [Result<Opened, Refusal>; 2], target: 
     assert_eq!(rt; opened, [Ok(first), Err(Refusal::Busy)]);
 }
 
-/// The second thread settles what waits, and publishes when all is given.
+/// It settles what waits, and publishes when all is given.
 fn finish<N: Naming, R: Wait + Abort>(rt: &R, alloc: Global, hub: &Mutex<Hub<N>>) {
     let settled = take_result(rt, alloc, &mut *hub.lock(rt));
     let early = publish(rt, alloc, hub);
@@ -103,8 +97,9 @@ fn step<N: Naming + Send + Sync, R: Threads + Wait + Abort + Sync>(
 ) {
     expect_opened(rt, open_twice(rt, alloc, hub), 1);
     let ((late, settled), ()) = join(rt, || begin(rt, alloc, hub), || ());
-    join(rt, || (), || go_on(rt, alloc, hub, late, settled));
-    join(rt, || finish(rt, alloc, hub), || ());
+    join(rt, || (), || go_on(rt, alloc, hub, settled));
+    join(rt, || give_late(rt, hub, late), || ());
+    finish(rt, alloc, hub);
 }
 
 /// Makes the steps at a new hub.

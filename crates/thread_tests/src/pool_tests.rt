@@ -11,7 +11,7 @@ use std::process::Abort;
 use std::sync::{Condvar, Mutex, Wait};
 use std::thread::Threads;
 use versions::{Hub, Naming, Unnamed};
-use work_units::settle;
+use work_units::{Settled, settle};
 use worker_pool::{PoolEnd, run_pool};
 
 /// Two workers beside a wait for the first version.
@@ -77,10 +77,15 @@ fn run_refused<N: Naming + Send + Sync, R: Threads + Wait + Sync>(
     .0
 }
 
+/// The result of the job that waits.
+fn settled_job<N: Naming, R: Wait + Abort>(rt: &R, alloc: Global, hub: &Mutex<Hub<N>>) -> Settled {
+    let job = hub.lock(rt).take().expect(rt, "a job");
+    settle(alloc, job).ok().expect(rt, "a result")
+}
+
 /// The work, done in line.
 fn work_in_line<N: Naming, R: Wait + Abort>(rt: &R, alloc: Global, hub: &Mutex<Hub<N>>) {
-    let job = hub.lock(rt).take().expect(rt, "a job");
-    let settled = settle(alloc, job).ok().expect(rt, "a result");
+    let settled = settled_job(rt, alloc, hub);
     let _ = hub.lock(rt).give(settled);
     let _ = hub.lock(rt).publish(rt, alloc);
 }

@@ -15,17 +15,17 @@ use std::alloc::{AllocError, Global};
 fn read_vias(alloc: Global, text: &[u8]) -> Result<Option<Vias>, AllocError>
     ensures { IfOk result (λ vias. vias ≡ vias_of text.now) }
 {
-    let mut vias = Vias::new(alloc);
+    let mut vias = Vias::new();
     let mut rest = text;
     while let Some((first, after)) = split_at_byte(rest, b'+') {
         match read_code(first) {
-            Some(code) => vias.push(code)?,
+            Some(code) => vias.push(alloc, code)?,
             None => return Ok(None),
         }
         rest = after;
     }
     match read_code(rest) {
-        Some(code) => vias.push(code)?,
+        Some(code) => vias.push(alloc, code)?,
         None => return Ok(None),
     }
     Ok(Some(vias))
@@ -37,11 +37,7 @@ fn read_class(alloc: Global, text: &[u8]) -> Result<Option<Classes>, AllocError>
     ensures { IfOk result (λ classes. classes ≡ pieces_of 47 vias_of text.now) }
 {
     match read_vias(alloc, text)? {
-        Some(vias) => {
-            let mut classes = Vec::with_capacity(alloc, 1)?;
-            classes.push(vias)?;
-            Ok(Some(Classes::from_vec(classes)))
-        }
+        Some(vias) => Ok(Some(Classes::of_one(alloc, vias))),
         None => Ok(None),
     }
 }

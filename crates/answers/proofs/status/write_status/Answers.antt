@@ -5,5 +5,5 @@ use Rattle.answers.proofs.status.write_status.Goals as goal
 
 pub returns-clause-plain : goal.returns-clause-plain
 returns-clause-plain c =
-    let word = ap line_count c.far_word-word.ensures ∙ plain_far c.args.choice.now.status in
-    c.in_ok-put_members.ensures.plain ∙ ap line_count c.in_ok-text.ensures.ok ∙ plain_head c.far_word-word.result.now c.args.choice.now.class word (omega arith)
+    let word = ap line_count c.far_word.ensures ∙ plain_far c.args.choice.now.status in
+    c.in_ok-put_members.ensures.plain ∙ ap line_count c.in_ok-text.ensures ∙ plain_head c.far_word.result.now c.args.choice.now.class word (omega arith)

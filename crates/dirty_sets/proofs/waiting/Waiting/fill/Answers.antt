@@ -1,20 +1,28 @@
-use Rattle.std.proofs.Common.{◌≡◌, ◌<◌, ℕ, Bool, false, length, ◌∙◌, sym, subst, arith}
+use Rattle.std.proofs.Common.{◌≡◌, ◌-◌, ◌<◌, ℕ, suc, Bool, false, ◌∙◌, sym, subst, arith}
 use Rattle.std.specs.List.{AllByRecursion}
 use Rattle.dirty_sets.proofs.WaitingEntryLemmas.{fill-more, fill-all, small-insert_entry}
 use Rattle.dirty_sets.proofs.waiting.Waiting.fill.Goals as goal
 
-pub loop-dest-preserved : goal.loop-dest-preserved
-loop-dest-preserved c =
-    let kept = c.loop-dest.invariant in
+pub loop-left-preserved : goal.loop-left-preserved
+loop-left-preserved c =
+    let kept = c.loop-left.invariant in
     let put_in = c.in_ok-insert.ensures.entries in
+    let some = c.loop-left-test.true in
+    let within = kept.in_range in
+    let next : c.loop-left.left ≡ suc (c.loop-left.left - 1) = omega arith in
     record {
-      filled = put_in ∙ fill-more c.args.dests.now c.loop-dest.dest-index c.requires c.loop-dest.entries.entries kept.filled c.dest-item.result c.number.result c.loop-dest-test.true (c.number.ensures.value ∙ c.dest-item.is);
-      small = subst (AllByRecursion (λ (e : ℕ × Bool). e.0 < 16384)) (sym put_in) (small-insert_entry c.loop-dest.entries.entries c.number.result false c.number.ensures.in_range kept.small);
+      filled = put_in ∙ fill-more c.args.dests.now c.loop-left.left c.requires c.loop-left.entries.entries kept.filled (c.loop-left.left - 1) c.index-dests-left.result c.number.result next within (c.number.ensures.value ∙ c.index-dests-left.is);
+      in_range = omega arith;
+      small = subst (AllByRecursion (λ (e : ℕ × Bool). e.0 < 16384)) (sym put_in) (small-insert_entry c.loop-left.entries.entries c.number.result false c.number.ensures.in_range kept.small);
     }
+
+pub loop-left-smaller : goal.loop-left-smaller
+loop-left-smaller c =
+    let some = c.loop-left-test.true in
+    omega arith
 
 pub returns : goal.returns
 returns c =
-    let before = c.loop-dest.auto.dest-index-end in
-    let past = c.loop-dest-test.false in
-    let end : c.loop-dest.dest-index ≡ length c.args.dests.now = omega arith in
-    fill-all c.args.dests.now c.loop-dest.dest-index c.requires c.loop-dest.entries.entries c.loop-dest.invariant.filled end
+    let past = c.loop-left-test.false in
+    let end : c.loop-left.left ≡ 0 = omega arith in
+    fill-all c.args.dests.now c.loop-left.left c.requires c.loop-left.entries.entries c.loop-left.invariant.filled end
