@@ -138,16 +138,26 @@ fn expect_table(rt: &impl Abort, table: &Table) {
     assert_eq!(rt; (table.dest, row.choice.class), (point(rt, "2-1-2"), 1));
 }
 
+/// A version tells its one destination.
+fn expect_dests(rt: &impl Abort, alloc: Global, version: &Version) {
+    let dests = version.dests(alloc).expect(rt, "memory");
+    assert_eq!(rt; dests.as_slice(), [point(rt, "2-1-2")].as_slice());
+}
+
+/// It makes the table of that destination, and none of another point.
+fn expect_tables(rt: &impl Abort, alloc: Global, version: &Version) {
+    let table = version.table(alloc, point(rt, "2-1-2"));
+    expect_table(rt, &table.expect(rt, "memory").expect(rt, "a plan"));
+    let none = version.table(alloc, point(rt, "2-1-1"));
+    assert!(rt; none.expect(rt, "memory").is_none());
+}
+
 #[test]
 fn a_version_makes_the_tables_of_its_destinations(rt: HostRuntime) {
     let net = worked_after(&rt, rt.alloc(), &[]);
     let version = Version::opening(rt.alloc(), net).expect(&rt, "memory");
-    let dests = version.dests(rt.alloc()).expect(&rt, "memory");
-    assert_eq!(rt; dests.as_slice(), [point(&rt, "2-1-2")].as_slice());
-    let table = version.table(rt.alloc(), point(&rt, "2-1-2"));
-    expect_table(&rt, &table.expect(&rt, "memory").expect(&rt, "a plan"));
-    let none = version.table(rt.alloc(), point(&rt, "2-1-1"));
-    assert!(rt; none.expect(&rt, "memory").is_none());
+    expect_dests(&rt, rt.alloc(), &version);
+    expect_tables(&rt, rt.alloc(), &version);
 }
 
 #[test]
