@@ -81,8 +81,8 @@ def prove_anew(graph, crates, room):
             if found:
                 proved.add(found[1])
                 left = [it for it in crates if it not in proved and proved.issuperset(graph[it])]
-                next = f"; the next: {', '.join(left)}" if left else ""
-                say(f"{len(proved)} of {len(crates)} crates proved: {found[1]}{next}")
+                coming = f"; the next: {', '.join(left)}" if left else ""
+                say(f"{len(proved)} of {len(crates)} crates proved: {found[1]}{coming}")
     if run.wait():
         stop(log)
     os.makedirs(f"crates/{PROGRAM}/out", exist_ok=True)

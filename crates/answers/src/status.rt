@@ -12,6 +12,9 @@ use point_codes::PointCode;
 use route_choice::{Choice, Far};
 use std::alloc::{AllocError, Global};
 
+/// The room for the longest status, a class of three digits, and two members.
+const ROOM: usize = 46;
+
 /// A status.
 pub(crate) fn far_word(far: Far) -> &'static str
     ensures { result.now ≡ far_text far }
@@ -48,12 +51,12 @@ fn put_members(text: &mut String, members: &[Option<PointCode>]) -> Result<(), A
     Ok(())
 }
 
-/// A status and a class, with room for the longest status, three digits and two members.
+/// A status and a class, with room for members.
 fn write_head(alloc: Global, word: &str, class: u8) -> Result<String, AllocError>
     ensures { IfOk result (λ text. string_bytes text ≡ codes "status " ++ (word.now ++ (codes " class " ++ (decimal class ++ codes " by")))) }
 {
     let mut digits = Buffer::new();
-    let mut text = String::with_capacity(alloc, 46)?;
+    let mut text = String::with_capacity(alloc, ROOM)?;
     text.push_str("status ")?;
     text.push_str(word)?;
     text.push_str(" class ")?;

@@ -161,14 +161,16 @@ small-insert_entry (e ∷ es) x b small all =
     cond_both (eqb x e.0) ((e.0, b) ∷ es) (e ∷ insert_entry eqb es x b) (AllByRecursion (λ e. e.0 < 16384)) (λ here. all) (λ other. (all.0, small-insert_entry es x b small all.1))
 
 -- one that no entry has is put in last
-insert_last : (es : List (ℕ × Bool)) (x : ℕ) → AllByRecursion (λ e. eqb x e.0 ≡ false) es → insert_entry eqb es x false ≡ es ++ (x, false) ∷ []
-insert_last [] x all = refl
-insert_last (e ∷ es) x all = rw all.0 (ap (λ fs. e ∷ fs) (insert_last es x all.1))
+entered_last : (es : List (ℕ × Bool)) (x : ℕ) → AllByRecursion (λ e. eqb x e.0 ≡ false) es → insert_entry eqb es x false ≡ es ++ (x, false) ∷ []
+entered_last [] x all = refl
+entered_last (e ∷ es) x all = rw all.0 (ap (λ fs. e ∷ fs) (entered_last es x all.1))
 
+-- no entry of those above a destination has it
 others : (x : ℕ) (ys : List ℕ) → AllByRecursion (λ y. x < y) ys → AllByRecursion (λ e. eqb x e.0 ≡ false) (waiting_entries ys)
 others x [] all = tt
 others x (y ∷ ys) all = (ne_eqb x y (λ e. let above = all.0 in omega arith), others x ys all.1)
 
+-- what holds of all holds of all from the last
 All-turned : (P : ℕ → Type 0) (xs : List ℕ) → AllByRecursion P xs → AllByRecursion P (reverse xs)
 All-turned P [] all = tt
 All-turned P (x ∷ xs) all = subst (AllByRecursion P) (sym (reverse-cons x xs)) (All-append P (reverse xs) (x ∷ []) (All-turned P xs all.1) (all.0, tt))
@@ -177,7 +179,7 @@ All-turned P (x ∷ xs) all = subst (AllByRecursion P) (sym (reverse-cons x xs))
 fill-suc : (xs : List ℕ) (k d : ℕ) → IsRising (λ x. x) xs → k < length xs → insert_entry eqb (waiting_entries (reverse (drop (suc k) xs))) (get_or xs k d) false ≡ waiting_entries (reverse (drop k xs))
 fill-suc [] k d up within = absurd (omega arith)
 fill-suc (x ∷ xs) zero d up within =
-    insert_last (waiting_entries (reverse xs)) x (others x (reverse xs) (All-turned (λ y. x < y) xs up.0))
+    entered_last (waiting_entries (reverse xs)) x (others x (reverse xs) (All-turned (λ y. x < y) xs up.0))
     ∙ (sym (map-append (λ y. (y, false)) (reverse xs) (x ∷ [])) ∙ ap waiting_entries (sym (reverse-cons x xs)))
 fill-suc (x ∷ xs) (suc k) d up within = fill-suc xs k d up.1 (omega arith)
 

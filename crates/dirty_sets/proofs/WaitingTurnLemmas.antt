@@ -35,32 +35,34 @@ module _ {X : Type 0} where
       ap (λ ys. slice_get ys i) (reverse-cons x xs) ∙ (get_before (reverse xs) x i (omega arith) ∙ get_turned xs k i (omega arith))
 
   -- the first part of two, and the second
-  take_first : (xs ys : List X) (i : ℕ) → i ≡ length xs → take i (xs ++ ys) ≡ xs
-  take_first [] ys zero e = refl
-  take_first [] ys (suc i) e = absurd (omega arith)
-  take_first (x ∷ xs) ys zero e = absurd (omega arith)
-  take_first (x ∷ xs) ys (suc i) e = ap (λ zs. x ∷ zs) (take_first xs ys i (omega arith))
+  take_front : (xs ys : List X) (i : ℕ) → i ≡ length xs → take i (xs ++ ys) ≡ xs
+  take_front [] ys zero e = refl
+  take_front [] ys (suc i) e = absurd (omega arith)
+  take_front (x ∷ xs) ys zero e = absurd (omega arith)
+  take_front (x ∷ xs) ys (suc i) e = ap (λ zs. x ∷ zs) (take_front xs ys i (omega arith))
 
-  drop_first : (xs ys : List X) (i : ℕ) → i ≡ length xs → drop i (xs ++ ys) ≡ ys
-  drop_first [] ys zero e = refl
-  drop_first [] ys (suc i) e = absurd (omega arith)
-  drop_first (x ∷ xs) ys zero e = absurd (omega arith)
-  drop_first (x ∷ xs) ys (suc i) e = drop_first xs ys i (omega arith)
+  drop_front : (xs ys : List X) (i : ℕ) → i ≡ length xs → drop i (xs ++ ys) ≡ ys
+  drop_front [] ys zero e = refl
+  drop_front [] ys (suc i) e = absurd (omega arith)
+  drop_front (x ∷ xs) ys zero e = absurd (omega arith)
+  drop_front (x ∷ xs) ys (suc i) e = drop_front xs ys i (omega arith)
 
+  -- how many stand from a place on
   length_from : (xs : List X) (k i : ℕ) → k + i ≡ length xs → i ≡ length (drop k xs)
   length_from xs zero i e = omega arith
   length_from [] (suc k) i e = absurd (omega arith)
   length_from (x ∷ xs) (suc k) i e = length_from xs k i (omega arith)
 
+  -- both parts, turned
   parts_turned : (xs : List X) (k : ℕ) → reverse xs ≡ reverse (drop k xs) ++ reverse (take k xs)
   parts_turned xs k = ap reverse (sym (take-append-drop k xs)) ∙ reverse-append (take k xs) (drop k xs)
 
   -- the parts before and after a place
   take_turned : (xs : List X) (k i : ℕ) → k + i ≡ length xs → take i (reverse xs) ≡ reverse (drop k xs)
-  take_turned xs k i e = ap (take i) (parts_turned xs k) ∙ take_first (reverse (drop k xs)) (reverse (take k xs)) i (length_from xs k i e ∙ sym (length-reverse (drop k xs)))
+  take_turned xs k i e = ap (take i) (parts_turned xs k) ∙ take_front (reverse (drop k xs)) (reverse (take k xs)) i (length_from xs k i e ∙ sym (length-reverse (drop k xs)))
 
   drop_turned : (xs : List X) (k i : ℕ) → k + i ≡ length xs → drop i (reverse xs) ≡ reverse (take k xs)
-  drop_turned xs k i e = ap (drop i) (parts_turned xs k) ∙ drop_first (reverse (drop k xs)) (reverse (take k xs)) i (length_from xs k i e ∙ sym (length-reverse (drop k xs)))
+  drop_turned xs k i e = ap (drop i) (parts_turned xs k) ∙ drop_front (reverse (drop k xs)) (reverse (take k xs)) i (length_from xs k i e ∙ sym (length-reverse (drop k xs)))
 
   -- without the one at a place
   pub remove_turned : (xs : List X) (k i : ℕ) → k + suc i ≡ length xs → reverse (remove xs k) ≡ remove (reverse xs) i
@@ -78,6 +80,7 @@ module _ {X : Type 0} where
       ∙ (ap (λ ys. ys ++ x ∷ reverse (take k xs)) (sym (take_turned xs k i e)) ∙ ap (λ ys. take i (reverse xs) ++ x ∷ ys) (sym (drop_turned xs k i e)))))
 
   -- with one moved
+  -- something is at a place
   there : (xs : List X) (k : ℕ) → k < length xs → (x : X) × (slice_get xs k ≡ Some x)
   there [] k within = absurd (omega arith)
   there (x ∷ xs) zero within = (x, refl)
