@@ -116,7 +116,7 @@ code_written n small =
 text_of_parts : (z a p n : ℕ) → z ≤ 7 → a ≤ 255 → p ≤ 7 → z * 2048 + a * 8 + p ≡ n → (n / 2048 ≡ z) × (n / 8 % 256 ≡ a) × (n % 8 ≡ p)
 text_of_parts z a p n hz ha hp e = (omega arith, omega arith, omega arith)
 
-code_from : (n z a p : ℕ) (text zone rest area point : List ℕ) → text ≡ zone ++ 45 ∷ rest → rest ≡ area ++ 45 ∷ point
+pub code_from : (n z a p : ℕ) (text zone rest area point : List ℕ) → text ≡ zone ++ 45 ∷ rest → rest ≡ area ++ 45 ∷ point
     → (z ≤ 7) × (zone ≡ decimal z) → (a ≤ 255) × (area ≡ decimal a) → (p ≤ 7) × (point ≡ decimal p) → z * 2048 + a * 8 + p ≡ n → (n < 16384) × (text ≡ code_text n)
 code_from n z a p text zone rest area point first second zs as_ ps whole =
     let back = text_of_parts z a p n zs.0 as_.0 ps.0 whole in

@@ -1,9 +1,9 @@
 //! A point code, its number and its text.
 
-ghost use Rattle.std.specs.Prelude.{◌≡◌, ◌<◌, ◌↔◌, ◌/◌, ◌%◌, ◌++◌, ℕ, Some, None, IsSome, IfSome, MatchResult, OnOk, OnErr, string_bytes};
+ghost use Rattle.std.specs.Prelude.{◌≡◌, ◌<◌, ◌↔◌, ◌/◌, ◌%◌, ◌++◌, ◌∷◌, [], ℕ, Some, None, IsSome, IfSome, MatchResult, OnOk, OnErr, string_bytes};
 ghost use Rattle.point_codes.specs.Codes.{code_of, code_text};
+ghost use Rattle.point_codes.specs.Numbers.{number_of};
 
-use crate::numbers::{read_number, split_at_byte};
 use std::alloc::{AllocError, Global};
 use std::fmt;
 use std::marker::Model;
@@ -109,14 +109,47 @@ impl fmt::Display for PointCode {
     }
 }
 
-/// The code that a text is.
+/// The code that a text is. Zone and point have one digit each, so they are read at the text's two ends.
+#[tactic(auto, using(crate::proofs::PartLemmas::code_at_ends, crate::proofs::PartLemmas::no_code))]
 fn read_parts(text: &[u8]) -> Option<PointCode>
     ensures { result ≡ code_of text.now }
 {
-    let (zone, rest) = split_at_byte(text, b'-')?;
-    let (area, point) = split_at_byte(rest, b'-')?;
-    let z = read_number(zone, 7)?;
-    let a = read_number(area, 255)?;
-    let p = read_number(point, 7)?;
-    PointCode::new((z * 2048 + a * 8 + p) as u16)
+    match text {
+        [zone, b'-', area @ .., b'-', point] => {
+            let z = read_digit(*zone, 7)?;
+            let a = read_area(area)?;
+            let p = read_digit(*point, 7)?;
+            PointCode::new(z * 2048 + a * 8 + p)
+        }
+        _ => None,
+    }
+}
+
+/// The number up to `most` that a byte is as a text of its own.
+fn read_digit(byte: u8, most: u8) -> Option<u16>
+    ensures { result ≡ number_of most (byte ∷ []) }
+{
+    match byte {
+        b'0'..=b'9' if byte - b'0' <= most => Some(u16::from(byte - b'0')),
+        _ => None,
+    }
+}
+
+/// The number from 0 to 255 that a text is. It has three digits at most, so each length is read by itself.
+#[tactic(auto, using(crate::proofs::PartLemmas::area_short))]
+fn read_area(text: &[u8]) -> Option<u16>
+    ensures { result ≡ number_of 255 text.now }
+{
+    match text {
+        [ones] => read_digit(*ones, 9),
+        [b'0', ..] => None,
+        [tens, ones] => Some(read_digit(*tens, 9)? * 10 + read_digit(*ones, 9)?),
+        [hundreds, tens, ones] => {
+            let value = read_digit(*hundreds, 9)? * 100
+                + read_digit(*tens, 9)? * 10
+                + read_digit(*ones, 9)?;
+            if value <= 255 { Some(value) } else { None }
+        }
+        _ => None,
+    }
 }
