@@ -2,6 +2,7 @@ pub mod AuditLemmas
 pub mod KeptLemmas
 pub mod SweepLemmas
 pub mod FollowLemmas
+pub mod HearingLemmas
 pub mod TableLemmas
 pub mod MatchLemmas
 pub mod MemberLemmas

@@ -43,3 +43,9 @@ far_by src (Choices choices) = far_from src choices.now
 abbrev pub AreFull : Source → Statuses → Type 0
 AreFull src (Table fars) = length fars.now ≡ 16384
 AreFull src (Choices choices) = length choices.now ≡ length src.rows
+
+-- a table of all codes tells the statuses that are kept of the first n rows, and allows the destination
+pub record TellsKept (src : Source) (ks : List KeptValue) (fars : List Far) (n : ℕ) : Type 0 where
+  pub coded : length fars ≡ 16384
+  pub dest : far_at fars src.dest ≡ Allowed
+  pub rows : (i : ℕ) (row : Row) (k : KeptValue) → i < n → slice_get src.rows i ≡ Some row → slice_get ks i ≡ Some k → far_at fars row.point ≡ k.status

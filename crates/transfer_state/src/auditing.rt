@@ -1,20 +1,26 @@
 //! The local certificate of what is kept of a table: whether the choice of each row is what it makes of the messages that follow
 //! from its neighbours' choices.
+//!
+//! The row of a via doesn't lead back, so what is heard over a via is its status, which a table of all codes tells. A mate's may,
+//! and its message is worked out.
 
-ghost use Rattle.std.specs.Prelude.{◌≡◌, ◌≢◌, IfErr, OnOk, OnErr, length};
+ghost use Rattle.std.specs.Prelude.{◌≡◌, ◌≢◌, IfErr, OnOk, OnErr, Some, length};
 ghost use Rattle.std.specs.Option.{MatchOption};
 ghost use Rattle.net_items.specs.declared.lists.Row.{Row};
-ghost use Rattle.profile.specs.Status.{Source};
-ghost use Rattle.profile.specs.Whole.{scratch, state_of, IsSettledTable};
+ghost use Rattle.profile.specs.Status.{Source, source_row};
+ghost use Rattle.profile.specs.Whole.{choice_heard, scratch, state_of, IsSettledTable};
 ghost use Rattle.excerpts.specs.Excerpt.{source_of};
 ghost use Rattle.transfer_state.specs.Complaints.{kept_table, IsFirstComplaint, IsWrongIn};
+ghost use Rattle.transfer_state.specs.Told.{TellsKept};
 
-use crate::choosing::{is_same_status, rows_of};
+use crate::choosing::{Statuses, fars_of, is_same_status, rows_of};
 use crate::complaints::{Clause, Complaint, is_same_route};
-use crate::hearing::{Heard, choice_heard};
+use crate::hearing::{Heard, mate_heard};
 use crate::kept::{Kept, opened_choice};
+use crate::sweep::{CODE_COUNT, tell};
 use excerpts::Excerpt;
-use route_choice::Choice;
+use net_items::Row;
+use route_choice::{Choice, Far};
 
 /// The first clause in which a choice is wrong. Links and messages follow from it.
 fn fault_of(choice: &Choice, right: &Choice) -> Option<Clause>
@@ -29,6 +35,33 @@ fn fault_of(choice: &Choice, right: &Choice) -> Option<Clause>
     None
 }
 
+/// Tells the statuses that are kept of the rows, and allows the destination.
+fn tell_kept(e: &Excerpt, kept: &[Kept], fars: &mut [Far])
+    requires together { length kept.now ≡ length e.now.plan.rows }
+    requires coded { length fars.old ≡ 16384 }
+    ensures { TellsKept (source_of e.now) kept.now fars.new (length e.now.plan.rows) }
+{
+    e.validity();
+    let rows = rows_of(e);
+    tell(fars, e.dest(), Far::Allowed);
+    for i in 0..rows.len() {
+        tell(fars, rows[i].point, kept[i].status());
+    }
+}
+
+/// The choice that a row makes by what it hears, where a table tells the statuses that are kept.
+fn choice_told(e: &Excerpt, kept: &[Kept], fars: &[Far], row: &Row) -> Choice
+    requires together { length kept.now ≡ length e.now.plan.rows }
+    requires told { TellsKept (source_of e.now) kept.now fars.now (length e.now.plan.rows) }
+    requires planned { source_row (source_of e.now) row.now.point ≡ Some row.now }
+    ensures { result ≡ choice_heard (source_of e.now) (kept_table (source_of e.now) kept.now) row.now }
+{
+    e.validity();
+    let mate = mate_heard(e, &Heard::Kept(kept), row);
+    let fars = fars_of(e, &Statuses::Table(fars), row);
+    route_choice::choose(row, &fars, mate, e.tfr())
+}
+
 /// Whether what is kept of the choices of all rows is that of the excerpt's table, told by each row and the messages that its
 /// neighbours' choices make (own, after Q.704 clauses 13.2 to 13.4). It takes no memory.
 ///
@@ -41,10 +74,11 @@ pub(crate) fn check_kept(e: &Excerpt, kept: &[Kept]) -> Result<(), Complaint>
 {
     e.validity();
     let rows = rows_of(e);
-    let heard = Heard::Kept(kept);
+    let mut fars = [Far::Prohibited; CODE_COUNT];
+    tell_kept(e, kept, &mut fars);
     for i in 0..rows.len() {
         let row = &rows[i];
-        let right = choice_heard(e, &heard, row);
+        let right = choice_told(e, kept, &fars, row);
         let choice = opened_choice(e, row, kept[i]);
         if let Some(clause) = fault_of(&choice, &right) {
             return Err(Complaint {

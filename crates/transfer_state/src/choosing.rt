@@ -92,7 +92,7 @@ fn fars_in(e: &Excerpt, statuses: &Statuses<'_>, point: PointCode, vias: &[Point
 }
 
 /// What a row is offered over its vias, in their places.
-fn fars_of(e: &Excerpt, statuses: &Statuses<'_>, row: &Row) -> [[Far; 2]; 4]
+pub(crate) fn fars_of(e: &Excerpt, statuses: &Statuses<'_>, row: &Row) -> [[Far; 2]; 4]
     requires full { AreFull (source_of e.now) statuses.now }
     requires few { length row.now.classes ≤ 4 }
     requires small { All (λ vias. length vias ≤ 2) row.now.classes }

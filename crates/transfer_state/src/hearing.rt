@@ -136,7 +136,7 @@ fn fars_heard(e: &Excerpt, heard: &Heard<'_>, row: &Row) -> [[Far; 2]; 4]
 }
 
 /// What a row hears of its mate, if it may use it.
-fn mate_heard(e: &Excerpt, heard: &Heard<'_>, row: &Row) -> Option<(PointCode, Far)>
+pub(crate) fn mate_heard(e: &Excerpt, heard: &Heard<'_>, row: &Row) -> Option<(PointCode, Far)>
     requires { HasAllPoints (source_of e.now) heard.now }
     ensures { mate_of_pair result ≡ mate_from (source_of e.now) (heard_table (source_of e.now) heard.now) row.now }
 {

@@ -14,10 +14,10 @@ use route_choice::{Choice, Far};
 use std::alloc::{AllocError, Global};
 
 /// How many signalling point codes there are (Q.704 clause 2.2).
-const CODE_COUNT: usize = 16384;
+pub(crate) const CODE_COUNT: usize = 16384;
 
 /// Tells the far status of a code.
-fn tell(fars: &mut [Far], code: PointCode, far: Far)
+pub(crate) fn tell(fars: &mut [Far], code: PointCode, far: Far)
     requires { length fars.old ≡ 16384 }
     ensures { fars.new ≡ slice_set fars.old code far }
 {
