@@ -47,11 +47,12 @@ impl Console {
         ensures call { IfOk result (λ text. Calls (λ s. Posts s collector seq event) posted_text self.old (string_bytes text) self.new) }
         ensures plain { IfOk result (λ text. line_count (string_bytes text) ≡ 0) }
     {
-        let reply = self.desk.post(alloc, collector, seq, event);
-        if !has_memory(&reply) {
-            return Err(AllocError);
+        // Taken apart at once: nearly all posts are accepted, and then no refusal is moved.
+        match self.desk.post(alloc, collector, seq, event) {
+            Ok(posted) => write_posted(alloc, Ok(posted)),
+            Err(Refusal::OutOfMemory) => Err(AllocError),
+            Err(refusal) => write_posted(alloc, Err(refusal)),
         }
-        write_posted(alloc, reply)
     }
 
     /// An event, posted by collector 0.

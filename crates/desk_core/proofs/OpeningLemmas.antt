@@ -13,6 +13,7 @@ use Rattle.net_data.specs.Network.{Network}
 use Rattle.net_data.specs.Valid.{IsValid, IsRightPlan}
 use Rattle.excerpts.specs.Excerpt.{ExcerptValue, excerpt_in}
 use Rattle.transfer_state.specs.Routing.{RoutingSlotValue}
+use Rattle.dirty_sets.specs.Bits.{is_marked}
 use Rattle.dirty_sets.specs.Touch.{is_planned}
 use Rattle.dirty_sets.specs.Marks.{Marked}
 use Rattle.dirty_sets.specs.Waiting.{Task, all_waiting, waiting, waiting_task}
@@ -157,6 +158,15 @@ to_settle_is s latest marked i valid =
     (All-map (λ x. x < 16384) (λ (p : Plan). p.dest) latest.plans (All-then (λ (p : Plan). p.dest) (IsRightPlan latest.points latest.sets) (λ p. p.dest < 16384) (λ p right. coded latest.points p.dest valid.codes_small right.is_there) latest.plans valid.plans_right))
     (λ x low. i.since x low)
     ∙ ap (λ (n : Network). filter (touched_by s.published.network s.pending) (dests n.plans)) i.is_now
+
+-- the same of the destinations that are marked in a table
+pub to_settle_marked : (s : DeskValue) (latest : Network) (marked : Marked) (bits : List Bool) → IsInside s latest marked None → IsValid latest → ((x : ℕ) → is_marked bits x ≡ marked.touched x) → filter (is_marked bits) (dests latest.plans) ≡ to_settle s
+to_settle_marked s latest marked bits i valid same =
+    filter_each (is_marked bits) marked.touched same (dests latest.plans) ∙ to_settle_is s latest marked i valid
+  where
+    filter_each : (p q : ℕ → Bool) → ((x : ℕ) → p x ≡ q x) → (xs : List ℕ) → filter p xs ≡ filter q xs
+    filter_each p q each [] = refl
+    filter_each p q each (x ∷ xs) = ap (λ b. cond b (x ∷ filter p xs) (filter p xs)) (each x) ∙ ap (λ ys. cond (q x) (x ∷ ys) ys) (filter_each p q each xs)
 
 -- what an opening answers, if it isn't refused
 pub opens_is : (s new : DeskValue) (answer : Opened) → s.target ≡ None → eqb (length s.pending) 0 ≡ false → answer ≡ record { target = accepted s; waiting = length (to_settle s) } → new ≡ with_target s → Opens s (Ok answer) new

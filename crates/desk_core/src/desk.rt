@@ -272,11 +272,12 @@ impl Desk {
         }
         self.latest.validity();
         let number = self.accepted();
+        let touched = self.touched.all();
         match new_target(
             alloc,
             number,
             &self.latest,
-            &self.touched,
+            &touched,
             &self.published,
             &self.pending,
         ) {

@@ -1,7 +1,8 @@
 //! The network now, and what events touch, kept together.
 
-ghost use Rattle.std.specs.Prelude.{◌≡◌, ◌<◌, ◌≤◌, ◌+◌, true, None, IfOk, IsOk, OnOk, OnErr, length, drop};
+ghost use Rattle.std.specs.Prelude.{◌≡◌, ◌<◌, ◌≤◌, ◌+◌, true, None, IfOk, IsOk, OnOk, OnErr, is_some, length, drop};
 ghost use Rattle.std.specs.Vec.{vec_len, vec_capacity};
+ghost use Rattle.net_items.specs.Lookups.{plan_at};
 ghost use Rattle.net_data.specs.Kinds.{is_link};
 ghost use Rattle.net_data.specs.Edits.{changed, refusal_of};
 ghost use Rattle.dirty_sets.specs.Touch.{IsTouchIndex};
@@ -11,7 +12,9 @@ ghost use Rattle.desk_core.specs.Inside.{IsSameMarked};
 
 use dirty_sets::Touched;
 use link_state::LinkChange;
+use net_data::sorting::kept_plan;
 use net_data::{Event, Net};
+use net_items::Plan;
 use std::alloc::{AllocError, Global};
 
 /// Applies an accepted change of a link. It takes no memory.
@@ -49,11 +52,34 @@ fn follow_edit(
 {
     touched.make_room()?;
     let mut after = latest.copy(alloc)?;
-    if after.apply(alloc, event).is_err() {
-        return Err(AllocError);
-    }
+    after.change(alloc, event)?;
     touched.note(latest, event);
     *latest = after;
+    Ok(())
+}
+
+/// Puts an accepted plan in the place of one of its destination: only the plan is made anew. Memory first, so that a refusal leaves
+/// all as it was.
+fn follow_plan(
+    alloc: Global,
+    latest: &mut Net,
+    touched: &mut Touched,
+    event: &Event,
+    plan: &Plan,
+) -> Result<(), AllocError>
+    requires index { IsTouchIndex latest.old (marks_of touched.old).index }
+    requires accepted { refusal_of latest.old event.now ≡ None }
+    requires plan { event.now ≡ Event.SetPlan plan.now }
+    requires there { is_some (plan_at latest.old.plans plan.now.dest) ≡ true }
+    ensures latest { OnOk result (latest.new ≡ changed latest.old event.now) }
+    ensures noted { OnOk result (IsNoted latest.old event.now (marks_of touched.old) (marks_of touched.new)) }
+    ensures kept { OnErr result (latest.new ≡ latest.old) }
+    ensures same { OnErr result (IsSameMarked (marks_of touched.old) (marks_of touched.new)) }
+{
+    touched.make_room()?;
+    let kept = kept_plan(alloc, plan)?;
+    touched.note(latest, event);
+    latest.replace_plan(plan, kept);
     Ok(())
 }
 
@@ -76,6 +102,9 @@ fn follow(
         Event::Link(id, slc, change) => {
             follow_link(latest, touched, event, *id, *slc, *change);
             Ok(())
+        }
+        Event::SetPlan(plan) if latest.plan(plan.dest).is_some() => {
+            follow_plan(alloc, latest, touched, event, plan)
         }
         _ => follow_edit(alloc, latest, touched, event),
     }

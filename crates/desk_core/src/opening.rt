@@ -7,11 +7,11 @@ ghost use Rattle.excerpts.specs.Excerpt.{content_at};
 ghost use Rattle.dirty_sets.specs.Touch.{is_planned};
 ghost use Rattle.net_data.specs.Edits.{replay};
 ghost use Rattle.desk_core.specs.Targets.{DiffersBy, IsSlotFor, routing_slot_of};
-ghost use Rattle.dirty_sets.specs.Touched.{marks_of};
+ghost use Rattle.dirty_sets.specs.Bits.{is_marked};
 ghost use Rattle.dirty_sets.specs.Waiting.{all_waiting};
 
 use crate::targets::{Difference, Target};
-use dirty_sets::{Touched, Waiting};
+use dirty_sets::{Codes, Waiting};
 use excerpts::{Excerpt, Frozen};
 use net_data::{Event, Net};
 use net_versions::Version;
@@ -21,14 +21,14 @@ use std::sync::Arc;
 use transfer_state::RoutingSlot;
 
 /// The planned destinations that were touched, in rising code.
-fn touched_dests(alloc: Global, net: &Net, touched: &Touched) -> Result<Vec<PointCode>, AllocError>
-    ensures { IfOk result (λ dests. dests.items ≡ filter (marks_of touched.now).touched (map (λ p. p.dest) net.now.plans)) }
+fn touched_dests(alloc: Global, net: &Net, touched: &Codes) -> Result<Vec<PointCode>, AllocError>
+    ensures { IfOk result (λ dests. dests.items ≡ filter (is_marked touched.now) (map (λ p. p.dest) net.now.plans)) }
 {
     let plans = net.plans();
     let mut dests = Vec::new(alloc);
     for position in 0..plans.len() {
         let dest = plans.at(position).dest;
-        if touched.is_touched(dest) {
+        if touched.has(dest) {
             dests.push(dest)?;
         }
     }
@@ -40,12 +40,12 @@ fn touched_dests(alloc: Global, net: &Net, touched: &Touched) -> Result<Vec<Poin
 fn slot_for(
     net: &Frozen,
     dest: PointCode,
-    touched: &Touched,
+    touched: &Codes,
     version: &Version,
 ) -> Result<RoutingSlot, AllocError>
     requires planned { is_planned net.now dest ≡ true }
-    requires kept { (x : ℕ) → x < 16384 → (marks_of touched.now).touched x ≡ false → content_at net.now x ≡ content_at version.now.network x }
-    ensures { IfOk result (λ p. IsSlotFor net.now dest (not ((marks_of touched.now).touched dest)) p) }
+    requires kept { (x : ℕ) → x < 16384 → is_marked touched.now x ≡ false → content_at net.now x ≡ content_at version.now.network x }
+    ensures { IfOk result (λ p. IsSlotFor net.now dest (not (is_marked touched.now dest)) p) }
 {
     // The proof reads the code's range from this.
     let _number = dest.number();
@@ -53,7 +53,7 @@ fn slot_for(
         Ok(excerpt) => excerpt,
         Err(_) => return Err(AllocError),
     };
-    if touched.is_touched(dest) {
+    if touched.has(dest) {
         return Ok(RoutingSlot::new(excerpt));
     }
     match version.routing(dest) {
@@ -66,12 +66,12 @@ fn slot_for(
 fn slot_at(
     net: &Frozen,
     position: usize,
-    touched: &Touched,
+    touched: &Codes,
     version: &Version,
 ) -> Result<RoutingSlot, AllocError>
     requires position { position < length net.now.plans }
-    requires kept { (x : ℕ) → x < 16384 → (marks_of touched.now).touched x ≡ false → content_at net.now x ≡ content_at version.now.network x }
-    ensures { IfOk result (λ p. (d : Plan) → p ≡ routing_slot_of net.now (marks_of touched.now).touched (slice_index_or net.now.plans position d)) }
+    requires kept { (x : ℕ) → x < 16384 → is_marked touched.now x ≡ false → content_at net.now x ≡ content_at version.now.network x }
+    ensures { IfOk result (λ p. (d : Plan) → p ≡ routing_slot_of net.now (is_marked touched.now) (slice_index_or net.now.plans position d)) }
 {
     net.validity();
     let dest = net.net().plans().at(position).dest;
@@ -86,11 +86,11 @@ fn slot_at(
 fn all_slots(
     alloc: Global,
     net: &Frozen,
-    touched: &Touched,
+    touched: &Codes,
     version: &Version,
 ) -> Result<Vec<RoutingSlot>, AllocError>
-    requires { (x : ℕ) → x < 16384 → (marks_of touched.now).touched x ≡ false → content_at net.now x ≡ content_at version.now.network x }
-    ensures { IfOk result (λ v. v.items ≡ map (routing_slot_of net.now (marks_of touched.now).touched) net.now.plans) }
+    requires { (x : ℕ) → x < 16384 → is_marked touched.now x ≡ false → content_at net.now x ≡ content_at version.now.network x }
+    ensures { IfOk result (λ v. v.items ≡ map (routing_slot_of net.now (is_marked touched.now)) net.now.plans) }
 {
     let plans = net.net().plans();
     let mut slots = Vec::with_capacity(alloc, plans.len())?;
@@ -109,8 +109,8 @@ fn frozen_copy(alloc: Global, net: &Net, before: &Frozen) -> Result<Frozen, Allo
 }
 
 /// The touched destinations, all of which wait.
-fn waiting_dests(alloc: Global, net: &Net, touched: &Touched) -> Result<Waiting, AllocError>
-    ensures { IfOk result (λ w. w ≡ all_waiting (filter (marks_of touched.now).touched (map (λ p. p.dest) net.now.plans))) }
+fn waiting_dests(alloc: Global, net: &Net, touched: &Codes) -> Result<Waiting, AllocError>
+    ensures { IfOk result (λ w. w ≡ all_waiting (filter (is_marked touched.now) (map (λ p. p.dest) net.now.plans))) }
 {
     net.validity();
     let dests = touched_dests(alloc, net, touched)?;
@@ -141,13 +141,13 @@ pub(crate) fn new_target(
     alloc: Global,
     number: u64,
     latest: &Net,
-    touched: &Touched,
+    touched: &Codes,
     version: &Arc<Version>,
     events: &[Event],
 ) -> Result<Target, AllocError>
     requires now { latest.now ≡ replay (arc_value version.now).network events.now }
-    requires kept { (x : ℕ) → x < 16384 → (marks_of touched.now).touched x ≡ false → content_at latest.now x ≡ content_at (arc_value version.now).network x }
-    ensures { IfOk result (λ t. t ≡ record { number = number; network = latest.now; tasks = all_waiting (filter (marks_of touched.now).touched (map (λ p. p.dest) latest.now.plans)) }) }
+    requires kept { (x : ℕ) → x < 16384 → is_marked touched.now x ≡ false → content_at latest.now x ≡ content_at (arc_value version.now).network x }
+    ensures { IfOk result (λ t. t ≡ record { number = number; network = latest.now; tasks = all_waiting (filter (is_marked touched.now) (map (λ p. p.dest) latest.now.plans)) }) }
 {
     let net = frozen_copy(alloc, latest, version.net())?;
     let waiting = waiting_dests(alloc, latest, touched)?;

@@ -51,12 +51,15 @@ impl Model for Target {
     ghost invariant = { λ t. record { filled : AreFilled t.net t.waiting t.slots.items; differs : DiffersBy t.net t.difference } };
 }
 
-/// The place of a destination, or where it would go.
-fn position_of_slot(slots: &[RoutingSlot], dest: PointCode) -> Result<usize, usize>
+/// The place of a destination, or where it would go. It is looked for first in a place.
+fn position_of_slot(slots: &[RoutingSlot], first: usize, dest: PointCode) -> Result<usize, usize>
     requires { IsRising (λ s. s.excerpt.plan.dest) slots.now }
     ensures found { IfOk result (IsFoundAt (λ s. s.excerpt.plan.dest) dest slots.now) }
     ensures absent { IfErr result (IsGapAt (λ s. s.excerpt.plan.dest) dest slots.now) }
 {
+    if first < slots.len() && slots[first].dest() == dest {
+        return Ok(first);
+    }
     slots.binary_search_by_key(&dest, |p| p.dest())
 }
 
@@ -201,7 +204,8 @@ impl Target {
     {
         self.net.validity();
         let dest = settled.dest();
-        match position_of_slot(self.slots.as_slice(), dest) {
+        let first = self.net.expected(self.slots.len(), dest);
+        match position_of_slot(self.slots.as_slice(), first, dest) {
             Ok(at) => self.slots[at].fill(settled.into_routing()),
             Err(_) => unreachable!(),
         }

@@ -1,17 +1,21 @@
 -- The sets that a plan's table can read.
-use Rattle.std.proofs.Common.{◌≡◌, ℕ, Bool, true, false, ◌&&◌, ◌||◌, eqb, is_some, Some, All, ◌⊎◌, inl, inr, refl, ap, sym, ◌∙◌, List, arith}
-use Rattle.std.specs.List.{list_any}
-use Rattle.std.proofs.lemmas.Bool.{eq-eqb, ne_eqb}
-use Rattle.std.proofs.lemmas.List.Elements.{All-weaker}
+use Rattle.std.proofs.Common.{◌≡◌, ℕ, Bool, true, false, ◌&&◌, ◌||◌, eqb, is_some, Some, None, All, ◌⊎◌, inl, inr, refl, ap, sym, ◌∙◌, List, [], ◌∷◌, arith}
+use Rattle.std.specs.List.{AllByRecursion, list_all, list_any}
+use Rattle.std.proofs.lemmas.Bool.{and_parts, eq-eqb, eqb-true, ne_eqb, or_cases}
+use Rattle.std.proofs.lemmas.List.Elements.{All-from_recursion, All-weaker}
 use Rattle.std.proofs.lemmas.List.Folds.{list_any_none}
 use Rattle.net_items.specs.declared.items.Point.{Point}
 use Rattle.net_items.specs.declared.items.LinkSet.{LinkSet}
 use Rattle.net_items.specs.declared.items.Plan.{Plan}
 use Rattle.net_items.specs.declared.lists.Row.{Row}
 use Rattle.net_items.specs.Lookups.{joins, row_at, is_stp}
+use Rattle.plan_rows.specs.Rows.{has_lower_row, is_lower}
+use Rattle.net_data.specs.declared.events.Event.TheVariants as on
+use Rattle.net_data.specs.Edits.{refusal_of}
 use Rattle.net_data.specs.Network.{Network}
-use Rattle.net_data.specs.Valid.{IsRightPlan}
+use Rattle.net_data.specs.Valid.{IsRightPlan, IsRightRow}
 use Rattle.net_data.specs.Valid.{IsValid as IsValidNet}
+use Rattle.net_data.proofs.PreservationLemmas.{accepted_rows}
 use Rattle.profile.specs.Valid.{IsVia, IsValidRow}
 use Rattle.excerpts.specs.Excerpt.{network_source}
 use Rattle.excerpts.proofs.SourceLemmas.{source_valid}
@@ -67,3 +71,40 @@ leads_on net v plan right =
       | inl e ↦ inl e
       | inr low ↦ inr (let there : row_at plan.rows via ≡ Some low.below = low.planned in let stp : is_stp net.points via ≡ true = low.transfers in rw (there, stp) refl)
     ]
+
+-- a point with a row of lower rank has a row
+row_there : (rows : List Row) (z rank : ℕ) → has_lower_row rows z rank ≡ true → is_some (row_at rows z) ≡ true
+row_there [] z rank e = cc
+row_there (row ∷ rows) z rank e = go (eqb row.point z) refl (row_there rows z rank)
+  where
+    go : (b : Bool) → eqb row.point z ≡ b → (has_lower_row rows z rank ≡ true → is_some (row_at rows z) ≡ true) → is_some (row_at (row ∷ rows) z) ≡ true
+    go true t rest = rw t refl
+    go false t rest = rw t (rest (rw t at e))
+
+-- the vias of a plan that isn't refused lead on, in whatever order its rows stand
+pub leads_accepted : (net : Network) (plan : Plan) → refusal_of net (on.SetPlan plan) ≡ None → LeadsOn net.points plan
+leads_accepted net plan none = All-from_recursion (λ (row : Row). All (All (LeadsTo net.points plan)) row.classes) plan.rows (rows_lead plan.rows (accepted_rows net plan none))
+  where
+    lead : (row : Row) (via : ℕ) → is_lower net.points plan.dest plan.rows row via ≡ true → LeadsTo net.points plan via
+    lead row via e = elim (or_cases (eqb via plan.dest) _ e) [
+      | inl t ↦ inl (eqb-true via plan.dest t)
+      | inr t ↦
+          let both = and_parts (is_stp net.points via) _ t in
+          let stp : is_stp net.points via ≡ true = both.0 in
+          let there : is_some (row_at plan.rows via) ≡ true = row_there plan.rows via row.rank both.1 in
+          inr (rw (stp, there) refl)
+    ]
+
+    vias_lead : (row : Row) (vias : List ℕ) → list_all (is_lower net.points plan.dest plan.rows row) vias ≡ true → AllByRecursion (LeadsTo net.points plan) vias
+    vias_lead row [] e = tt
+    vias_lead row (via ∷ vias) e = let both = and_parts (is_lower net.points plan.dest plan.rows row via) _ e in (lead row via both.0, vias_lead row vias both.1)
+
+    classes_lead : (row : Row) (classes : List (List ℕ)) → list_all (λ vias. list_all (is_lower net.points plan.dest plan.rows row) vias) classes ≡ true → AllByRecursion (All (LeadsTo net.points plan)) classes
+    classes_lead row [] e = tt
+    classes_lead row (vias ∷ classes) e =
+        let both = and_parts (list_all (is_lower net.points plan.dest plan.rows row) vias) _ e in
+        (All-from_recursion (LeadsTo net.points plan) vias (vias_lead row vias both.0), classes_lead row classes both.1)
+
+    rows_lead : (rows : List Row) → AllByRecursion (IsRightRow net.points net.sets plan.dest plan.rows) rows → AllByRecursion (λ (row : Row). All (All (LeadsTo net.points plan)) row.classes) rows
+    rows_lead [] all = tt
+    rows_lead (row ∷ rows) all = (All-from_recursion (All (LeadsTo net.points plan)) row.classes (classes_lead row row.classes all.0.vias_lower), rows_lead rows all.1)

@@ -2,6 +2,7 @@
 
 ghost use Rattle.std.specs.Prelude.{◌≡◌, ◌<◌, ◌||◌, ℕ, List, true, None, length, OnOk, OnErr, IfOk, IsOk, slice_index_or};
 ghost use Rattle.net_items.specs.declared.items.Plan.{Plan as ThePlan};
+ghost use Rattle.net_items.specs.Lookups.{is_stp as stp_is};
 ghost use Rattle.net_data.specs.Edits.{refusal_of, changed, takes_none};
 ghost use Rattle.dirty_sets.specs.Bits.{is_marked};
 ghost use Rattle.dirty_sets.specs.Touch.{IsTouchIndex, is_planned, sets_plan as plan_is_set, touched as touched_by, touches};
@@ -39,16 +40,17 @@ impl Model for TouchIndex {
     ghost invariant = { λ t. IsRising (λ r. r.dest) t.readers.items };
 }
 
-/// The reader of the plan at a place.
-fn reader_at(net: &Net, position: usize) -> Reader
-    requires { position < length net.now.plans }
+/// The reader of the plan at a place, where the transfer points are marked.
+fn reader_at(net: &Net, transfers: &Codes, position: usize) -> Reader
+    requires there { position < length net.now.plans }
+    requires transfers { (x : ℕ) → x < 16384 → is_marked transfers.now x ≡ stp_is net.now.points x }
     ensures { (d : ThePlan) → IsReaderOf net.now.points net.now.sets (slice_index_or net.now.plans position d) result }
 {
     net.validity();
     let plan = net.plans().at(position);
     Reader {
         dest: plan.dest,
-        ids: sets_read(net.points(), plan, true, net.sets()),
+        ids: sets_read(net.points(), transfers, plan, true, net.sets()),
     }
 }
 
@@ -81,9 +83,10 @@ impl TouchIndex {
     {
         net.validity();
         let count = net.plans().len();
+        let transfers = Codes::of_transfers(net.points());
         let mut list = Vec::with_capacity(alloc, count)?;
         for position in 0..count {
-            list.push(reader_at(net, position))?;
+            list.push(reader_at(net, &transfers, position))?;
         }
         Ok(TouchIndex {
             alloc,
@@ -146,7 +149,8 @@ impl TouchIndex {
         ensures { IsTouchIndex (changed before.now (Event.SetPlan plan.now)) (reads_of self.new) }
     {
         before.validity();
-        let ids = sets_read(before.points(), plan, false, before.sets());
+        let transfers = Codes::of_transfers(before.points());
+        let ids = sets_read(before.points(), &transfers, plan, false, before.sets());
         readers::put_reader(
             &mut self.readers,
             Reader {
@@ -267,13 +271,6 @@ impl TouchIndex {
         ensures { (x : ℕ) → is_marked marks.new x ≡ (is_marked marks.old x || any_read self.now.readers ids.now x) }
     {
         readers::mark_any_readers(self.readers.as_slice(), ids, marks);
-    }
-
-    /// Whether the table of a destination reads one of some sets.
-    pub(crate) fn reads_any(&self, dest: PointCode, ids: &NotedIds) -> bool
-        ensures { result ≡ any_read self.now.readers ids.now dest }
-    {
-        readers::reads_any(self.readers.as_slice(), dest, ids)
     }
 
     /// The destinations that an accepted event touches, in rising code.

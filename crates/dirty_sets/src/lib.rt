@@ -11,7 +11,7 @@
 //! Touched, Waiting), proofs/ and must-fail/.
 #![tactic(auto)]
 
-mod bits;
+pub mod bits;
 pub mod index;
 pub mod laws;
 mod noted;
@@ -20,6 +20,7 @@ mod reading;
 pub mod touched;
 pub mod waiting;
 
+pub use bits::Codes;
 pub use index::TouchIndex;
 pub use laws::untouched_law;
 pub use touched::Touched;

@@ -45,17 +45,6 @@ pub fn reads(readers: &[Reader], dest: PointCode, id: u16) -> bool
     }
 }
 
-/// Whether the table of a destination reads one of some sets.
-pub fn reads_any(readers: &[Reader], dest: PointCode, ids: &NotedIds) -> bool
-    requires { IsRising (λ r. r.dest) readers.now }
-    ensures { result ≡ any_read readers.now ids.now dest }
-{
-    match position_of_reader(readers, dest) {
-        Ok(at) => ids.meets(&readers[at].ids),
-        Err(_) => false,
-    }
-}
-
 /// Whether the table of a destination would read a set.
 fn would_read_set(net: &Net, set: &LinkSet, dest: PointCode) -> bool
     ensures { result ≡ would_read net.now set.now dest }

@@ -13,7 +13,6 @@ use crate::bits::Codes;
 use crate::index::TouchIndex;
 use crate::noted::NotedIds;
 use net_data::{Event, Net};
-use point_codes::PointCode;
 use std::alloc::{AllocError, Global};
 use std::marker::Model;
 
@@ -48,11 +47,13 @@ impl Touched {
         })
     }
 
-    /// Whether a destination was touched.
-    pub fn is_touched(&self, dest: PointCode) -> bool
-        ensures { result ≡ (marks_of self.now).touched dest }
+    /// The destinations that were touched, marked.
+    pub fn all(&self) -> Codes
+        ensures { (x : ℕ) → is_marked result x ≡ (marks_of self.now).touched x }
     {
-        self.marks.has(dest) || self.index.reads_any(dest, &self.ids)
+        let mut marks = self.marks.copy();
+        self.index.mark_any(&self.ids, &mut marks);
+        marks
     }
 
     /// Makes room for one more plan.

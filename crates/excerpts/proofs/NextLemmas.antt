@@ -44,6 +44,16 @@ found_after (suc i) (j ∷ js) q within less =
     let below : j.pair < q = less 0 j (omega arith) in
     rw (ne_eqb j.pair q (λ e. omega arith)) (found_after i js q (omega arith) (λ k d lt. less (suc k) d (omega arith)))
 
+-- a pair isn't there if all pairs before a place are smaller, and the one in it, if there is one, is greater
+pub passed_over : (js : List Joint) (q i : ℕ) (d : Joint) → IsRising (λ (j : Joint). j.pair) js → i ≤ length js → ((k : ℕ) (d : Joint) → k < i → (get_or js k d).pair < q) → (i < length js → q < (get_or js i d).pair) → at_key (λ (j : Joint). j.pair) q js ≡ None
+passed_over [] q i d up within less more = refl
+passed_over (j ∷ js) q zero d up within less more =
+    let above : q < j.pair = more (omega arith) in
+    none_above q (j ∷ js) (above, All-then (λ (k : Joint). k.pair) (λ (k : Joint). j.pair < k.pair) (λ (k : Joint). q < k.pair) (λ k h. omega (arith, h, above)) js up.0)
+passed_over (j ∷ js) q (suc i) d up within less more =
+    let below : j.pair < q = less 0 j (omega arith) in
+    rw (ne_eqb j.pair q (λ e. omega arith)) (passed_over js q i d up.1 (omega arith) (λ k e lt. less (suc k) e (omega arith)) (λ lt. more (omega arith)))
+
 -- the joints from a place on tell which points from a code on are up
 pub record IsLeft (js : List Joint) (y from i : ℕ) : Type 0 where
   pub rise : IsRising (λ (j : Joint). j.pair) (drop i js)

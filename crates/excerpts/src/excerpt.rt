@@ -85,10 +85,8 @@ impl Excerpt {
     {
         let network = net.net();
         network.validity();
-        if network.plan(dest).is_none() {
-            return Err(ExcerptFault::NoPlan);
-        }
-        let plan = match network.share_plan(dest) {
+        let first = net.expected(network.plans().len(), dest);
+        let plan = match network.share_plan(first, dest) {
             Ok(Some(plan)) => plan,
             Ok(None) => return Err(ExcerptFault::NoPlan),
             Err(_) => return Err(ExcerptFault::OutOfMemory),
@@ -137,7 +135,7 @@ impl Excerpt {
         ensures absent { IfErr result (IsGapAt (λ r. r.point) point self.now.plan.rows) }
     {
         self.validity();
-        place_of_row(self.net.net().points(), self.plan.rows.as_slice(), point)
+        place_of_row(self.net.order(), self.plan.rows.as_slice(), point)
     }
 
     /// The row of a point, if it has one.

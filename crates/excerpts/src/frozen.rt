@@ -12,6 +12,7 @@ ghost use Rattle.excerpts.specs.Turned.{HasTurned};
 
 use crate::indexed::Indexed;
 use crate::neighbours::Neighbours;
+use crate::places::PointOrder;
 use crate::turned::{Ends, turned_by};
 use net_data::{Event, Net};
 use net_items::LinkSet;
@@ -77,6 +78,17 @@ impl Frozen {
         ensures { result.now ≡ self.now }
     {
         self.indexed.net()
+    }
+
+    /// Where what a point has one of, as a plan, stands among so many in rising code, if the points without one are spread evenly.
+    /// It tells where to look first, and nothing rests on it.
+    pub fn expected(&self, count: usize, code: PointCode) -> usize {
+        self.indexed.order().expected(count, code)
+    }
+
+    /// Where the points stand among all.
+    pub(crate) fn order(&self) -> &PointOrder {
+        self.indexed.order()
     }
 
     /// Whether an available set joins two points (own, after Q.704 clause 3.2).

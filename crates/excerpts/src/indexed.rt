@@ -9,17 +9,20 @@ ghost use Rattle.link_sets.specs.Neighbours.{next_from, IsCodeFrom};
 
 use crate::index::{are_same_ends, find_joint, index_after, index_of, next_up};
 use crate::joints::Joints;
+use crate::places::PointOrder;
 use net_data::Net;
 use net_items::LinkSet;
 use point_codes::PointCode;
 use std::alloc::{AllocError, Global};
 use std::marker::Model;
+use std::sync::Arc;
 
-/// A network that doesn't change, with an index of the pairs that its sets join.
+/// A network that doesn't change, with an index of the pairs that its sets join, and where its points stand.
 #[derive(Drop)]
 pub struct Indexed {
     net: Net,
     joints: Joints,
+    order: Arc<PointOrder>,
 }
 
 impl Model for Indexed {
@@ -40,7 +43,20 @@ impl Indexed {
     {
         let list = index_of(alloc, net.sets())?;
         let joints = Joints::new(alloc, list)?;
-        Ok(Indexed { net, joints })
+        let order = Arc::new(alloc, PointOrder::new(alloc, net.points())?)?;
+        Ok(Indexed { net, joints, order })
+    }
+
+    /// The order of the points, shared if there are as many as in the network before.
+    fn order_after(
+        alloc: Global,
+        net: &Net,
+        before: &Indexed,
+    ) -> Result<Arc<PointOrder>, AllocError> {
+        if before.net.points().len() == net.points().len() {
+            return Arc::try_clone(&before.order);
+        }
+        Ok(Arc::new(alloc, PointOrder::new(alloc, net.points())?)?)
     }
 
     /// The same, made faster if the sets of an earlier network join the same points, place by place.
@@ -53,7 +69,8 @@ impl Indexed {
         }
         let list = index_after(alloc, before.joints.as_slice(), net.sets())?;
         let joints = Joints::new(alloc, list)?;
-        Ok(Indexed { net, joints })
+        let order = Indexed::order_after(alloc, &net, before)?;
+        Ok(Indexed { net, joints, order })
     }
 
     /// The network.
@@ -61,6 +78,11 @@ impl Indexed {
         ensures { result.now ≡ self.now }
     {
         &self.net
+    }
+
+    /// Where the points stand among all.
+    pub fn order(&self) -> &PointOrder {
+        &self.order
     }
 
     /// The fact that the network keeps: it is valid. It does nothing when it runs.

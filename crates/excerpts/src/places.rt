@@ -1,23 +1,54 @@
 //! Where the row of a point stands in a plan, looked for first where it is expected.
 //!
-//! Mostly nearly all points of a network have a row in a plan. The points are at hand, and the rows of a plan that wasn't asked for
-//! just before come from memory, so a binary search among these waits at almost each step.
+//! Mostly nearly all points of a network have a row in a plan. The rows of a plan that wasn't asked for just before come from memory,
+//! so a binary search among these waits at almost each step.
 
-ghost use Rattle.std.specs.Prelude.{◌≡◌, IfErr, IfOk, true};
+ghost use Rattle.std.specs.Prelude.{◌≡◌, IfErr, IfOk};
 ghost use Rattle.std.specs.Option.{IfSome};
 ghost use Rattle.net_items.specs.Keyed.{IsRising, IsFoundAt, IsGapAt};
 
 use net_items::copies::position_of_row;
 use net_items::{Point, Row};
 use point_codes::PointCode;
+use std::alloc::{AllocError, Global};
 
-/// How many rows are looked at before the place where one is expected, and after it.
-const NEAR: usize = 4;
+/// How many rows are looked at, from the one that is expected on.
+const NEAR: usize = 6;
 
-/// Where the row of a point stands if the points without a row are spread evenly.
-fn expected_place(points: &[Point], rows: &[Row], code: PointCode) -> usize {
-    let place = points.partition_point(|point| point.code < code);
-    place.saturating_mul(rows.len()) / points.len().max(1)
+/// How many signalling point codes there are (Q.704 clause 2.2).
+const CODE_COUNT: usize = 16384;
+
+/// For the code of each point how many points stand before it. It tells where to look first, and nothing rests on what it tells.
+#[derive(Drop)]
+pub struct PointOrder {
+    before: Vec<u16>,
+    count: usize,
+}
+
+impl PointOrder {
+    /// The order of points in rising code. It fails only if memory is refused.
+    pub fn new(alloc: Global, points: &[Point]) -> Result<PointOrder, AllocError> {
+        let mut before = vec![in alloc; 0u16; CODE_COUNT]?;
+        let mut position = 0u16;
+        for point in points {
+            if let Some(here) = before.get_mut(usize::from(point.code.number())) {
+                *here = position;
+            }
+            position = position.saturating_add(1);
+        }
+        Ok(PointOrder {
+            before,
+            count: points.len(),
+        })
+    }
+
+    /// Where the row or the plan of a point stands among so many, if the points without one are spread evenly.
+    pub fn expected(&self, count: usize, code: PointCode) -> usize {
+        match self.before.get(usize::from(code.number())) {
+            Some(before) => usize::from(*before).saturating_mul(count) / self.count.max(1),
+            None => 0,
+        }
+    }
 }
 
 /// The place of a point's row, if it is near a place.
@@ -25,23 +56,31 @@ fn place_near(rows: &[Row], point: PointCode, expected: usize) -> Option<usize>
     requires { IsRising (λ r. r.point) rows.now }
     ensures { IfSome result (IsFoundAt (λ r. r.point) point rows.now) }
 {
-    let first = expected.saturating_sub(NEAR);
-    let last = expected.saturating_add(NEAR + 1).min(rows.len());
-    for at in first..last {
-        if rows[at].point == point {
+    let mut at = expected;
+    for _ in 0..NEAR {
+        if at >= rows.len() {
+            return None;
+        }
+        let row = &rows[at];
+        if row.point == point {
             return Some(at);
+        }
+        if row.point < point {
+            at += 1;
+        } else {
+            at = at.checked_sub(1)?;
         }
     }
     None
 }
 
 /// The place of a point's row, or where it would go.
-pub fn place_of_row(points: &[Point], rows: &[Row], point: PointCode) -> Result<usize, usize>
+pub fn place_of_row(order: &PointOrder, rows: &[Row], point: PointCode) -> Result<usize, usize>
     requires { IsRising (λ r. r.point) rows.now }
     ensures found { IfOk result (IsFoundAt (λ r. r.point) point rows.now) }
     ensures absent { IfErr result (IsGapAt (λ r. r.point) point rows.now) }
 {
-    match place_near(rows, point, expected_place(points, rows, point)) {
+    match place_near(rows, point, order.expected(rows.len(), point)) {
         Some(at) => Ok(at),
         None => position_of_row(rows, point),
     }

@@ -245,6 +245,16 @@ rows_right_from points sets dest rows earlier (r ∷ rs) none there small =
       rows_right_from points sets dest rows (earlier ++ r ∷ []) rs both.1 here.1 fits.1,
     )
 
+-- the rows of a plan that isn't refused are right, in the order given
+pub accepted_rows : (net : Network) (p : Plan) → refusal_of net (on.SetPlan p) ≡ None → AllByRecursion (IsRightRow net.points net.sets p.dest p.rows) p.rows
+accepted_rows net p none =
+    let t1 = when_none (not (has_point net.points p.dest && list_all (λ (r : Row). has_point net.points r.point) p.rows)) _ _ none in
+    let t2 = or_none (option_map _ (wrong_row net.points net.sets p.dest p.rows [] p.rows)) _ t1.1 in
+    let right_rows = map_none _ (wrong_row net.points net.sets p.dest p.rows [] p.rows) t2.0 in
+    let t3 = when_none (not (list_all is_small_row p.rows)) _ _ t2.1 in
+    let there = and_parts (has_point net.points p.dest) _ (not-false _ t1.0) in
+    rows_right_from net.points net.sets p.dest p.rows [] p.rows right_rows there.1 (not-false _ t3.0)
+
 module _ (net : Network) (v : IsValid net) where
   -- a plan
   pub valid-SetPlan : (p : Plan) → refusal_of net (on.SetPlan p) ≡ None → IsValid (changed net (on.SetPlan p))
@@ -252,9 +262,8 @@ module _ (net : Network) (v : IsValid net) where
       let t1 = when_none (not (has_point net.points p.dest && list_all (λ (r : Row). has_point net.points r.point) p.rows)) _ _ none in
       let t2 = or_none (option_map _ (wrong_row net.points net.sets p.dest p.rows [] p.rows)) _ t1.1 in
       let right_rows = map_none _ (wrong_row net.points net.sets p.dest p.rows [] p.rows) t2.0 in
-      let t3 = when_none (not (list_all is_small_row p.rows)) _ _ t2.1 in
       let there = and_parts (has_point net.points p.dest) _ (not-false _ t1.0) in
-      let right : AllByRecursion (IsRightRow net.points net.sets p.dest p.rows) p.rows = rows_right_from net.points net.sets p.dest p.rows [] p.rows right_rows there.1 (not-false _ t3.0) in
+      let right = accepted_rows net p none in
       let new : Plan = record p { rows = in_order p.rows } in
       record {
         ni_small = v.ni_small;

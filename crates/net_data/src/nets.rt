@@ -1,12 +1,12 @@
 //! The network.
 
-ghost use Rattle.std.specs.Prelude.{◌≡◌, ◌≢◌, ◌↔◌, IsTrue, ◌<◌, [], true, OnOk, OnErr, IfOk, IsOk, None};
+ghost use Rattle.std.specs.Prelude.{◌≡◌, ◌≢◌, ◌↔◌, IsTrue, ◌<◌, [], true, OnOk, OnErr, IfOk, IsOk, None, is_some};
 ghost use Rattle.std.specs.Arc.{arc_value};
 ghost use Rattle.std.specs.Option.{option_copied, option_map};
 ghost use Rattle.net_data.specs.Network.{Network};
 ghost use Rattle.net_items.specs.Lookups.{plan_at, mate_of as the_mate};
 ghost use Rattle.net_data.specs.Valid.{IsValid};
-ghost use Rattle.net_data.specs.Edits.{refusal_of as the_refusal, changed, takes_none, Answers};
+ghost use Rattle.net_data.specs.Edits.{refusal_of as the_refusal, changed, in_order, takes_none, Answers};
 
 mod first_refusals;
 
@@ -136,11 +136,13 @@ impl Net {
         self.plans.find(dest)
     }
 
-    /// The plan of a destination, shared with the network. It fails only if no further share can be counted.
-    pub fn share_plan(&self, dest: PointCode) -> Result<Option<Arc<Plan>>, AllocError>
-        ensures { IfOk result (λ plan. option_map arc_value plan ≡ plan_at self.now.plans dest) }
+    /// The plan of a destination, shared with the network. It is looked for first in a place among the plans. It fails only if no
+    /// further share can be counted, and then the plan is there.
+    pub fn share_plan(&self, first: usize, dest: PointCode) -> Result<Option<Arc<Plan>>, AllocError>
+        ensures ok { IfOk result (λ plan. option_map arc_value plan ≡ plan_at self.now.plans dest) }
+        ensures err { OnErr result (is_some (plan_at self.now.plans dest) ≡ true) }
     {
-        self.plans.share(dest)
+        self.plans.share(first, dest)
     }
 
     /// The plans in rising destination.
@@ -271,6 +273,19 @@ impl Net {
         Ok(())
     }
 
+    /// Puts a plan in the place of one of its destination, as the network keeps it, where `refusal_of` refuses nothing of it as it
+    /// was given. It takes no memory.
+    pub fn replace_plan(&mut self, given: &Plan, kept: Arc<Plan>)
+        requires accepted { the_refusal self.old (Event.SetPlan given.now) ≡ None }
+        requires kept { arc_value kept ≡ record given.now { rows = in_order given.now.rows } }
+        requires there { is_some (plan_at self.old.plans given.now.dest) ≡ true }
+        ensures { self.new ≡ changed self.old (Event.SetPlan given.now) }
+    {
+        // The proof reads from this that the plan is the one that was given.
+        let _dest = given.dest;
+        self.plans.replace(kept);
+    }
+
     fn put_copy(&mut self, alloc: Global, plan: &Plan) -> Result<(), AllocError>
         requires { the_refusal self.old (Event.SetPlan plan.now) ≡ None }
         ensures ok { OnOk result (self.new ≡ changed self.old (Event.SetPlan plan.now)) }
@@ -294,8 +309,9 @@ impl Net {
         self.tfr = tfr;
     }
 
-    /// An edit that isn't refused. Only out of memory fails, and not where the edit takes none.
-    fn change(&mut self, alloc: Global, event: &Event) -> Result<(), AllocError>
+    /// An edit of which `refusal_of` refuses nothing. It fails only if memory is refused, and not where the edit takes none; then
+    /// nothing has changed.
+    pub fn change(&mut self, alloc: Global, event: &Event) -> Result<(), AllocError>
         requires { the_refusal self.old event.now ≡ None }
         ensures ok { OnOk result (self.new ≡ changed self.old event.now) }
         ensures err { OnErr result (self.new ≡ self.old) }

@@ -40,6 +40,18 @@ fn position_of_plan(list: &[Arc<Plan>], dest: PointCode) -> Result<usize, usize>
     list.binary_search_by_key(&dest, |p| p.dest)
 }
 
+/// The place of the plan of a destination, looked for first in a place.
+fn position_from(list: &[Arc<Plan>], first: usize, dest: PointCode) -> Result<usize, usize>
+    requires { IsRising (λ p. p.dest) (map arc_value list.now) }
+    ensures found { IfOk result (IsFoundAt (λ p. p.dest) dest (map arc_value list.now)) }
+    ensures absent { IfErr result (IsGapAt (λ p. p.dest) dest (map arc_value list.now)) }
+{
+    if first < list.len() && list[first].dest == dest {
+        return Ok(first);
+    }
+    position_of_plan(list, dest)
+}
+
 fn copy_list(alloc: Global, plans: &[Arc<Plan>]) -> Result<Vec<Arc<Plan>>, AllocError>
     ensures { IfOk result (λ v. map arc_value v.items ≡ map arc_value plans.now) }
 {
@@ -86,12 +98,14 @@ impl Plans {
         }
     }
 
-    /// The plan of a destination, shared. It fails only if no further share can be counted.
-    pub fn share(&self, dest: PointCode) -> Result<Option<Arc<Plan>>, AllocError>
+    /// The plan of a destination, shared. It is looked for first in a place. It fails only if no further share can be counted, and
+    /// then the plan is there.
+    pub fn share(&self, first: usize, dest: PointCode) -> Result<Option<Arc<Plan>>, AllocError>
         requires { IsRising (λ p. p.dest) self.now }
-        ensures { IfOk result (λ plan. option_map arc_value plan ≡ plan_at self.now dest) }
+        ensures ok { IfOk result (λ plan. option_map arc_value plan ≡ plan_at self.now dest) }
+        ensures err { OnErr result (is_some (plan_at self.now dest) ≡ true) }
     {
-        match position_of_plan(self.list.as_slice(), dest) {
+        match position_from(self.list.as_slice(), first, dest) {
             Ok(at) => Ok(Some(Arc::try_clone(&self.list[at])?)),
             Err(_) => Ok(None),
         }
@@ -125,6 +139,20 @@ impl Plans {
             }
         }
         Ok(())
+    }
+
+    /// Puts a shared plan in the place of the one of its destination. It takes no memory.
+    pub fn replace(&mut self, plan: Arc<Plan>)
+        requires rising { IsRising (λ p. p.dest) self.old }
+        requires there { is_some (plan_at self.old (arc_value plan).dest) ≡ true }
+        ensures { self.new ≡ put (λ p. p.dest) (arc_value plan) self.old }
+    {
+        match position_of_plan(self.list.as_slice(), plan.dest) {
+            Ok(at) => {
+                self.list[at] = plan;
+            }
+            Err(_) => unreachable!(),
+        }
     }
 
     /// Removes the plan of a destination.

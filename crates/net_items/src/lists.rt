@@ -10,12 +10,24 @@ use smallvec::SmallVec;
 use std::alloc::{AllocError, Global};
 use std::marker::Model;
 
-/// If a link is, or would go.
+/// The place of a link of that code where codes go up by one.
+fn guess_of_link(links: &[Link], slc: u8) -> usize {
+    match links {
+        [first, ..] => usize::from(slc.saturating_sub(first.slc)),
+        [] => 0,
+    }
+}
+
+/// If a link is, or would go. Mostly codes go up by one, and it is seen at once; else it is found by binary search.
 pub fn position_of_link(links: &[Link], slc: u8) -> Result<usize, usize>
     requires { IsRising (λ l. l.slc) links.now }
     ensures found { IfOk result (IsFoundAt (λ l. l.slc) slc links.now) }
     ensures absent { IfErr result (IsGapAt (λ l. l.slc) slc links.now) }
 {
+    let guess = guess_of_link(links, slc);
+    if guess < links.len() && links[guess].slc == slc {
+        return Ok(guess);
+    }
     links.binary_search_by_key(&slc, |l| l.slc)
 }
 

@@ -37,12 +37,15 @@ impl Model for Version {
     ghost invariant = { λ v. v.routings.items ≡ settled_routings v.net };
 }
 
-/// The place of the routing towards a destination, or where it would go.
-fn position_of_routing(routings: &[Routing], dest: PointCode) -> Result<usize, usize>
+/// The place of the routing towards a destination, or where it would go. It is looked for first in a place.
+fn position_of_routing(routings: &[Routing], first: usize, dest: PointCode) -> Result<usize, usize>
     requires { IsRising (λ r. r.excerpt.plan.dest) routings.now }
     ensures found { IfOk result (IsFoundAt (λ r. r.excerpt.plan.dest) dest routings.now) }
     ensures absent { IfErr result (IsGapAt (λ r. r.excerpt.plan.dest) dest routings.now) }
 {
+    if first < routings.len() && routings[first].dest() == dest {
+        return Ok(first);
+    }
     routings.binary_search_by_key(&dest, |r| r.dest())
 }
 
@@ -164,7 +167,8 @@ impl Version {
         ensures { option_copied result ≡ routing_at self.now.network dest }
     {
         self.net.validity();
-        match position_of_routing(self.routings.as_slice(), dest) {
+        let first = self.net.expected(self.routings.len(), dest);
+        match position_of_routing(self.routings.as_slice(), first, dest) {
             Ok(at) => Some(&self.routings[at]),
             Err(_) => None,
         }

@@ -40,7 +40,7 @@ fn says_its_mates(rt: HostRuntime) -> Result<(), Fail> {
 
 /// The destination of the plan that a network shares for a point.
 fn shared_dest(net: &Net, point: PointCode) -> Result<Option<PointCode>, Fail> {
-    Ok(match net.share_plan(point)? {
+    Ok(match net.share_plan(0, point)? {
         Some(plan) => Some(plan.dest),
         None => None,
     })

@@ -18,7 +18,7 @@ use crate::seen::{are_vias_once, is_seen, see, see_points};
 use crate::settings::Setting;
 use crate::transfers::note_transfers;
 use net_items::{Point, Row};
-use net_sets::Sets;
+use net_sets::{Around, Sets};
 use point_codes::PointCode;
 
 /// What is wrong with a row of a plan.
@@ -51,16 +51,18 @@ pub struct WrongRow {
     pub cause: Cause,
 }
 
-/// What is wrong with a row, whose earlier rows are given, with whether one of them has its point, and whether each of
-/// its vias stands once.
+/// What is wrong with a row, whose earlier rows are given, with the sets around its point, whether an earlier row has its
+/// point, and whether each of its vias stands once.
 pub fn cause_of(
     setting: &Setting<'_>,
     sets: &Sets,
+    around: &Around<'_>,
     earlier: &[Row],
     row: &Row,
     twice: bool,
     once: bool,
 ) -> Option<Cause>
+    requires around { around.now ≡ record { point = row.now.point; sets = sets.now } }
     requires twice { twice ≡ list_any (λ other. other.point == row.now.point) earlier.now }
     requires once { once ≡ distinct (vias_of row.now) }
     ensures { result ≡ the_cause setting.now.points sets.now setting.now.dest setting.now.rows earlier.now row.now }
@@ -71,7 +73,7 @@ pub fn cause_of(
     if twice {
         return Some(Cause::Twice);
     }
-    if !are_vias_joined(sets, row) {
+    if !are_vias_joined(around, row) {
         return Some(Cause::NotJoined);
     }
     if !once {
@@ -134,12 +136,14 @@ pub fn wrong_row(points: &[Point], sets: &Sets, dest: PointCode, rows: &[Row]) -
     note_ranks(&mut ranks, rows);
     note_transfers(&mut transfers, points);
     let setting = Setting::new(points, &transfers, dest, rows, &ranks);
+    let mut around = sets.around(dest);
     for position in 0..rows.len() {
         let row = &rows[position];
+        around = around.next(sets, row.point);
         let earlier = &rows[..position];
         let twice = see(&mut seen, row.point);
         let once = are_vias_once(row);
-        let cause = cause_of(&setting, sets, earlier, row, twice, once);
+        let cause = cause_of(&setting, sets, &around, earlier, row, twice, once);
         if let Some(cause) = cause {
             return Some(WrongRow {
                 point: row.point,

@@ -38,12 +38,12 @@ fn are_classes_joined(around: &Around<'_>, classes: &[Vias]) -> bool
         .all(|vias| are_adjacent(around, vias.as_slice()))
 }
 
-/// Whether a set joins the row's point with each of its vias.
-pub fn are_vias_joined(sets: &Sets, row: &Row) -> bool
-    ensures { result ≡ all_vias (adjacent sets.now row.now.point) row.now }
+/// Whether a set joins the row's point, which has these sets around it, with each of its vias.
+pub fn are_vias_joined(around: &Around<'_>, row: &Row) -> bool
+    requires { around.now.point ≡ row.now.point }
+    ensures { result ≡ all_vias (adjacent around.now.sets row.now.point) row.now }
 {
-    let around = sets.around(row.point);
-    are_classes_joined(&around, row.classes.as_slice())
+    are_classes_joined(around, row.classes.as_slice())
 }
 
 /// Whether a via leads to the destination, or to a transfer point with a row of lower rank.

@@ -81,8 +81,8 @@ fn noted(rt: &impl Abort, alloc: Global, id: u16) -> Touched {
 fn touched_destinations_are_noted_and_cleared(rt: HostRuntime) {
     let b = point(&rt, "2-1-2");
     let mut touched = noted(&rt, rt.alloc(), 1);
-    assert!(rt; touched.is_touched(b));
+    assert!(rt; touched.all().has(b));
     touched.clear();
     touched.make_room().expect(&rt, "memory");
-    assert!(rt; !touched.is_touched(b));
+    assert!(rt; !touched.all().has(b));
 }

@@ -8,10 +8,10 @@ use Rattle.dirty_sets.proofs.ReadingLemmas.{leads_on}
 use Rattle.dirty_sets.proofs.index.reader_at.Goals as goal
 
 pub sets_read-requires-clause-leads : goal.sets_read-requires-clause-leads
-sets_read-requires-clause-leads c = λ _e.
+sets_read-requires-clause-leads c =
     let net = c.args.net.now in
     let plan = c.at-plan.result.now in
     let right : IsRightPlan net.points net.sets plan =
     subst (IsRightPlan net.points net.sets) (sym (c.at-plan.ensures ∙ ap (λ (ps : List Plan). get_or ps c.args.position plan) c.plans.ensures))
-    (All-from_recursion (IsRightPlan net.points net.sets) net.plans c.validity.ensures.plans_right c.args.position plan c.requires) in
+    (All-from_recursion (IsRightPlan net.points net.sets) net.plans c.validity.ensures.plans_right c.args.position plan c.requires.there) in
     subst (λ (ps : List Point). LeadsOn ps plan) (sym c.points.ensures) (leads_on net c.validity.ensures plan right)

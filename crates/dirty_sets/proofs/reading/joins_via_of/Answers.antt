@@ -4,4 +4,4 @@ use Rattle.dirty_sets.proofs.reading.joins_via_of.Goals as goal
 
 pub returns-then-not-ends_at-clause-none : goal.returns-then-not-ends_at-clause-none
 returns-then-not-ends_at-clause-none c = λ _e.
-    joins_none c.args.points.now c.args.plan.now c.args.set.now (c.requires.leads c.if-not-is_right.false) c.requires.first_end c.requires.second_end (sym c.ends_at.ensures ∙ c.if-not-ends_at.true)
+    joins_none c.args.points.now c.args.plan.now c.args.set.now c.requires.leads c.requires.first_end c.requires.second_end (sym c.ends_at.ensures ∙ c.if-not-ends_at.true)

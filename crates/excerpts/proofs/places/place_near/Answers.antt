@@ -7,5 +7,5 @@ use Rattle.excerpts.proofs.places.place_near.Goals as goal
 
 pub returns-then-eq : goal.returns-then-eq
 returns-then-eq c =
-    found_here (λ (r : Row). r.point) c.args.point c.args.rows.now c.loop-at.at c.requires (omega arith)
-    (λ d. ap (λ (r : Row). r.point) (sym (get_or_read c.args.rows.now c.loop-at.at c.index-rows-at.result (omega arith) c.index-rows-at.is d)) ∙ (ap (λ (r : Row). r.point) c.index-rows-at.is ∙ eqb-true _ c.args.point (sym c.eq.ensures ∙ c.if-eq.true)))
+    found_here (λ (r : Row). r.point) c.args.point c.args.rows.now c.loop.at c.requires (omega arith)
+    (λ d. ap (λ (r : Row). r.point) (sym (get_or_read c.args.rows.now c.loop.at c.index-rows-at.result (omega arith) c.index-rows-at.is d)) ∙ eqb-true _ c.args.point (sym c.eq.ensures ∙ c.if-eq.true))

@@ -1,8 +1,18 @@
-use Rattle.std.proofs.Common.{rules}
+use Rattle.std.proofs.Common.{◌∙◌, ap, arith, rules, sym}
+use Rattle.std.proofs.lemmas.Bool.{eqb-true}
+use Rattle.std.proofs.lemmas.List.{get_or_read}
 use Rattle.std.proofs.lemmas.List.Sorted.{answers_always}
 use Rattle.transfer_state.specs.Routing.{RoutingValue}
-use Rattle.net_items.proofs.KeyedLemmas.{searched}
+use Rattle.net_items.proofs.KeyedLemmas.{found_here, searched}
 use Rattle.net_versions.proofs.versions.position_of_routing.Goals as goal
+
+-- the routing that was looked at first leads to the destination
+pub returns-then-eq-clause-found : goal.returns-then-eq-clause-found
+returns-then-eq-clause-found c =
+    let routing = c.index-routings-first.result in
+    found_here (λ (r : RoutingValue). r.excerpt.plan.dest) c.args.dest c.args.routings.now c.args.first c.requires (omega arith)
+    (λ d. ap (λ (r : RoutingValue). r.excerpt.plan.dest) (sym (get_or_read c.args.routings.now c.args.first routing (omega arith) c.index-routings-first.is d))
+    ∙ sym c.dest.ensures ∙ eqb-true _ c.args.dest (sym c.eq.ensures ∙ c.if-eq.true))
 
 pub returns-clause-found : goal.returns-clause-found
 returns-clause-found c =

@@ -1,8 +1,9 @@
 use Rattle.std.proofs.lemmas.Grind.{common_steps}
-use Rattle.std.proofs.Common.{◌∙◌, refl, take, map, false, arith}
+use Rattle.std.proofs.Common.{◌∙◌, ap, refl, take, map, false, arith}
 use Rattle.std.proofs.lemmas.List.{get_or-replicate}
 use Rattle.net_items.specs.declared.lists.Row.{Row}
 use Rattle.net_items.proofs.ListLemmas.{list_any_map}
+use Rattle.net_sets.specs.Joints.{AroundValue}
 use Rattle.plan_rows.proofs.causes.wrong_row.Goals as goal
 
 pub note_ranks-requires-clause-blank : goal.note_ranks-requires-clause-blank
@@ -13,7 +14,7 @@ note_transfers-requires-clause-blank c = λ z within. get_or-replicate 16384 z f
 
 -- no point was seen
 pub loop-position-init : goal.loop-position-init
-loop-position-init c = record { long = refl; seen = λ z within. get_or-replicate 16384 z false false within; rest = refl }
+loop-position-init c = record { around = ap (λ (a : AroundValue). a.sets) c.around-around.ensures; long = refl; seen = λ z within. get_or-replicate 16384 z false false within; rest = refl }
 
 pub cause_of-cause-requires-clause-twice : goal.cause_of-cause-requires-clause-twice
 cause_of-cause-requires-clause-twice c =

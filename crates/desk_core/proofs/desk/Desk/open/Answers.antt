@@ -8,7 +8,7 @@ use Rattle.desk_core.specs.Desk.{DeskValue, accepted, to_settle}
 use Rattle.desk_core.specs.Steps.{Opens, with_target}
 use Rattle.desk_core.specs.Targets.{TargetValue}
 use Rattle.desk_core.specs.Inside.{IsInside}
-use Rattle.desk_core.proofs.OpeningLemmas.{is_none, opens_is, to_settle_is, waiting_all}
+use Rattle.desk_core.proofs.OpeningLemmas.{is_none, opens_is, to_settle_marked, waiting_all}
 use Rattle.desk_core.proofs.desk.Desk.open.Goals as goal
 
 pub returns-in-Ok : goal.returns-in-Ok
@@ -23,7 +23,7 @@ returns-in-Ok c =
     let none : c.self.inside.target ≡ None = is_none c.self.inside.target (sym c.is_some.ensures ∙ c.if-is_some.false) in
     let nothing : s.target ≡ None = ap (option_map (λ (t : TargetValue). record { number = t.number; tasks = t.tasks })) none in
     let inside : IsInside s c.self.inside.latest (marks_of c.self.inside.touched) None = subst (λ o. IsInside s c.self.inside.latest (marks_of c.self.inside.touched) o) none c.self.invariant.inside in
-    let settle = to_settle_is s c.self.inside.latest (marks_of c.self.inside.touched) inside c.validity.ensures in
+    let settle = to_settle_marked s c.self.inside.latest (marks_of c.self.inside.touched) c.all-touched.result inside c.validity.ensures c.all-touched.ensures in
     let some : eqb (length s.pending) 0 ≡ false = ap (λ n. eqb n 0) (sym c.self.inside.pending.ok.0) ∙ sym c.is_empty.ensures ∙ c.if-is_empty.false in
     let number : c.accepted-number.result ≡ accepted s = c.accepted-number.ensures ∙ ap accepted (sym c.self.view_is) in
     let tasks : c.in-Ok.target.tasks ≡ all_waiting (to_settle s) = ap (λ (t : TargetValue). t.tasks) c.in-Ok.ensures ∙ ap all_waiting settle in

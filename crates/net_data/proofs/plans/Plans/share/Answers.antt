@@ -5,8 +5,8 @@ use Rattle.net_items.specs.Lookups.{plan_at}
 use Rattle.net_data.proofs.plans.Plans.share.Goals as goal
 
 -- the place has the value that is found
-pub returns-in_ok-try_clone-in-Ok : goal.returns-in_ok-try_clone-in-Ok
-returns-in_ok-try_clone-in-Ok c =
+pub returns-in_ok-try_clone-in-Ok-clause-ok : goal.returns-in_ok-try_clone-in-Ok-clause-ok
+returns-in_ok-try_clone-in-Ok-clause-ok c =
     let found = rw c.as_slice.ensures.value at c.in-Ok.ensures.found in
     let within : c.in-Ok.at < length c.self.inside.list.items = rw length-map at found.in_range in
     let plan = arc_value c.in_ok-try_clone-in-Ok.field-0 in
