@@ -1,11 +1,13 @@
 //! A network with its index.
 
-ghost use Rattle.std.specs.Prelude.{◌≡◌, IfOk};
+ghost use Rattle.std.specs.Prelude.{◌≡◌, IfOk, map};
 ghost use Rattle.std.specs.Option.{IfSome, option_copied};
 ghost use Rattle.net_items.specs.Lookups.{set_between as between};
 ghost use Rattle.net_data.specs.Valid.{IsValid};
 ghost use Rattle.link_sets.specs.Availability.{connected};
 ghost use Rattle.link_sets.specs.Neighbours.{next_from, IsCodeFrom};
+ghost use Rattle.net_items.specs.Keyed.{IsRising};
+ghost use Rattle.excerpts.specs.Index.{IsJointIndex, renewed};
 
 use crate::index::{are_same_ends, find_joint, index_after, index_of, next_up};
 use crate::joints::Joints;
@@ -27,7 +29,8 @@ pub struct Indexed {
 
 impl Model for Indexed {
     ghost use Rattle.net_data.specs.Network.{Network};
-    ghost use Rattle.excerpts.specs.Index.{IsJointIndex};
+    ghost use Rattle.net_items.specs.Keyed.{IsRising};
+    ghost use Rattle.excerpts.specs.Index.{IsJointIndex, renewed};
 
     ghost Value = { Network };
 
@@ -36,14 +39,30 @@ impl Model for Indexed {
     ghost invariant = { λ f. IsJointIndex f.joints f.net.sets };
 }
 
+/// The joints of sets.
+fn joints_of(alloc: Global, sets: &[LinkSet]) -> Result<Joints, AllocError>
+    ensures { IfOk result (λ joints. IsJointIndex joints sets.now) }
+{
+    let list = index_of(alloc, sets)?;
+    Joints::new(alloc, list)
+}
+
+/// The joints of sets, from those of sets that join the same points.
+fn joints_after(alloc: Global, joints: &Joints, sets: &[LinkSet]) -> Result<Joints, AllocError>
+    requires { IsRising (λ j. j.pair) joints.now }
+    ensures { IfOk result (λ after. after ≡ map (renewed sets.now) joints.now) }
+{
+    let list = index_after(alloc, joints.as_slice(), sets)?;
+    Joints::new(alloc, list)
+}
+
 impl Indexed {
     /// The network with its index. It fails if memory is refused.
     pub fn new(alloc: Global, net: Net) -> Result<Indexed, AllocError>
         ensures { IfOk result (λ f. f ≡ net) }
     {
-        let list = index_of(alloc, net.sets())?;
-        let joints = Joints::new(alloc, list)?;
-        let order = Arc::new(alloc, PointOrder::new(alloc, net.points())?)?;
+        let joints = joints_of(alloc, net.sets())?;
+        let order = PointOrder::shared(alloc, net.points())?;
         Ok(Indexed { net, joints, order })
     }
 
@@ -56,7 +75,7 @@ impl Indexed {
         if before.net.points().len() == net.points().len() {
             return Arc::try_clone(&before.order);
         }
-        Ok(Arc::new(alloc, PointOrder::new(alloc, net.points())?)?)
+        PointOrder::shared(alloc, net.points())
     }
 
     /// The same, made faster if the sets of an earlier network join the same points, place by place.
@@ -67,8 +86,7 @@ impl Indexed {
         if !are_same_ends(before.net.sets(), net.sets()) {
             return Indexed::new(alloc, net);
         }
-        let list = index_after(alloc, before.joints.as_slice(), net.sets())?;
-        let joints = Joints::new(alloc, list)?;
+        let joints = joints_after(alloc, &before.joints, net.sets())?;
         let order = Indexed::order_after(alloc, &net, before)?;
         Ok(Indexed { net, joints, order })
     }

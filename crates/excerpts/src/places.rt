@@ -11,6 +11,7 @@ use net_items::copies::position_of_row;
 use net_items::{Point, Row};
 use point_codes::PointCode;
 use std::alloc::{AllocError, Global};
+use std::sync::Arc;
 
 /// How many rows are looked at, from the one that is expected on.
 const NEAR: usize = 6;
@@ -26,8 +27,8 @@ pub struct PointOrder {
 }
 
 impl PointOrder {
-    /// The order of points in rising code. It fails only if memory is refused.
-    pub fn new(alloc: Global, points: &[Point]) -> Result<PointOrder, AllocError> {
+    /// The order of points in rising code, to be shared. It fails only if memory is refused.
+    pub fn shared(alloc: Global, points: &[Point]) -> Result<Arc<PointOrder>, AllocError> {
         let mut before = vec![in alloc; 0u16; CODE_COUNT]?;
         let mut position = 0u16;
         for point in points {
@@ -36,10 +37,11 @@ impl PointOrder {
             }
             position = position.saturating_add(1);
         }
-        Ok(PointOrder {
+        let order = PointOrder {
             before,
             count: points.len(),
-        })
+        };
+        Ok(Arc::new(alloc, order)?)
     }
 
     /// Where the row or the plan of a point stands among so many, if the points without one are spread evenly.

@@ -1,6 +1,6 @@
 //! A point code, its number and its text.
 
-ghost use Rattle.std.specs.Prelude.{◌≡◌, ◌<◌, ◌↔◌, ◌/◌, ◌%◌, ◌++◌, ◌∷◌, [], ℕ, Some, None, IsSome, IfSome, MatchResult, OnOk, OnErr, string_bytes};
+ghost use Rattle.std.specs.Prelude.{◌≡◌, ◌≢◌, ◌<◌, ◌↔◌, ◌/◌, ◌%◌, ◌++◌, ◌∷◌, [], ℕ, Some, None, IsSome, IfSome, MatchResult, OnOk, OnErr, string_bytes};
 ghost use Rattle.point_codes.specs.Codes.{code_of, code_text};
 ghost use Rattle.point_codes.specs.Numbers.{number_of};
 
@@ -144,12 +144,16 @@ fn read_area(text: &[u8]) -> Option<u16>
         [ones] => read_digit(*ones, 9),
         [b'0', ..] => None,
         [tens, ones] => Some(read_digit(*tens, 9)? * 10 + read_digit(*ones, 9)?),
-        [hundreds, tens, ones] => {
-            let value = read_digit(*hundreds, 9)? * 100
-                + read_digit(*tens, 9)? * 10
-                + read_digit(*ones, 9)?;
-            if value <= 255 { Some(value) } else { None }
-        }
+        [hundreds, tens, ones] => read_long_area(*hundreds, *tens, *ones),
         _ => None,
     }
+}
+
+/// The number up to 255 that three bytes are, of which the first is no zero.
+fn read_long_area(hundreds: u8, tens: u8, ones: u8) -> Option<u16>
+    requires { hundreds ≢ 48 }
+    ensures { result ≡ number_of 255 (hundreds ∷ tens ∷ ones ∷ []) }
+{
+    let value = read_digit(hundreds, 9)? * 100 + read_digit(tens, 9)? * 10 + read_digit(ones, 9)?;
+    if value <= 255 { Some(value) } else { None }
 }

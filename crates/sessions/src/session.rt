@@ -54,7 +54,12 @@ fn write_all<W: Write>(writer: &mut W, text: &[u8]) -> usize
 fn count_lines(text: &[u8]) -> usize
     ensures { result ≡ line_count text.now }
 {
-    text.iter().filter(|b| **b == b'\n').count()
+    // Without a branch for each byte.
+    let mut count = 0;
+    for byte in text {
+        count += usize::from(*byte == b'\n');
+    }
+    count
 }
 
 /// What a line that is whole now is answered with.
