@@ -12,7 +12,7 @@ use Rattle.clap.specs.Takes.{is_given}
 use Rattle.clap.specs.Faults.{built_fault, check_fault, entered_fault, fault_of, level_fault, other_fault, step_fault, turn_fault, walk_fault, word_fault}
 use Rattle.clap.specs.declared.error.Error.{Error}
 use Rattle.clap.specs.declared.error.kind.ErrorKind.TheVariants.{DisplayHelp, InvalidSubcommand, MissingSubcommand}
-use Rattle.command_line.specs.Words.{net_rule, steps_rule, workers_rule, save_rule, check_app, desk_app, play_app, run_app, is_whole, IsWordFault}
+use Rattle.command_line.specs.Words.{net_rule, steps_rule, workers_rule, save_rule, what_rule, check_app, desk_app, explain_app, play_app, run_app, is_whole, IsWordFault}
 use Rattle.command_line.specs.declared.words.WordFault.TheVariants.{Clap}
 use Rattle.command_line.proofs.RowLemmas.{AllFill, Fills, none_of_both, set_fills, help_fills, level_filled, given_value}
 
@@ -120,6 +120,9 @@ play_built = built_leaf (inherited desk_app.top play_app.top)
 abbrev check_built : Shape
 check_built = built_leaf (inherited desk_app.top check_app.top)
 
+abbrev explain_built : Shape
+explain_built = built_leaf (inherited desk_app.top explain_app.top)
+
 abbrev help_built : Shape
 help_built = built_leaf help_shape
 
@@ -139,6 +142,9 @@ workers_fills = set_fills (rule_at 2 workers_rule) refl refl
 save_fills : Fills (rule_at 2 save_rule)
 save_fills = set_fills (rule_at 2 save_rule) refl refl
 
+what_fills : Fills (rule_at 1 what_rule)
+what_fills = set_fills (rule_at 1 what_rule) refl refl
+
 asks_fills : Fills (rule_at 2 help_rule)
 asks_fills = help_fills (rule_at 2 help_rule) refl
 
@@ -150,6 +156,9 @@ play_fills = (net_fills, refl, (steps_fills, refl, (save_fills, refl, (asks_fill
 
 check_fills : AllFill check_built.rules
 check_fills = (net_fills, refl, (asks_fills, refl, tt))
+
+explain_fills : AllFill explain_built.rules
+explain_fills = (what_fills, refl, (asks_fills, refl, tt))
 
 abbrev has_net : List Row → Bool
 has_net rows = is_given (codes "net") rows
@@ -199,7 +208,8 @@ play_whole words e =
 entered_whole : (p : Text × List Text) (found : Text × List Row) → IsNotHelp p.0 → entered_fault (built desk_app) (Some p) ≡ []
     → entered (built desk_app) (Some p) ≡ Some found → is_whole found ≡ true
 entered_whole p found right e is =
-    go (answers_to p.0 (label_of run_built)) (answers_to p.0 (label_of play_built)) (answers_to p.0 (label_of check_built)) (bytes_eq (codes "help") p.0) not_help e is
+    go (answers_to p.0 (label_of run_built)) (answers_to p.0 (label_of play_built)) (answers_to p.0 (label_of check_built))
+    (answers_to p.0 (label_of explain_built)) (bytes_eq (codes "help") p.0) not_help e is
   where
     not_help : bytes_eq (codes "help") p.0 ≡ true → ⊥
     not_help same =
@@ -209,16 +219,18 @@ entered_whole p found right e is =
     is_found : (s : Shape) → is_whole (rows_at s p.1) ≡ true → Some (rows_at s p.1) ≡ Some found → is_whole found ≡ true
     is_found s whole is = let same : rows_at s p.1 ≡ found = cc in subst (λ x. is_whole x ≡ true) same whole
 
-    first : (a b c d : Bool) → Option Shape
-    first a b c d = cond a (Some run_built) (cond b (Some play_built) (cond c (Some check_built) (cond (d || false) (Some help_built) None)))
+    first : (a b c d f : Bool) → Option Shape
+    first a b c d f =
+        cond a (Some run_built) (cond b (Some play_built) (cond c (Some check_built) (cond d (Some explain_built) (cond (f || false) (Some help_built) None))))
 
-    go : (a b c d : Bool) → (d ≡ true → ⊥) → option_map_or (λ s. level_fault s [] nothing_held p.1 false []) (first a b c d) [] ≡ []
-        → option_map (λ s. rows_at s p.1) (first a b c d) ≡ Some found → is_whole found ≡ true
-    go true b c d help e is = is_found run_built (run_whole p.1 e) is
-    go false true c d help e is = is_found play_built (play_whole p.1 e) is
-    go false false true d help e is = is_found check_built (check_whole p.1 e) is
-    go false false false true help e is = absurd (help refl)
-    go false false false false help e is = cc
+    go : (a b c d f : Bool) → (f ≡ true → ⊥) → option_map_or (λ s. level_fault s [] nothing_held p.1 false []) (first a b c d f) [] ≡ []
+        → option_map (λ s. rows_at s p.1) (first a b c d f) ≡ Some found → is_whole found ≡ true
+    go true b c d f help e is = is_found run_built (run_whole p.1 e) is
+    go false true c d f help e is = is_found play_built (play_whole p.1 e) is
+    go false false true d f help e is = is_found check_built (check_whole p.1 e) is
+    go false false false true f help e is = is_found explain_built refl is
+    go false false false false true help e is = absurd (help refl)
+    go false false false false false help e is = cc
 
 whole_found : (words : List Text) (found : Text × List Row) → fault_of desk_app words ≡ [] → subcommand_of desk_app words ≡ Some found → is_whole found ≡ true
 whole_found words found e is =

@@ -3,9 +3,10 @@ use Rattle.std.specs.Prelude.{◌≡◌, ◌≢◌, ◌<◌, ◌≤◌, ◌⊎�
 use Rattle.std.specs.Fmt.{decimal}
 use Rattle.std.specs.Str.{bytes_eq}
 use Rattle.clap.specs.Words.{App, Rule, Row, Text, new_app, new_rule, with_rule, with_subcommand, first_of, Kinds, HasKind, kind_of}
+use Rattle.clap.specs.Simple.{on_top}
 use Rattle.clap.specs.declared.error.kind.ErrorKind.TheVariants.{MissingSubcommand}
 use Rattle.command_line.specs.declared.words.Order.{Order}
-use Rattle.command_line.specs.declared.words.Order.TheVariants.{Run, Play, Check}
+use Rattle.command_line.specs.declared.words.Order.TheVariants.{Run, Play, Check, Explain}
 use Rattle.command_line.specs.declared.words.WordFault.{WordFault}
 use Rattle.command_line.specs.declared.words.WordFault.TheVariants.{Clap, Workers}
 
@@ -49,17 +50,33 @@ play_app = with_rule files_app save_rule
 abbrev pub check_app : App
 check_app = net_app (codes "check")
 
+-- WHAT may be left out
+abbrev pub what_rule : Rule
+what_rule = record (new_rule (codes "what")) { value_names = 1 }
+
+-- `explain WHAT`
+abbrev pub explain_app : App
+explain_app = with_rule (new_app (codes "explain")) what_rule
+
+-- `route_desk` alone, which tells its version
+abbrev pub bare_app : App
+bare_app = on_top (λ s. record s { has_version = true }) (new_app (codes "route_desk"))
+
 -- `route_desk` with `run` alone
 abbrev pub desk_app_of_run : App
-desk_app_of_run = with_subcommand (new_app (codes "route_desk")) run_app.top
+desk_app_of_run = with_subcommand bare_app run_app.top
 
 -- `route_desk` with the commands that answer a script
 abbrev pub desk_app_of_scripts : App
 desk_app_of_scripts = with_subcommand desk_app_of_run play_app.top
 
+-- `route_desk` with the commands that take a network
+abbrev pub desk_app_of_nets : App
+desk_app_of_nets = with_subcommand desk_app_of_scripts check_app.top
+
 -- `route_desk`
 abbrev pub desk_app : App
-desk_app = with_subcommand desk_app_of_scripts check_app.top
+desk_app = with_subcommand desk_app_of_nets explain_app.top
 
 -- what is given for N says this many workers; it says none if nothing is given
 abbrev pub IsWorkers : Option Text → ℕ → Type 0
@@ -75,12 +92,15 @@ IsOrder (Play net steps save) found =
     (rows : List Row) × (found ≡ Some (codes "play", rows)) × (first_of (codes "net") rows ≡ Some net.now)
     × (first_of (codes "steps") rows ≡ Some steps.now) × (first_of (codes "save") rows ≡ option_map (λ s. s.now) save)
 IsOrder (Check net) found = (rows : List Row) × (found ≡ Some (codes "check", rows)) × (first_of (codes "net") rows ≡ Some net.now)
+IsOrder (Explain what) found =
+    (rows : List Row) × (found ≡ Some (codes "explain", rows)) × (first_of (codes "what") rows ≡ option_map (λ s. s.now) what)
 
 -- there are at most 32 workers
 abbrev pub IsWithin : Order → Type 0
 IsWithin (Run net workers save) = workers ≤ 32
 IsWithin (Play net steps save) = Unit {0}
 IsWithin (Check net) = Unit {0}
+IsWithin (Explain what) = Unit {0}
 
 -- whether the argument has a value
 abbrev pub has_value : Text → List Row → Bool
@@ -91,6 +111,7 @@ abbrev pub is_whole : Text × List Row → Bool
 is_whole (name, rows) =
     ((bytes_eq name (codes "run") || bytes_eq name (codes "check")) && has_value (codes "net") rows)
     || (bytes_eq name (codes "play") && (has_value (codes "net") rows && has_value (codes "steps") rows))
+    || bytes_eq name (codes "explain")
 
 -- the text begins with a plus or a zero, and goes on
 abbrev pub IsPadded : Text → Type 0

@@ -5,11 +5,14 @@ ghost use Rattle.std.specs.Fmt.{decimal};
 ghost use Rattle.clap.specs.declared.builder.command.Command.TheViews.{out-Command};
 ghost use Rattle.clap.specs.Words.{app_of, first_of, FailsBy, HasKind, fault_of, found_of, rows_of, rule_of, subcommand_of, subcommand_rows_of};
 ghost use Rattle.clap.specs.declared.error.kind.ErrorKind.TheVariants.{MissingSubcommand};
-ghost use Rattle.command_line.specs.Words.{net_rule, steps_rule, workers_rule, save_rule, net_app, workers_app, run_app, files_app, play_app, check_app, desk_app_of_run, desk_app_of_scripts, desk_app, IsOrder, IsWithin, IsWorkers, IsPadded, IsNoCount, HasBadCount, HasBadWorkers, is_whole, IsWordFault};
+ghost use Rattle.command_line.specs.Words.{net_rule, steps_rule, workers_rule, save_rule, net_app, workers_app, run_app, files_app, play_app, check_app, what_rule, explain_app, bare_app, desk_app_of_run, desk_app_of_scripts, desk_app_of_nets, desk_app, IsOrder, IsWithin, IsWorkers, IsPadded, IsNoCount, HasBadCount, HasBadWorkers, is_whole, IsWordFault};
 
 use clap::error::ErrorKind;
 use clap::{Arg, ArgMatches, Command, Error};
 use std::alloc::{AllocError, Global};
+
+/// The version that is told, with the kit by which the program is proved.
+const VERSION: &str = "1.0.0, proved with rattle-kit-13f";
 
 /// What a command line orders.
 #[derive(Clone, Copy, Debug, PartialEq, Eq)]
@@ -32,6 +35,10 @@ pub enum Order<'a> {
     /// To check the settled tables of the network of a file.
     Check {
         net: &'a str,
+    },
+    /// To tell what this number, name or letter with its name means, or of all of them if none is given.
+    Explain {
+        what: Option<&'a str>,
     },
 }
 
@@ -93,6 +100,16 @@ fn save_argument<'a>(alloc: Global) -> Arg<'a>
 {
     Arg::new(alloc, "save").long("save").value_name("FILE").help(
         "Write the network to this file after a script that ended without a fault",
+    )
+}
+
+/// The argument WHAT, which may be left out.
+fn what_argument<'a>(alloc: Global) -> Arg<'a>
+    ensures rule { rule_of result ≡ what_rule }
+    ensures local { result.global ≡ false }
+{
+    Arg::new(alloc, "what").value_name("WHAT").help(
+        "Its number or its name, as 27, BadRow or IsDest; all are listed if it isn't given",
     )
 }
 
@@ -170,16 +187,32 @@ fn check_command<'a>(alloc: Global) -> Result<Command<'a>, AllocError>
     )
 }
 
+/// The command `explain`.
+fn explain_command<'a>(alloc: Global) -> Result<Command<'a>, AllocError>
+    ensures app { IfOk result (λ c. app_of c ≡ explain_app) }
+    ensures local { IfOk result (λ c. (out-Command c).has_globals ≡ false) }
+{
+    Command::new(alloc, "explain")
+        .about("Tell what a refusal, a fault or a letter means, and what to do")
+        .arg(what_argument(alloc))
+}
+
+/// The command `route_desk` alone, with its version.
+fn bare_command<'a>(alloc: Global) -> Command<'a>
+    ensures app { app_of result ≡ bare_app }
+    ensures local { (out-Command result).has_globals ≡ false }
+{
+    Command::new(alloc, "route_desk").version(VERSION).about(
+        "Settled routing state of a Signalling System No. 7 network (ITU-T Q.704, MTP level 3)",
+    )
+}
+
 /// The command `route_desk` with `run` alone.
 fn desk_with_run<'a>(alloc: Global) -> Result<Command<'a>, AllocError>
     ensures app { IfOk result (λ c. app_of c ≡ desk_app_of_run) }
 {
     let run = run_command(alloc)?;
-    Command::new(alloc, "route_desk")
-        .about(
-            "Settled routing state of a Signalling System No. 7 network (ITU-T Q.704, MTP level 3)",
-        )
-        .subcommand(run)
+    bare_command(alloc).subcommand(run)
 }
 
 /// The command `route_desk` with the commands that answer a script.
@@ -190,12 +223,20 @@ fn desk_with_scripts<'a>(alloc: Global) -> Result<Command<'a>, AllocError>
     desk.subcommand(play_command(alloc)?)
 }
 
+/// The command `route_desk` with the commands that take a network.
+fn desk_with_nets<'a>(alloc: Global) -> Result<Command<'a>, AllocError>
+    ensures app { IfOk result (λ c. app_of c ≡ desk_app_of_nets) }
+{
+    let desk = desk_with_scripts(alloc)?;
+    desk.subcommand(check_command(alloc)?)
+}
+
 /// The whole command.
 fn desk_command<'a>(alloc: Global) -> Result<Command<'a>, AllocError>
     ensures app { IfOk result (λ c. app_of c ≡ desk_app) }
 {
-    let desk = desk_with_scripts(alloc)?;
-    desk.subcommand(check_command(alloc)?)
+    let desk = desk_with_nets(alloc)?;
+    desk.subcommand(explain_command(alloc)?)
 }
 
 /// What `clap` makes of the words.
@@ -295,6 +336,14 @@ fn check_order<'a>(matches: &ArgMatches<'a>) -> Option<Order<'a>>
     Some(Order::Check { net })
 }
 
+/// What the matches of `explain` order.
+fn explain_order<'a>(matches: &ArgMatches<'a>) -> Order<'a>
+    ensures { IsOrder result (Some (codes "explain", rows_of (found_of matches.now))) }
+{
+    let what = value_at(matches, "what");
+    Order::Explain { what }
+}
+
 /// What the matches order.
 fn order_of<'a>(matches: &ArgMatches<'a>) -> Result<Order<'a>, NoOrder>
     ensures order { IfOk result (λ order. IsOrder order (subcommand_rows_of matches.now)) }
@@ -308,6 +357,7 @@ fn order_of<'a>(matches: &ArgMatches<'a>) -> Result<Order<'a>, NoOrder>
         "run" => run_order(inner),
         "play" => play_order(inner).ok_or(NoOrder::NotWhole),
         "check" => check_order(inner).ok_or(NoOrder::NotWhole),
+        "explain" => Ok(explain_order(inner)),
         _ => Err(NoOrder::NotWhole),
     }
 }
