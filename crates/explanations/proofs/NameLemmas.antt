@@ -1,0 +1,49 @@
+-- Titles stand in the texts that are printed.
+use Rattle.std.proofs.Common.{◌++◌, ◌∷◌, [], codes, refl, sym, append_assoc}
+use Rattle.std.specs.Fmt.{decimal}
+use Rattle.answers.specs.Refusals.{refusal_name, refusal_values}
+use Rattle.answers.specs.DeskRefusals.{desk_refusal_text, target_text}
+use Rattle.sessions.specs.Faults.{key_text, place_text, load_text, fault_text}
+use Rattle.work_units.specs.declared.replies.Refusal.{Refusal}
+use Rattle.work_units.specs.declared.replies.Refusal.TheVariants as desk
+use Rattle.net_text.specs.declared.faults.LoadFault.{LoadFault}
+use Rattle.net_text.specs.declared.faults.LoadFault.TheVariants as load
+use Rattle.sessions.specs.declared.faults.Fault.{Fault}
+use Rattle.sessions.specs.declared.faults.Fault.TheVariants as fault
+use Rattle.explanations.specs.Names.{desk_name, load_name, fault_name}
+use Rattle.explanations.specs.Titles.{BeginsWith, StandsIn}
+
+-- what is printed of a refusal of the desk begins with its title
+pub desk_begins : (refusal : Refusal) → BeginsWith (desk_refusal_text refusal) (desk_name refusal)
+desk_begins desk.OutOfMemory = ([], refl)
+desk_begins (desk.Edit refusal) = (refusal_values refusal, refl)
+desk_begins (desk.Gap next) = (32 ∷ decimal next, refl)
+desk_begins (desk.Old last) = (32 ∷ decimal last, refl)
+desk_begins desk.Clash = ([], refl)
+desk_begins desk.BacklogFull = ([], refl)
+desk_begins (desk.NotReady left) = (32 ∷ decimal left, refl)
+desk_begins desk.Nothing = ([], refl)
+desk_begins desk.Busy = ([], refl)
+desk_begins (desk.Stale target) = (32 ∷ target_text target, refl)
+desk_begins desk.Unasked = ([], refl)
+desk_begins desk.Differs = ([], refl)
+desk_begins desk.EndOfNumbers = ([], refl)
+desk_begins desk.NotOpen = ([], refl)
+
+-- in what is printed of a fault of a network text stands its title
+pub load_stands : (fault : LoadFault) → StandsIn (load_text fault) (load_name fault)
+load_stands load.NotToml = ([], [], refl)
+load_stands (load.BadKey key) = ([], 32 ∷ key_text key, refl)
+load_stands (load.BadLine key place) = ([], 32 ∷ place_text key place, refl)
+load_stands (load.Refused key place refusal) =
+    (place_text key place ++ codes ": ", refusal_values refusal, sym (append_assoc (place_text key place) (codes ": ") (refusal_name refusal ++ refusal_values refusal)))
+load_stands load.Read = ([], [], refl)
+load_stands load.OutOfMemory = ([], [], refl)
+
+-- in what is printed of a fault of a run stands its title
+pub fault_stands : (fault : Fault) → StandsIn (fault_text fault) (fault_name fault)
+fault_stands fault.OutOfMemory = ([], [], refl)
+fault_stands fault.Read = ([], [], refl)
+fault_stands fault.Write = ([], [], refl)
+fault_stands fault.NoPlace = ([], [], refl)
+fault_stands (fault.Load e) = load_stands e

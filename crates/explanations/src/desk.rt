@@ -1,0 +1,129 @@
+//! What the refusals of the desk mean.
+
+ghost use Rattle.std.specs.Prelude.{◌≡◌, true};
+ghost use Rattle.explanations.specs.Names.{desk_name};
+ghost use Rattle.explanations.specs.Titles.{is_listed};
+
+use crate::edits::explain_edit;
+use crate::explanation::Explanation;
+use crate::faults::OUT_OF_MEMORY;
+use work_units::Refusal;
+
+pub(crate) const OLD: Explanation = Explanation {
+    title: "41 Old",
+    values: "LAST",
+    legend: "LAST is the collector's last sequence number.",
+    meaning: "The sequence number is 0, or below the collector's last, LAST.",
+    action: "Nothing: it was accepted before; go on after LAST.",
+};
+
+pub(crate) const CLASH: Explanation = Explanation {
+    title: "42 Clash",
+    values: "",
+    legend: "",
+    meaning: "The sequence number is the collector's last, with another event.",
+    action: "Look for two sources that post under one collector's number.",
+};
+
+pub(crate) const GAP: Explanation = Explanation {
+    title: "40 Gap",
+    values: "NEXT",
+    legend: "NEXT is the sequence number that is due.",
+    meaning: "The sequence number is above the next one, NEXT: a post is missing.",
+    action: "Send from NEXT on.",
+};
+
+pub(crate) const END_OF_NUMBERS: Explanation = Explanation {
+    title: "51 EndOfNumbers",
+    values: "",
+    legend: "",
+    meaning: "The greatest number, 2^64 - 1, is taken.",
+    action: "Start again from a saved network.",
+};
+
+pub(crate) const BACKLOG_FULL: Explanation = Explanation {
+    title: "43 BacklogFull",
+    values: "",
+    legend: "",
+    meaning: "65,536 accepted events are not yet published.",
+    action: "`sync`, then send it again.",
+};
+
+pub(crate) const BUSY: Explanation = Explanation {
+    title: "46 Busy",
+    values: "",
+    legend: "",
+    meaning: "A target is open.",
+    action: "`publish` it first (or `sync`).",
+};
+
+pub(crate) const NOTHING: Explanation = Explanation {
+    title: "45 Nothing",
+    values: "",
+    legend: "",
+    meaning: "For `open`: no event is newer than the published version; for `take`: no target is open, or nothing waits.",
+    action: "For `open`: nothing; for `take`: `open`, or `publish`.",
+};
+
+pub(crate) const STALE: Explanation = Explanation {
+    title: "47 Stale",
+    values: "T",
+    legend: "T is the number of the target that is open, or the word none if there is no such target.",
+    meaning: "The result is of another version than the target T, or no target is open.",
+    action: "Drop it: `take` into the slot again.",
+};
+
+pub(crate) const UNASKED: Explanation = Explanation {
+    title: "48 Unasked",
+    values: "",
+    legend: "",
+    meaning: "The destination of the result is not out: it was given or abandoned before.",
+    action: "Drop it.",
+};
+
+pub(crate) const DIFFERS: Explanation = Explanation {
+    title: "49 Differs",
+    values: "",
+    legend: "",
+    meaning: "The result was worked out of something else than the target's network has.",
+    action: "Drop it, and `take` again.",
+};
+
+pub(crate) const NOT_OPEN: Explanation = Explanation {
+    title: "52 NotOpen",
+    values: "",
+    legend: "",
+    meaning: "No target is open.",
+    action: "`open` one first.",
+};
+
+pub(crate) const NOT_READY: Explanation = Explanation {
+    title: "44 NotReady",
+    values: "LEFT",
+    legend: "LEFT is how many destinations they are.",
+    meaning: "LEFT destinations wait or are out.",
+    action: "`take` and `give` them.",
+};
+
+/// What a refusal of the desk means; of an event that it refuses, what that refusal means.
+pub fn explain_desk(refusal: &Refusal) -> Explanation
+    ensures title { result.title.now ≡ desk_name refusal.now }
+    ensures listed { is_listed result.title.now ≡ true }
+{
+    match refusal {
+        Refusal::OutOfMemory => OUT_OF_MEMORY,
+        Refusal::Edit(refusal) => explain_edit(refusal),
+        Refusal::Gap(_) => GAP,
+        Refusal::Old(_) => OLD,
+        Refusal::Clash => CLASH,
+        Refusal::BacklogFull => BACKLOG_FULL,
+        Refusal::NotReady(_) => NOT_READY,
+        Refusal::Nothing => NOTHING,
+        Refusal::Busy => BUSY,
+        Refusal::Stale(_) => STALE,
+        Refusal::Unasked => UNASKED,
+        Refusal::Differs => DIFFERS,
+        Refusal::EndOfNumbers => END_OF_NUMBERS,
+        Refusal::NotOpen => NOT_OPEN,
+    }
+}

@@ -1,0 +1,190 @@
+//! What the refusals of an event mean.
+
+ghost use Rattle.std.specs.Prelude.{◌≡◌, true};
+ghost use Rattle.answers.specs.Refusals.{refusal_name};
+ghost use Rattle.explanations.specs.Titles.{is_listed};
+
+use crate::explanation::Explanation;
+use crate::faults::OUT_OF_MEMORY;
+use net_data::Refusal;
+
+pub(crate) const NO_POINT: Explanation = Explanation {
+    title: "10 NoPoint",
+    values: "",
+    legend: "",
+    meaning: "A point that is named is not in the network.",
+    action: "`point add` it first, or mend the code.",
+};
+
+pub(crate) const POINT_THERE: Explanation = Explanation {
+    title: "11 PointThere",
+    values: "",
+    legend: "",
+    meaning: "There is a point with that code.",
+    action: "Nothing, or take another code.",
+};
+
+pub(crate) const POINT_USED: Explanation = Explanation {
+    title: "12 PointUsed",
+    values: "",
+    legend: "",
+    meaning: "The point is an end of a set, or has a plan or a row.",
+    action: "Drop its sets and plans, and its rows (`plan set` without them).",
+};
+
+pub(crate) const NOT_STP: Explanation = Explanation {
+    title: "13 NotStp",
+    values: "",
+    legend: "",
+    meaning: "One of the two is no transfer point.",
+    action: "Name two transfer points: only they have mates.",
+};
+
+pub(crate) const PAIRED: Explanation = Explanation {
+    title: "14 Paired",
+    values: "",
+    legend: "",
+    meaning: "The point has a mate already.",
+    action: "`unpair` it first.",
+};
+
+pub(crate) const NOT_PAIRED: Explanation = Explanation {
+    title: "15 NotPaired",
+    values: "",
+    legend: "",
+    meaning: "The point has no mate.",
+    action: "Nothing.",
+};
+
+pub(crate) const PAIR_USED: Explanation = Explanation {
+    title: "16 PairUsed",
+    values: "",
+    legend: "",
+    meaning: "For `pair`: a row of one leads over the other towards a third point; for `unpair`: a row of one of them has the mate flag.",
+    action: "Change those plans first.",
+};
+
+pub(crate) const NO_SET: Explanation = Explanation {
+    title: "17 NoSet",
+    values: "",
+    legend: "",
+    meaning: "There is no link set with that id.",
+    action: "Mend the id.",
+};
+
+pub(crate) const SET_THERE: Explanation = Explanation {
+    title: "18 SetThere",
+    values: "",
+    legend: "",
+    meaning: "There is a link set with that id.",
+    action: "Take another id.",
+};
+
+pub(crate) const JOINED: Explanation = Explanation {
+    title: "19 Joined",
+    values: "ID",
+    legend: "ID is the id of that link set.",
+    meaning: "Set ID joins the two points already.",
+    action: "`link add ID ..`: there is one set between two points.",
+};
+
+pub(crate) const SAME_ENDS: Explanation = Explanation {
+    title: "20 SameEnds",
+    values: "",
+    legend: "",
+    meaning: "The two points are one.",
+    action: "Mend the codes.",
+};
+
+pub(crate) const BAD_LINKS: Explanation = Explanation {
+    title: "21 BadLinks",
+    values: "",
+    legend: "",
+    meaning: "There is no link, more than 16, a code above 15, or one code twice.",
+    action: "Mend the codes.",
+};
+
+pub(crate) const NO_LINK: Explanation = Explanation {
+    title: "22 NoLink",
+    values: "",
+    legend: "",
+    meaning: "The set has no link with that code.",
+    action: "Mend the code.",
+};
+
+pub(crate) const LINK_THERE: Explanation = Explanation {
+    title: "23 LinkThere",
+    values: "",
+    legend: "",
+    meaning: "The set has a link with that code.",
+    action: "Take another code.",
+};
+
+pub(crate) const LAST_LINK: Explanation = Explanation {
+    title: "24 LastLink",
+    values: "",
+    legend: "",
+    meaning: "It is the set's only link.",
+    action: "`set drop` instead.",
+};
+
+pub(crate) const SET_USED: Explanation = Explanation {
+    title: "25 SetUsed",
+    values: "",
+    legend: "",
+    meaning: "A row of one end leads over the other end, or relies on it as its mate.",
+    action: "Change those plans first.",
+};
+
+pub(crate) const NO_PLAN: Explanation = Explanation {
+    title: "26 NoPlan",
+    values: "",
+    legend: "",
+    meaning: "The destination has no plan.",
+    action: "`plan set` one first (also of questions, `status` to `trace`).",
+};
+
+pub(crate) const BAD_ROW: Explanation = Explanation {
+    title: "27 BadRow",
+    values: "CODE c",
+    legend: "CODE is the row's point, and c the letter of the cause: a IsDest, b Twice, c NotJoined, d ViaTwice, e NotLower, f ViaMate, g BadMate or h NoRoute.",
+    meaning: "The row of the point CODE can't be in that plan, for the cause c.",
+    action: "Mend the row; explain the cause by its name.",
+};
+
+pub(crate) const LIMIT: Explanation = Explanation {
+    title: "28 Limit",
+    values: "",
+    legend: "",
+    meaning: "There are more than 1,024 points, a set id above 4,095, a rank 0, more than four classes, or a class with no via or more than two.",
+    action: "Stay within the limits.",
+};
+
+/// What a refusal of an event means.
+pub fn explain_edit(refusal: &Refusal) -> Explanation
+    ensures title { result.title.now ≡ refusal_name refusal.now }
+    ensures listed { is_listed result.title.now ≡ true }
+{
+    match refusal {
+        Refusal::OutOfMemory => OUT_OF_MEMORY,
+        Refusal::NoPoint => NO_POINT,
+        Refusal::PointThere => POINT_THERE,
+        Refusal::PointUsed => POINT_USED,
+        Refusal::NotStp => NOT_STP,
+        Refusal::Paired => PAIRED,
+        Refusal::NotPaired => NOT_PAIRED,
+        Refusal::PairUsed => PAIR_USED,
+        Refusal::NoSet => NO_SET,
+        Refusal::SetThere => SET_THERE,
+        Refusal::Joined(_) => JOINED,
+        Refusal::SameEnds => SAME_ENDS,
+        Refusal::BadLinks => BAD_LINKS,
+        Refusal::NoLink => NO_LINK,
+        Refusal::LinkThere => LINK_THERE,
+        Refusal::LastLink => LAST_LINK,
+        Refusal::SetUsed => SET_USED,
+        Refusal::NoPlan => NO_PLAN,
+        Refusal::BadRow(_, _) => BAD_ROW,
+        Refusal::Limit => LIMIT,
+    }
+}

@@ -1,0 +1,35 @@
+//! What is told of a line and of a question without an enum of refusals, and what is told nowhere else.
+
+use crate::explanation::Explanation;
+
+pub(crate) const NO_ROW: Explanation = Explanation {
+    title: "29 NoRow",
+    values: "",
+    legend: "",
+    meaning: "Of questions: the point has no row in the plan.",
+    action: "Ask for a point that has one.",
+};
+
+pub(crate) const BAD_LINE: Explanation = Explanation {
+    title: "62 BadLine",
+    values: "KEY PLACE",
+    legend: "KEY and PLACE are told of a network text alone: a key, and the place of an entry of its array, from 1.",
+    meaning: "The line is no command, or the slot is empty; of a network text: the entry can't be read.",
+    action: "Compare the line with the tables of SCRIPT.md, or the entry with NETWORK.md.",
+};
+
+pub(crate) const BAD_CODE: Explanation = Explanation {
+    title: "2 BadCode",
+    values: "",
+    legend: "",
+    meaning: "A code can't be read as z-a-p: z 0 to 7, a 0 to 255, p 0 to 7.",
+    action: "Mend the code; in a script it makes the line `62 BadLine`.",
+};
+
+pub(crate) const LIMITS: Explanation = Explanation {
+    title: "limits",
+    values: "",
+    legend: "",
+    meaning: "There are up to 1,024 points; link set ids 0 to 4,095; 1 to 16 links in a set, with codes 0 to 15; one link set between two points; ranks 1 to 255, and four classes of one or two vias; 65,536 accepted events that are not yet published; 131,072 bytes in a script line and 134,217,728 in a network text.",
+    action: "Stay within them.",
+};

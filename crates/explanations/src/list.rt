@@ -1,0 +1,129 @@
+//! All explanations, and the one that a word calls.
+
+ghost use Rattle.std.specs.Prelude.{◌≡◌, option_map, map, find as first_that};
+ghost use Rattle.explanations.specs.Titles.{titles, is_number_text, is_called_by};
+
+use crate::causes::{
+    BAD_MATE, IS_DEST, NO_ROUTE, NOT_JOINED, NOT_LOWER, TWICE, VIA_MATE, VIA_TWICE,
+};
+use crate::complaints::{LINKS, MESSAGES, POINTS, ROUTE, STATUS};
+use crate::desk::{
+    BACKLOG_FULL, BUSY, CLASH, DIFFERS, END_OF_NUMBERS, GAP, NOT_OPEN, NOT_READY, NOTHING, OLD,
+    STALE, UNASKED,
+};
+use crate::edits::{
+    BAD_LINKS, BAD_ROW, JOINED, LAST_LINK, LIMIT, LINK_THERE, NO_LINK, NO_PLAN, NO_POINT, NO_SET,
+    NOT_PAIRED, NOT_STP, PAIR_USED, PAIRED, POINT_THERE, POINT_USED, SAME_ENDS, SET_THERE,
+    SET_USED,
+};
+use crate::explanation::Explanation;
+use crate::faults::{BAD_KEY, NO_PLACE, NOT_TOML, OUT_OF_MEMORY, READ, WRITE};
+use crate::lines::{BAD_CODE, BAD_LINE, LIMITS, NO_ROW};
+
+/// All explanations, in the order of the tables of docs/SCRIPT.md.
+const EXPLANATIONS: &[Explanation] = &[
+    OLD,
+    CLASH,
+    GAP,
+    END_OF_NUMBERS,
+    BACKLOG_FULL,
+    BUSY,
+    NOTHING,
+    STALE,
+    UNASKED,
+    DIFFERS,
+    NOT_OPEN,
+    NOT_READY,
+    NO_POINT,
+    POINT_THERE,
+    POINT_USED,
+    NOT_STP,
+    PAIRED,
+    NOT_PAIRED,
+    PAIR_USED,
+    NO_SET,
+    SET_THERE,
+    JOINED,
+    SAME_ENDS,
+    BAD_LINKS,
+    NO_LINK,
+    LINK_THERE,
+    LAST_LINK,
+    SET_USED,
+    NO_PLAN,
+    BAD_ROW,
+    LIMIT,
+    NO_ROW,
+    BAD_LINE,
+    IS_DEST,
+    TWICE,
+    NOT_JOINED,
+    VIA_TWICE,
+    NOT_LOWER,
+    VIA_MATE,
+    BAD_MATE,
+    NO_ROUTE,
+    POINTS,
+    ROUTE,
+    STATUS,
+    LINKS,
+    MESSAGES,
+    OUT_OF_MEMORY,
+    NOT_TOML,
+    BAD_KEY,
+    READ,
+    WRITE,
+    NO_PLACE,
+    BAD_CODE,
+    LIMITS,
+];
+
+/// All explanations, each number once: of refusals of the desk, of an event and of a line, causes, complaints, faults, and others.
+pub fn explanations() -> &'static [Explanation]
+    ensures { map (λ e. e.title.now) result.now ≡ titles }
+{
+    EXPLANATIONS
+}
+
+/// Whether a text begins with a digit.
+fn is_number(text: &str) -> bool
+    ensures { result ≡ is_number_text text.now }
+{
+    matches!(text.as_bytes(), [b'0'..=b'9', ..])
+}
+
+/// Whether a word calls the explanation of that title: it is the title, the number in it, or the name in it.
+fn is_called(word: &str, title: &str) -> bool
+    ensures { result ≡ is_called_by word.now title.now }
+{
+    if word == title {
+        return true;
+    }
+    match title.split_once(' ') {
+        Some((number, name)) => (is_number(word) && word == number)
+            || (!word.is_empty() && word == name),
+        None => false,
+    }
+}
+
+/// The first explanation of a list that a word calls.
+fn find_among(list: &[Explanation], word: &str) -> Option<Explanation>
+    ensures { option_map (λ e. e.title.now) result ≡ first_that (is_called_by word.now) (map (λ e. e.title.now) list.now) }
+{
+    let mut rest = list;
+    while let Some((first, more)) = rest.split_first() {
+        if is_called(word, first.title) {
+            return Some(*first);
+        }
+        rest = more;
+    }
+    None
+}
+
+/// The first explanation whose number or name is a word, as `27` or `BadRow`, or a letter and its name, as `a IsDest`. A letter
+/// alone calls none, since causes and complaints have the same.
+pub fn find(word: &str) -> Option<Explanation>
+    ensures { option_map (λ e. e.title.now) result ≡ first_that (is_called_by word.now) titles }
+{
+    find_among(explanations(), word)
+}
