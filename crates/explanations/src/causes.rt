@@ -28,7 +28,7 @@ pub(crate) const NOT_JOINED: Explanation = Explanation {
     values: "",
     legend: "",
     meaning: "No link set joins the row's point and a via.",
-    action: "`set add` one first, or lead over an adjacent point.",
+    action: "Use `set add` first, or lead over an adjacent point.",
 };
 
 pub(crate) const VIA_TWICE: Explanation = Explanation {

@@ -14,7 +14,7 @@ pub(crate) const OLD: Explanation = Explanation {
     values: "LAST",
     legend: "LAST is the collector's last sequence number.",
     meaning: "The sequence number is 0, or below the collector's last, LAST.",
-    action: "Nothing: it was accepted before; go on after LAST.",
+    action: "Go on after LAST: it was accepted before.",
 };
 
 pub(crate) const CLASH: Explanation = Explanation {
@@ -46,7 +46,7 @@ pub(crate) const BACKLOG_FULL: Explanation = Explanation {
     values: "",
     legend: "",
     meaning: "65,536 accepted events are not yet published.",
-    action: "`sync`, then send it again.",
+    action: "Use `sync`, then send it again.",
 };
 
 pub(crate) const BUSY: Explanation = Explanation {
@@ -54,15 +54,15 @@ pub(crate) const BUSY: Explanation = Explanation {
     values: "",
     legend: "",
     meaning: "A target is open.",
-    action: "`publish` it first (or `sync`).",
+    action: "Use `publish` first, or `sync`.",
 };
 
 pub(crate) const NOTHING: Explanation = Explanation {
     title: "45 Nothing",
     values: "",
     legend: "",
-    meaning: "For `open`: no event is newer than the published version; for `take`: no target is open, or nothing waits.",
-    action: "For `open`: nothing; for `take`: `open`, or `publish`.",
+    meaning: "After `open`: no event is newer than the published version; after `take`: no target is open, or nothing waits.",
+    action: "After `open`: do nothing; after `take`: use `open`, or `publish`.",
 };
 
 pub(crate) const STALE: Explanation = Explanation {
@@ -70,7 +70,7 @@ pub(crate) const STALE: Explanation = Explanation {
     values: "T",
     legend: "T is the number of the target that is open, or the word none if there is no such target.",
     meaning: "The result is of another version than the target T, or no target is open.",
-    action: "Drop it: `take` into the slot again.",
+    action: "Drop it: use `take` into the slot again.",
 };
 
 pub(crate) const UNASKED: Explanation = Explanation {
@@ -86,7 +86,7 @@ pub(crate) const DIFFERS: Explanation = Explanation {
     values: "",
     legend: "",
     meaning: "The result was worked out of something else than the target's network has.",
-    action: "Drop it, and `take` again.",
+    action: "Drop it, and use `take` again.",
 };
 
 pub(crate) const NOT_OPEN: Explanation = Explanation {
@@ -94,7 +94,7 @@ pub(crate) const NOT_OPEN: Explanation = Explanation {
     values: "",
     legend: "",
     meaning: "No target is open.",
-    action: "`open` one first.",
+    action: "Use `open` first.",
 };
 
 pub(crate) const NOT_READY: Explanation = Explanation {
@@ -102,7 +102,7 @@ pub(crate) const NOT_READY: Explanation = Explanation {
     values: "LEFT",
     legend: "LEFT is how many destinations they are.",
     meaning: "LEFT destinations wait or are out.",
-    action: "`take` and `give` them.",
+    action: "Use `take` and `give` for each of them.",
 };
 
 /// What a refusal of the desk means; of an event that it refuses, what that refusal means.

@@ -13,7 +13,7 @@ pub(crate) const NO_POINT: Explanation = Explanation {
     values: "",
     legend: "",
     meaning: "A point that is named is not in the network.",
-    action: "`point add` it first, or mend the code.",
+    action: "Use `point add` first, or mend the code.",
 };
 
 pub(crate) const POINT_THERE: Explanation = Explanation {
@@ -21,7 +21,7 @@ pub(crate) const POINT_THERE: Explanation = Explanation {
     values: "",
     legend: "",
     meaning: "There is a point with that code.",
-    action: "Nothing, or take another code.",
+    action: "Do nothing, or take another code.",
 };
 
 pub(crate) const POINT_USED: Explanation = Explanation {
@@ -45,7 +45,7 @@ pub(crate) const PAIRED: Explanation = Explanation {
     values: "",
     legend: "",
     meaning: "The point has a mate already.",
-    action: "`unpair` it first.",
+    action: "Use `unpair` first.",
 };
 
 pub(crate) const NOT_PAIRED: Explanation = Explanation {
@@ -53,14 +53,14 @@ pub(crate) const NOT_PAIRED: Explanation = Explanation {
     values: "",
     legend: "",
     meaning: "The point has no mate.",
-    action: "Nothing.",
+    action: "Do nothing.",
 };
 
 pub(crate) const PAIR_USED: Explanation = Explanation {
     title: "16 PairUsed",
     values: "",
     legend: "",
-    meaning: "For `pair`: a row of one leads over the other towards a third point; for `unpair`: a row of one of them has the mate flag.",
+    meaning: "With `pair`: a row of one leads over the other towards a third point; with `unpair`: a row of one of them has the mate flag.",
     action: "Change those plans first.",
 };
 
@@ -85,7 +85,7 @@ pub(crate) const JOINED: Explanation = Explanation {
     values: "ID",
     legend: "ID is the id of that link set.",
     meaning: "Set ID joins the two points already.",
-    action: "`link add ID ..`: there is one set between two points.",
+    action: "Use `link add ID ..`: there is one set between two points.",
 };
 
 pub(crate) const SAME_ENDS: Explanation = Explanation {
@@ -125,7 +125,7 @@ pub(crate) const LAST_LINK: Explanation = Explanation {
     values: "",
     legend: "",
     meaning: "It is the set's only link.",
-    action: "`set drop` instead.",
+    action: "Use `set drop` instead.",
 };
 
 pub(crate) const SET_USED: Explanation = Explanation {
@@ -140,8 +140,8 @@ pub(crate) const NO_PLAN: Explanation = Explanation {
     title: "26 NoPlan",
     values: "",
     legend: "",
-    meaning: "The destination has no plan.",
-    action: "`plan set` one first (also of questions, `status` to `trace`).",
+    meaning: "The destination of the event or the question has no plan.",
+    action: "Use `plan set` first.",
 };
 
 pub(crate) const BAD_ROW: Explanation = Explanation {
@@ -149,7 +149,7 @@ pub(crate) const BAD_ROW: Explanation = Explanation {
     values: "CODE c",
     legend: "CODE is the row's point, and c the letter of the cause: a IsDest, b Twice, c NotJoined, d ViaTwice, e NotLower, f ViaMate, g BadMate or h NoRoute.",
     meaning: "The row of the point CODE can't be in that plan, for the cause c.",
-    action: "Mend the row; explain the cause by its name.",
+    action: "Mend the row, by its cause.",
 };
 
 pub(crate) const LIMIT: Explanation = Explanation {

@@ -47,7 +47,7 @@ pub(crate) const WRITE: Explanation = Explanation {
     values: "",
     legend: "",
     meaning: "Standard output or the file of `--save` can't be written.",
-    action: "Mend it.",
+    action: "Make room for it, or name another file.",
 };
 
 pub(crate) const NO_PLACE: Explanation = Explanation {

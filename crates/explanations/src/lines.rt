@@ -6,7 +6,7 @@ pub(crate) const NO_ROW: Explanation = Explanation {
     title: "29 NoRow",
     values: "",
     legend: "",
-    meaning: "Of questions: the point has no row in the plan.",
+    meaning: "The point of the question has no row in the plan.",
     action: "Ask for a point that has one.",
 };
 

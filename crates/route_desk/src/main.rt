@@ -10,15 +10,18 @@
 //! 3. `route_desk check NET` works out the tables of all planned destinations of that network, by as many threads as
 //!    there are processors, checks each by the local rule, and writes `ok P` for P plans, or `bad X Y c` for the first
 //!    wrong one.
-//! 4. It exits with 0 if the script was answered to its end: a refused line is no fault of a run; or if all
-//!    tables are right.
-//! 5. It exits with 1 if a table is wrong, if the network isn't loaded, or where memory, reading, writing or the want of a
+//! 4. `route_desk explain WHAT` writes what the refusal, fault, cause or complaint of that number or name means and what
+//!    to do; without WHAT the title and the meaning of each, a line each.
+//! 5. It exits with 0 if the script was answered to its end: a refused line is no fault of a run; or if all
+//!    tables are right, or if what was asked for is explained.
+//! 6. It exits with 1 if a table is wrong, if the network isn't loaded, or where memory, reading, writing or the want of a
 //!    place for a reader ended the run; in all but the first of these standard error has one line, `route_desk: ` and the fault. Memory that is
 //!    wanting while the arguments are fetched is such a fault.
-//! 6. It exits with 2 where the command line isn't read, with `clap`'s text on standard error, or one line if an argument
-//!    isn't UTF-8 or N is no number from 0 to 32. Help is printed on standard output, with 0.
+//! 7. It exits with 2 where the command line isn't read, with `clap`'s text on standard error, or one line if an argument
+//!    isn't UTF-8, N is no number from 0 to 32, or nothing is called WHAT. Help and the version are printed on standard
+//!    output, with 0.
 //!
-//! Stands on `net_saving`, `console`, `beside`, `command_line`, `clap`. Nothing else changes with it.
+//! Stands on `net_saving`, `console`, `beside`, `explanations`, `command_line`, `clap`. Nothing else changes with it.
 #![tactic(auto)]
 
 ghost use Rattle.std.specs.Prelude.{◌≤◌};
@@ -31,6 +34,7 @@ use console::{
     CheckEnd, Fault, ScriptEnd, check_net, read_net, run_input, run_script, write_fault,
 };
 use excerpts::Frozen;
+use explanations::{explanations, find, write_explanation, write_titles};
 use net_data::Net;
 use net_saving::save;
 use std::alloc::{AllocError, Global};
@@ -260,6 +264,33 @@ fn report_end(rt: &HostRuntime, end: Result<CheckEnd, Fault>) -> io::Result<Exit
     }
 }
 
+/// Writes a text that was asked for, or says that there was no memory for it.
+fn tell(rt: &HostRuntime, text: Result<String, AllocError>) -> io::Result<ExitCode> {
+    let Ok(text) = text else {
+        return report(rt, Some(Fault::OutOfMemory));
+    };
+    let text = text.as_str();
+    if let Err(_) = print!(rt; "{text}") {
+        return report(rt, Some(Fault::Write));
+    }
+    Ok(ExitCode::SUCCESS)
+}
+
+/// Writes the explanation that a word calls, or a line for each if there is no word.
+fn explain(rt: &HostRuntime, what: Option<&str>) -> io::Result<ExitCode> {
+    let alloc = rt.alloc();
+    let Some(word) = what else {
+        return tell(rt, write_titles(alloc, explanations()));
+    };
+    match find(word) {
+        Some(explanation) => tell(rt, write_explanation(alloc, &explanation)),
+        None => {
+            eprintln!(rt; "route_desk: nothing is called {word}")?;
+            Ok(ExitCode::from(2))
+        }
+    }
+}
+
 /// Runs the script on standard input, saves the network if a file is named, and says how the run ended.
 fn run(
     rt: &HostRuntime,
@@ -292,6 +323,7 @@ fn obey(
         Order::Check { net } => {
             report_end(rt, check_tables(threads, rt.alloc(), load_file(rt, net)))
         }
+        Order::Explain { what } => explain(rt, what),
     }
 }
 
