@@ -36,7 +36,7 @@ pub enum Order<'a> {
     Check {
         net: &'a str,
     },
-    /// To tell what this number, name or letter with its name means, or of all of them if none is given.
+    /// To tell what this number or name means, or what each of them means if none is given.
     Explain {
         what: Option<&'a str>,
     },
@@ -193,7 +193,7 @@ fn explain_command<'a>(alloc: Global) -> Result<Command<'a>, AllocError>
     ensures local { IfOk result (λ c. (out-Command c).has_globals ≡ false) }
 {
     Command::new(alloc, "explain")
-        .about("Tell what a refusal, a fault or a letter means, and what to do")
+        .about("Tell what a refusal, a fault or a cause means, and what to do")
         .arg(what_argument(alloc))
 }
 

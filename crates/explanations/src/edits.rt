@@ -100,7 +100,7 @@ pub(crate) const BAD_LINKS: Explanation = Explanation {
     title: "21 BadLinks",
     values: "",
     legend: "",
-    meaning: "There is no link, more than 16, a code above 15, or one code twice.",
+    meaning: "No link is named, more than 16 are, a code is above 15, or one code stands twice.",
     action: "Mend the codes.",
 };
 
@@ -149,14 +149,14 @@ pub(crate) const BAD_ROW: Explanation = Explanation {
     values: "CODE c",
     legend: "CODE is the row's point, and c the letter of the cause: a IsDest, b Twice, c NotJoined, d ViaTwice, e NotLower, f ViaMate, g BadMate or h NoRoute.",
     meaning: "The row of the point CODE can't be in that plan, for the cause c.",
-    action: "Mend the row, by its cause.",
+    action: "Look up the cause by its name, and mend the row.",
 };
 
 pub(crate) const LIMIT: Explanation = Explanation {
     title: "28 Limit",
     values: "",
     legend: "",
-    meaning: "There are more than 1,024 points, a set id above 4,095, a rank 0, more than four classes, or a class with no via or more than two.",
+    meaning: "There are more than 1,024 points, a set id is above 4,095, a rank is 0, there are more than four classes, or a class has no via or more than two.",
     action: "Stay within the limits.",
 };
 
