@@ -1,7 +1,7 @@
 //! All explanations, and the one that a word calls.
 
 ghost use Rattle.std.specs.Prelude.{◌≡◌, option_map, map, find as first_that};
-ghost use Rattle.explanations.specs.Titles.{titles, is_number_text, is_called_by};
+ghost use Rattle.explanations.specs.Titles.{titles, title_found, is_number_text, is_called_by};
 
 use crate::causes::{
     BAD_MATE, IS_DEST, NO_ROUTE, NOT_JOINED, NOT_LOWER, TWICE, VIA_MATE, VIA_TWICE,
@@ -123,7 +123,7 @@ fn find_among(list: &[Explanation], word: &str) -> Option<Explanation>
 /// The first explanation whose number or name is a word, as `27` or `BadRow`, or a letter and its name, as `a IsDest`. A letter
 /// alone calls none, since causes and complaints have the same.
 pub fn find(word: &str) -> Option<Explanation>
-    ensures { option_map (λ e. e.title.now) result ≡ first_that (is_called_by word.now) titles }
+    ensures { option_map (λ e. e.title.now) result ≡ title_found word.now }
 {
     find_among(explanations(), word)
 }
