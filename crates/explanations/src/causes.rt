@@ -72,18 +72,18 @@ pub(crate) const NO_ROUTE: Explanation = Explanation {
 };
 
 /// What is wrong with a row, by the cause of a refusal.
-pub fn explain_cause(cause: Cause) -> Explanation
-    ensures title { result.title.now ≡ cause_title cause }
-    ensures listed { is_listed result.title.now ≡ true }
+pub fn explain_cause(cause: Cause) -> &'static Explanation
+    ensures title { result.now.title.now ≡ cause_title cause }
+    ensures listed { is_listed result.now.title.now ≡ true }
 {
     match cause {
-        Cause::IsDest => IS_DEST,
-        Cause::Twice => TWICE,
-        Cause::NotJoined => NOT_JOINED,
-        Cause::ViaTwice => VIA_TWICE,
-        Cause::NotLower => NOT_LOWER,
-        Cause::ViaMate => VIA_MATE,
-        Cause::BadMate => BAD_MATE,
-        Cause::NoRoute => NO_ROUTE,
+        Cause::IsDest => &IS_DEST,
+        Cause::Twice => &TWICE,
+        Cause::NotJoined => &NOT_JOINED,
+        Cause::ViaTwice => &VIA_TWICE,
+        Cause::NotLower => &NOT_LOWER,
+        Cause::ViaMate => &VIA_MATE,
+        Cause::BadMate => &BAD_MATE,
+        Cause::NoRoute => &NO_ROUTE,
     }
 }

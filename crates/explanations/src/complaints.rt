@@ -51,15 +51,15 @@ pub(crate) const MESSAGES: Explanation = Explanation {
 };
 
 /// What is wrong with a row of a table, by the letter of a complaint.
-pub fn explain_complaint(clause: Clause) -> Explanation
-    ensures title { result.title.now ≡ complaint_title clause }
-    ensures listed { is_listed result.title.now ≡ true }
+pub fn explain_complaint(clause: Clause) -> &'static Explanation
+    ensures title { result.now.title.now ≡ complaint_title clause }
+    ensures listed { is_listed result.now.title.now ≡ true }
 {
     match clause {
-        Clause::Points => POINTS,
-        Clause::Route => ROUTE,
-        Clause::Status => STATUS,
-        Clause::Links => LINKS,
-        Clause::Messages => MESSAGES,
+        Clause::Points => &POINTS,
+        Clause::Route => &ROUTE,
+        Clause::Status => &STATUS,
+        Clause::Links => &LINKS,
+        Clause::Messages => &MESSAGES,
     }
 }

@@ -106,24 +106,24 @@ pub(crate) const NOT_READY: Explanation = Explanation {
 };
 
 /// What a refusal of the desk means; of an event that it refuses, what that refusal means.
-pub fn explain_desk(refusal: &Refusal) -> Explanation
-    ensures title { result.title.now ≡ desk_name refusal.now }
-    ensures listed { is_listed result.title.now ≡ true }
+pub fn explain_desk(refusal: &Refusal) -> &'static Explanation
+    ensures title { result.now.title.now ≡ desk_name refusal.now }
+    ensures listed { is_listed result.now.title.now ≡ true }
 {
     match refusal {
-        Refusal::OutOfMemory => OUT_OF_MEMORY,
+        Refusal::OutOfMemory => &OUT_OF_MEMORY,
         Refusal::Edit(refusal) => explain_edit(refusal),
-        Refusal::Gap(_) => GAP,
-        Refusal::Old(_) => OLD,
-        Refusal::Clash => CLASH,
-        Refusal::BacklogFull => BACKLOG_FULL,
-        Refusal::NotReady(_) => NOT_READY,
-        Refusal::Nothing => NOTHING,
-        Refusal::Busy => BUSY,
-        Refusal::Stale(_) => STALE,
-        Refusal::Unasked => UNASKED,
-        Refusal::Differs => DIFFERS,
-        Refusal::EndOfNumbers => END_OF_NUMBERS,
-        Refusal::NotOpen => NOT_OPEN,
+        Refusal::Gap(_) => &GAP,
+        Refusal::Old(_) => &OLD,
+        Refusal::Clash => &CLASH,
+        Refusal::BacklogFull => &BACKLOG_FULL,
+        Refusal::NotReady(_) => &NOT_READY,
+        Refusal::Nothing => &NOTHING,
+        Refusal::Busy => &BUSY,
+        Refusal::Stale(_) => &STALE,
+        Refusal::Unasked => &UNASKED,
+        Refusal::Differs => &DIFFERS,
+        Refusal::EndOfNumbers => &END_OF_NUMBERS,
+        Refusal::NotOpen => &NOT_OPEN,
     }
 }

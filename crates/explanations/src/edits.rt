@@ -161,30 +161,30 @@ pub(crate) const LIMIT: Explanation = Explanation {
 };
 
 /// What a refusal of an event means.
-pub fn explain_edit(refusal: &Refusal) -> Explanation
-    ensures title { result.title.now ≡ refusal_name refusal.now }
-    ensures listed { is_listed result.title.now ≡ true }
+pub fn explain_edit(refusal: &Refusal) -> &'static Explanation
+    ensures title { result.now.title.now ≡ refusal_name refusal.now }
+    ensures listed { is_listed result.now.title.now ≡ true }
 {
     match refusal {
-        Refusal::OutOfMemory => OUT_OF_MEMORY,
-        Refusal::NoPoint => NO_POINT,
-        Refusal::PointThere => POINT_THERE,
-        Refusal::PointUsed => POINT_USED,
-        Refusal::NotStp => NOT_STP,
-        Refusal::Paired => PAIRED,
-        Refusal::NotPaired => NOT_PAIRED,
-        Refusal::PairUsed => PAIR_USED,
-        Refusal::NoSet => NO_SET,
-        Refusal::SetThere => SET_THERE,
-        Refusal::Joined(_) => JOINED,
-        Refusal::SameEnds => SAME_ENDS,
-        Refusal::BadLinks => BAD_LINKS,
-        Refusal::NoLink => NO_LINK,
-        Refusal::LinkThere => LINK_THERE,
-        Refusal::LastLink => LAST_LINK,
-        Refusal::SetUsed => SET_USED,
-        Refusal::NoPlan => NO_PLAN,
-        Refusal::BadRow(_, _) => BAD_ROW,
-        Refusal::Limit => LIMIT,
+        Refusal::OutOfMemory => &OUT_OF_MEMORY,
+        Refusal::NoPoint => &NO_POINT,
+        Refusal::PointThere => &POINT_THERE,
+        Refusal::PointUsed => &POINT_USED,
+        Refusal::NotStp => &NOT_STP,
+        Refusal::Paired => &PAIRED,
+        Refusal::NotPaired => &NOT_PAIRED,
+        Refusal::PairUsed => &PAIR_USED,
+        Refusal::NoSet => &NO_SET,
+        Refusal::SetThere => &SET_THERE,
+        Refusal::Joined(_) => &JOINED,
+        Refusal::SameEnds => &SAME_ENDS,
+        Refusal::BadLinks => &BAD_LINKS,
+        Refusal::NoLink => &NO_LINK,
+        Refusal::LinkThere => &LINK_THERE,
+        Refusal::LastLink => &LAST_LINK,
+        Refusal::SetUsed => &SET_USED,
+        Refusal::NoPlan => &NO_PLAN,
+        Refusal::BadRow(_, _) => &BAD_ROW,
+        Refusal::Limit => &LIMIT,
     }
 }

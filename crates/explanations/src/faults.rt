@@ -59,30 +59,30 @@ pub(crate) const NO_PLACE: Explanation = Explanation {
 };
 
 /// What a fault of a network text means; of an entry that is refused, what that refusal means.
-pub fn explain_load(fault: &LoadFault) -> Explanation
-    ensures title { result.title.now ≡ load_name fault.now }
-    ensures listed { is_listed result.title.now ≡ true }
+pub fn explain_load(fault: &LoadFault) -> &'static Explanation
+    ensures title { result.now.title.now ≡ load_name fault.now }
+    ensures listed { is_listed result.now.title.now ≡ true }
 {
     match fault {
-        LoadFault::NotToml => NOT_TOML,
-        LoadFault::BadKey(_) => BAD_KEY,
-        LoadFault::BadLine(_, _) => BAD_LINE,
+        LoadFault::NotToml => &NOT_TOML,
+        LoadFault::BadKey(_) => &BAD_KEY,
+        LoadFault::BadLine(_, _) => &BAD_LINE,
         LoadFault::Refused(_, _, refusal) => explain_edit(refusal),
-        LoadFault::Read => READ,
-        LoadFault::OutOfMemory => OUT_OF_MEMORY,
+        LoadFault::Read => &READ,
+        LoadFault::OutOfMemory => &OUT_OF_MEMORY,
     }
 }
 
 /// What a fault of a run means.
-pub fn explain_fault(fault: &Fault) -> Explanation
-    ensures title { result.title.now ≡ fault_name fault.now }
-    ensures listed { is_listed result.title.now ≡ true }
+pub fn explain_fault(fault: &Fault) -> &'static Explanation
+    ensures title { result.now.title.now ≡ fault_name fault.now }
+    ensures listed { is_listed result.now.title.now ≡ true }
 {
     match fault {
-        Fault::OutOfMemory => OUT_OF_MEMORY,
-        Fault::Read => READ,
-        Fault::Write => WRITE,
-        Fault::NoPlace => NO_PLACE,
+        Fault::OutOfMemory => &OUT_OF_MEMORY,
+        Fault::Read => &READ,
+        Fault::Write => &WRITE,
+        Fault::NoPlace => &NO_PLACE,
         Fault::Load(fault) => explain_load(fault),
     }
 }

@@ -107,13 +107,13 @@ fn is_called(word: &str, title: &str) -> bool
 }
 
 /// The first explanation of a list that a word calls.
-fn find_among(list: &[Explanation], word: &str) -> Option<Explanation>
-    ensures { option_map (λ e. e.title.now) result ≡ first_that (is_called_by word.now) (map (λ e. e.title.now) list.now) }
+fn find_among<'a>(list: &'a [Explanation], word: &str) -> Option<&'a Explanation>
+    ensures { option_map (λ e. e.now.title.now) result ≡ first_that (is_called_by word.now) (map (λ e. e.title.now) list.entry.now) }
 {
     let mut rest = list;
     while let Some((first, more)) = rest.split_first() {
         if is_called(word, first.title) {
-            return Some(*first);
+            return Some(first);
         }
         rest = more;
     }
@@ -122,8 +122,8 @@ fn find_among(list: &[Explanation], word: &str) -> Option<Explanation>
 
 /// The first explanation whose number or name is a word, as `27` or `BadRow`, or a letter and its name, as `a IsDest`. A letter
 /// alone calls none, since causes and complaints have the same.
-pub fn find(word: &str) -> Option<Explanation>
-    ensures { option_map (λ e. e.title.now) result ≡ title_found word.now }
+pub fn find(word: &str) -> Option<&'static Explanation>
+    ensures { option_map (λ e. e.now.title.now) result ≡ title_found word.now }
 {
     find_among(explanations(), word)
 }

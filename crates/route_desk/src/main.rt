@@ -283,7 +283,7 @@ fn explain(rt: &HostRuntime, what: Option<&str>) -> io::Result<ExitCode> {
         return tell(rt, write_titles(alloc, explanations()));
     };
     match find(word) {
-        Some(explanation) => tell(rt, write_explanation(alloc, &explanation)),
+        Some(explanation) => tell(rt, write_explanation(alloc, explanation)),
         None => {
             eprintln!(rt; "route_desk: nothing is called {word}")?;
             Ok(ExitCode::from(2))
