@@ -11,6 +11,8 @@
 //! Stands on `clap`. A change here also changes specs/ (Words), proofs/ and must-fail/.
 #![tactic(auto)]
 
+pub mod laws;
 pub mod words;
 
+pub use laws::version_law;
 pub use words::{Order, WordFault, read_words};
