@@ -1,3 +1,4 @@
 pub mod PlainLemmas
 pub mod RowLemmas
 pub mod ReplyLemmas
+pub mod DigitLemmas

@@ -7,6 +7,7 @@ pub mod Messages
 pub mod Rows
 pub mod Traces
 pub mod WhatIfs
+pub mod Answer
 pub mod Audits
 pub mod DeskRefusals
 pub mod Replies

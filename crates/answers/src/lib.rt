@@ -17,10 +17,11 @@
 //!    N`; `synced N` and `version P accepted N` tell what is published and accepted.
 //! 10. A refusal is `refused`, its number, its name and its values. No answer has a line feed.
 //!
-//! Stands on `work_units`, `path_trace`, `what_if`, `script_words`, `itoa`. A change here also changes specs/ (Audits, DeskRefusals,
+//! Stands on `work_units`, `path_trace`, `what_if`, `script_words`, `itoa`. A change here also changes specs/ (Answer, Audits, DeskRefusals,
 //! Links, Messages, Plain, Refusals, Replies, Rows, Status, Text, Traces, WhatIfs), proofs/ and must-fail/.
 #![tactic(auto)]
 
+pub mod answer;
 pub mod audits;
 mod codes;
 mod desk_refusals;
@@ -34,6 +35,7 @@ mod status;
 pub mod traces;
 pub mod what_ifs;
 
+pub use answer::Answer;
 pub use audits::{answer_audit, clause_word, put_complaint};
 pub use plain::{write_bad_line, write_no_plan, write_no_row};
 pub use refusals::put_refusal;

@@ -5,7 +5,7 @@ ghost use Rattle.std.specs.List.{flat_map};
 ghost use Rattle.answers.specs.Links.{link_text};
 ghost use Rattle.answers.specs.Text.{line_count};
 
-use itoa::Buffer;
+use crate::codes::put_number;
 use profile::{LinkRef, RowLinks};
 use std::alloc::{AllocError, Global};
 
@@ -17,11 +17,10 @@ pub(crate) fn put_link(text: &mut String, link: LinkRef) -> Result<(), AllocErro
     ensures text { OnOk result (string_bytes text.new ≡ string_bytes text.old ++ link_text (Some link)) }
     ensures plain { line_count (link_text (Some link)) ≡ 0 }
 {
-    let mut digits = Buffer::new();
     text.push(' ')?;
-    text.push_str(digits.format(link.id))?;
+    put_number(text, link.id)?;
     text.push(':')?;
-    text.push_str(digits.format(link.slc))
+    put_number(text, u16::from(link.slc))
 }
 
 /// Adds a link after a space, or nothing if there is none.

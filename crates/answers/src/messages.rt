@@ -31,9 +31,9 @@ fn put_message(text: &mut String, message: Message) -> Result<(), AllocError>
     // The proof reads the code's range from this.
     let _number = message.to.number();
     let word = kind_word(message.kind);
-    text.push_str(" ")?;
+    text.push(' ')?;
     text.push_str(word)?;
-    text.push_str(">")?;
+    text.push('>')?;
     write_code(text, message.to)
 }
 

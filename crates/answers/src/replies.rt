@@ -5,6 +5,7 @@ ghost use Rattle.std.specs.Fmt.{decimal};
 ghost use Rattle.answers.specs.Text.{line_count};
 ghost use Rattle.answers.specs.Replies.{abandoned_text, given_text, job_text, opened_text, posted_text, published_text, refused_text, synced_text, version_text};
 
+use crate::answer::Answer;
 use crate::desk_refusals::put_refusal;
 use itoa::Buffer;
 use std::alloc::{AllocError, Global};
@@ -59,14 +60,13 @@ pub fn write_refused(alloc: Global, refusal: Refusal) -> Result<String, AllocErr
 }
 
 /// The reply to a post.
-pub fn write_posted(alloc: Global, reply: Result<Posted, Refusal>) -> Result<String, AllocError>
-    ensures text { IfOk result (λ text. string_bytes text ≡ posted_text reply) }
-    ensures plain { IfOk result (λ text. line_count (string_bytes text) ≡ 0) }
+pub fn write_posted(alloc: Global, reply: Result<Posted, Refusal>) -> Result<Answer, AllocError>
+    ensures text { IfOk result (λ answer. answer ≡ posted_text reply) }
+    ensures plain { IfOk result (λ answer. line_count answer ≡ 0) }
 {
     match reply {
-        Ok(Posted::Taken(number)) => write_numbered(alloc, "taken", number),
-        Ok(Posted::Again(number)) => write_numbered(alloc, "again", number),
-        Err(refusal) => write_refused(alloc, refusal),
+        Ok(posted) => Ok(Answer::of_post(posted)),
+        Err(refusal) => Ok(Answer::of_text(write_refused(alloc, refusal)?)),
     }
 }
 

@@ -6,8 +6,7 @@ ghost use Rattle.std.specs.List.{flat_map};
 ghost use Rattle.answers.specs.Status.{far_text, member_text, status_text};
 ghost use Rattle.answers.specs.Text.{line_count};
 
-use crate::codes::write_code;
-use itoa::Buffer;
+use crate::codes::{put_number, write_code};
 use point_codes::PointCode;
 use route_choice::{Choice, Far};
 use std::alloc::{AllocError, Global};
@@ -36,7 +35,7 @@ fn put_member(text: &mut String, member: Option<PointCode>) -> Result<(), AllocE
     };
     // The proof reads the code's range from this.
     let _number = code.number();
-    text.push_str(" ")?;
+    text.push(' ')?;
     write_code(text, code)
 }
 
@@ -55,12 +54,11 @@ fn put_members(text: &mut String, members: &[Option<PointCode>]) -> Result<(), A
 fn write_head(alloc: Global, word: &str, class: u8) -> Result<String, AllocError>
     ensures { IfOk result (λ text. string_bytes text ≡ codes "status " ++ (word.now ++ (codes " class " ++ (decimal class ++ codes " by")))) }
 {
-    let mut digits = Buffer::new();
     let mut text = String::with_capacity(alloc, ROOM)?;
     text.push_str("status ")?;
     text.push_str(word)?;
     text.push_str(" class ")?;
-    text.push_str(digits.format(class))?;
+    put_number(&mut text, u16::from(class))?;
     text.push_str(" by")?;
     Ok(text)
 }

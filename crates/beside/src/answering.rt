@@ -11,7 +11,7 @@ ghost use Rattle.sessions.specs.Run.{CutsOff};
 ghost use Rattle.beside.specs.Beside.{DoesBeside, Looks, SyncsBeside};
 
 use crate::visitor::Visitor;
-use answers::{write_bad_line, write_synced};
+use answers::{Answer, write_bad_line, write_synced};
 use net_data::{Event, Net};
 use script_words::{Command, read_command};
 use sessions::{Answering, Fault};
@@ -51,16 +51,16 @@ impl<'a, N: Naming, R: Wait> Model for Beside<'a, N, R> {
 
 impl<'a, N: Naming, R: Wait> Beside<'a, N, R> {
     /// An event, posted by collector 0.
-    fn post_next(&mut self, alloc: Global, event: Event) -> Result<String, Fault>
-        ensures does { IfOk result (λ text. DoesBeside (Command.Event event) self.old (string_bytes text) self.new) }
-        ensures plain { IfOk result (λ text. line_count (string_bytes text) ≡ 0) }
+    fn post_next(&mut self, alloc: Global, event: Event) -> Result<Answer, Fault>
+        ensures does { IfOk result (λ answer. DoesBeside (Command.Event event) self.old answer self.new) }
+        ensures plain { IfOk result (λ answer. line_count answer ≡ 0) }
         ensures fault { IfErr result (CutsOff (Unit {0})) }
     {
-        let text = self
+        let answer = self
             .visitor
             .post_next(self.rt, alloc, &mut *self.hub.lock(self.rt), event);
         self.changed.notify_all();
-        text
+        answer
     }
 
     /// A post.
@@ -70,12 +70,12 @@ impl<'a, N: Naming, R: Wait> Beside<'a, N, R> {
         collector: u8,
         seq: u64,
         event: Event,
-    ) -> Result<String, Fault>
-        ensures does { IfOk result (λ text. DoesBeside (Command.Post collector seq event) self.old (string_bytes text) self.new) }
-        ensures plain { IfOk result (λ text. line_count (string_bytes text) ≡ 0) }
+    ) -> Result<Answer, Fault>
+        ensures does { IfOk result (λ answer. DoesBeside (Command.Post collector seq event) self.old answer self.new) }
+        ensures plain { IfOk result (λ answer. line_count answer ≡ 0) }
         ensures fault { IfErr result (CutsOff (Unit {0})) }
     {
-        let text = self.visitor.post(
+        let answer = self.visitor.post(
             self.rt,
             alloc,
             &mut *self.hub.lock(self.rt),
@@ -84,7 +84,7 @@ impl<'a, N: Naming, R: Wait> Beside<'a, N, R> {
             event,
         );
         self.changed.notify_all();
-        text
+        answer
     }
 
     /// What is published, and what is accepted.
@@ -163,16 +163,16 @@ impl<'a, N: Naming, R: Wait> Beside<'a, N, R> {
     }
 
     /// Does what a command says.
-    fn obey(&mut self, alloc: Global, command: Command) -> Result<String, Fault>
+    fn obey(&mut self, alloc: Global, command: Command) -> Result<Answer, Fault>
         requires { IsWithin command }
-        ensures does { IfOk result (λ text. DoesBeside command self.old (string_bytes text) self.new) }
-        ensures plain { IfOk result (λ text. line_count (string_bytes text) ≡ 0) }
+        ensures does { IfOk result (λ answer. DoesBeside command self.old answer self.new) }
+        ensures plain { IfOk result (λ answer. line_count answer ≡ 0) }
         ensures fault { IfErr result (CutsOff (Unit {0})) }
     {
         match command {
             Command::Event(event) => self.post_next(alloc, event),
             Command::Post(collector, seq, event) => self.post(alloc, collector, seq, event),
-            other => self.obey_silently(alloc, &other),
+            other => Ok(Answer::of_text(self.obey_silently(alloc, &other)?)),
         }
     }
 }
@@ -186,10 +186,10 @@ impl<'a, N: Naming, R: Wait> Answering for Beside<'a, N, R> {
 
     ghost needs_place = { Unit {0} };
 
-    fn answer(&mut self, alloc: Global, line: &[u8]) -> Result<String, Fault> {
+    fn answer(&mut self, alloc: Global, line: &[u8]) -> Result<Answer, Fault> {
         match read_line(alloc, line)? {
             Some(command) => self.obey(alloc, command),
-            None => Ok(write_bad_line(alloc)?),
+            None => Ok(Answer::of_text(write_bad_line(alloc)?)),
         }
     }
 

@@ -11,7 +11,7 @@ ghost use Rattle.desk_console.specs.Does.{Calls, PostsNext, Tells, version_of};
 ghost use Rattle.sessions.specs.Run.{CutsOff};
 ghost use Rattle.beside.specs.Beside.{DoesAt, DoesThere, Finds, LeavesBeside, Looks};
 
-use answers::{write_posted, write_refused, write_version};
+use answers::{Answer, write_posted, write_refused, write_version};
 use desk_console::has_memory;
 use desk_core::Refusal;
 use net_data::{Event, Net};
@@ -88,9 +88,9 @@ impl<N: Naming> Visitor<N> {
         collector: u8,
         seq: u64,
         event: Event,
-    ) -> Result<String, Fault>
-        ensures call { IfOk result (λ text. DoesAt (Calls (λ s. Posts s collector seq event) posted_text) self.old hub.old.state (string_bytes text) self.new) }
-        ensures plain { IfOk result (λ text. line_count (string_bytes text) ≡ 0) }
+    ) -> Result<Answer, Fault>
+        ensures call { IfOk result (λ answer. DoesAt (Calls (λ s. Posts s collector seq event) posted_text) self.old hub.old.state answer self.new) }
+        ensures plain { IfOk result (λ answer. line_count answer ≡ 0) }
         ensures fault { IfErr result (CutsOff (Unit {0})) }
     {
         let reply = self.client.post(rt, alloc, hub, collector, seq, event);
@@ -113,9 +113,9 @@ impl<N: Naming> Visitor<N> {
         collector: u8,
         seq: u64,
         event: Event,
-    ) -> Result<String, Fault>
-        ensures call { IfOk result (λ text. DoesThere (Calls (λ s. Posts s collector seq event) posted_text) self.old (string_bytes text) self.new) }
-        ensures plain { IfOk result (λ text. line_count (string_bytes text) ≡ 0) }
+    ) -> Result<Answer, Fault>
+        ensures call { IfOk result (λ answer. DoesThere (Calls (λ s. Posts s collector seq event) posted_text) self.old answer self.new) }
+        ensures plain { IfOk result (λ answer. line_count answer ≡ 0) }
         ensures fault { IfErr result (CutsOff (Unit {0})) }
     {
         self.post_at(rt, alloc, hub, collector, seq, event)
@@ -127,13 +127,13 @@ impl<N: Naming> Visitor<N> {
         rt: &R,
         alloc: Global,
         hub: &mut Hub<N, ByClient>,
-    ) -> Result<String, Fault>
-        ensures refused { IfOk result (λ text. DoesAt (Tells (refused_text Refusal.EndOfNumbers)) self.old hub.old.state (string_bytes text) self.new) }
-        ensures plain { IfOk result (λ text. line_count (string_bytes text) ≡ 0) }
+    ) -> Result<Answer, Fault>
+        ensures refused { IfOk result (λ answer. DoesAt (Tells (refused_text Refusal.EndOfNumbers)) self.old hub.old.state answer self.new) }
+        ensures plain { IfOk result (λ answer. line_count answer ≡ 0) }
         ensures fault { IfErr result (CutsOff (Unit {0})) }
     {
         self.visit(rt, hub)?;
-        Ok(write_refused(alloc, Refusal::EndOfNumbers)?)
+        Ok(Answer::of_text(write_refused(alloc, Refusal::EndOfNumbers)?))
     }
 
     /// An event, posted by collector 0.
@@ -143,9 +143,9 @@ impl<N: Naming> Visitor<N> {
         alloc: Global,
         hub: &mut Hub<N, ByClient>,
         event: Event,
-    ) -> Result<String, Fault>
-        ensures call { IfOk result (λ text. DoesThere (PostsNext event) self.old (string_bytes text) self.new) }
-        ensures plain { IfOk result (λ text. line_count (string_bytes text) ≡ 0) }
+    ) -> Result<Answer, Fault>
+        ensures call { IfOk result (λ answer. DoesThere (PostsNext event) self.old answer self.new) }
+        ensures plain { IfOk result (λ answer. line_count answer ≡ 0) }
         ensures fault { IfErr result (CutsOff (Unit {0})) }
     {
         let last = hub.desk().last_seq(0);

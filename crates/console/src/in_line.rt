@@ -3,6 +3,7 @@
 ghost use Rattle.std.specs.Prelude.{◌≡◌, IfOk};
 ghost use Rattle.desk_console.specs.Console.{opening};
 
+use answers::Answer;
 use desk_console::Console;
 use net_data::Net;
 use sessions::{Answering, Fault};
@@ -43,7 +44,7 @@ impl Answering for InLine {
 
     ghost needs_place = { ⊥ };
 
-    fn answer(&mut self, alloc: Global, line: &[u8]) -> Result<String, Fault> {
+    fn answer(&mut self, alloc: Global, line: &[u8]) -> Result<Answer, Fault> {
         Ok(self.console.answer(alloc, line)?)
     }
 

@@ -1,11 +1,11 @@
 //! The console.
 
-ghost use Rattle.std.specs.Prelude.{◌≡◌, None, IfOk, map, replicate, string_bytes};
+ghost use Rattle.std.specs.Prelude.{◌≡◌, None, IfOk, map, replicate};
 ghost use Rattle.answers.specs.Text.{line_count};
 ghost use Rattle.desk_console.specs.Commands.{Commands};
 ghost use Rattle.desk_console.specs.Console.{net_of, opening};
 
-use answers::write_bad_line;
+use answers::{Answer, write_bad_line};
 use desk_core::Desk;
 use net_data::Net;
 use script_words::read_command;
@@ -70,15 +70,15 @@ impl Console {
         self.desk.into_net()
     }
 
-    /// Does what a line says, and gives the text of its answer, without a line feed. It fails if memory is refused.
-    pub fn answer(&mut self, alloc: Global, line: &[u8]) -> Result<String, AllocError>
-        ensures command { IfOk result (λ text. Commands line.now self.old (string_bytes text) self.new) }
-        ensures plain { IfOk result (λ text. line_count (string_bytes text) ≡ 0) }
+    /// Does what a line says, and gives its answer, without a line feed. It fails if memory is refused.
+    pub fn answer(&mut self, alloc: Global, line: &[u8]) -> Result<Answer, AllocError>
+        ensures command { IfOk result (λ answer. Commands line.now self.old answer self.new) }
+        ensures plain { IfOk result (λ answer. line_count answer ≡ 0) }
     {
         let words = split_words(alloc, line)?;
-        let Some(command) = read_command(alloc, words.as_slice())? else {
-            return write_bad_line(alloc);
-        };
-        self.obey(alloc, command)
+        match read_command(alloc, words.as_slice())? {
+            Some(command) => self.obey(alloc, command),
+            None => Ok(Answer::of_text(write_bad_line(alloc)?)),
+        }
     }
 }

@@ -1,6 +1,6 @@
 //! What each command does.
 
-ghost use Rattle.std.specs.Prelude.{◌≡◌, ◌<◌, ◌↔◌, IfOk, IsTrue, length, string_bytes};
+ghost use Rattle.std.specs.Prelude.{◌≡◌, ◌<◌, ◌↔◌, [], IfOk, IsTrue, length, string_bytes};
 ghost use Rattle.answers.specs.Audits.{audit_right};
 ghost use Rattle.answers.specs.Rows.{answer_about as row_answer};
 ghost use Rattle.answers.specs.Text.{line_count};
@@ -11,12 +11,13 @@ ghost use Rattle.answers.specs.Replies.{opened_text, posted_text, published_text
 ghost use Rattle.script_words.specs.Commands.{IsWithin};
 ghost use Rattle.path_trace.specs.Traces.{trace_at};
 ghost use Rattle.what_if.specs.Reports.{report_of};
+ghost use Rattle.desk_console.specs.Taken.{event_of};
 ghost use Rattle.desk_console.specs.Does.{Calls, Does, HasMemory, PostsNext, Syncs, version_of};
 
 use crate::console::Console;
 use crate::sync;
 use answers::{
-    answer_about, answer_audit, answer_trace, answer_what_if, write_opened, write_posted,
+    Answer, answer_about, answer_audit, answer_trace, answer_what_if, write_opened, write_posted,
     write_published, write_refused, write_synced, write_version,
 };
 use desk_core::Refusal;
@@ -43,9 +44,9 @@ impl Console {
         collector: u8,
         seq: u64,
         event: Event,
-    ) -> Result<String, AllocError>
-        ensures call { IfOk result (λ text. Calls (λ s. Posts s collector seq event) posted_text self.old (string_bytes text) self.new) }
-        ensures plain { IfOk result (λ text. line_count (string_bytes text) ≡ 0) }
+    ) -> Result<Answer, AllocError>
+        ensures call { IfOk result (λ answer. Calls (λ s. Posts s collector seq event) posted_text self.old answer self.new) }
+        ensures plain { IfOk result (λ answer. line_count answer ≡ 0) }
     {
         // Taken apart at once: nearly all posts are accepted, and then no refusal is moved.
         match self.desk.post(alloc, collector, seq, event) {
@@ -56,13 +57,13 @@ impl Console {
     }
 
     /// An event, posted by collector 0.
-    fn post_next(&mut self, alloc: Global, event: Event) -> Result<String, AllocError>
-        ensures call { IfOk result (λ text. PostsNext event self.old (string_bytes text) self.new) }
-        ensures plain { IfOk result (λ text. line_count (string_bytes text) ≡ 0) }
+    fn post_next(&mut self, alloc: Global, event: Event) -> Result<Answer, AllocError>
+        ensures call { IfOk result (λ answer. PostsNext event self.old answer self.new) }
+        ensures plain { IfOk result (λ answer. line_count answer ≡ 0) }
     {
         let last = self.desk.last_seq(0);
         if last == u64::MAX {
-            return write_refused(alloc, Refusal::EndOfNumbers);
+            return Ok(Answer::of_text(write_refused(alloc, Refusal::EndOfNumbers)?));
         }
         self.post(alloc, 0, last + 1, event)
     }
@@ -153,15 +154,15 @@ impl Console {
         answer_audit(alloc, self.desk.published())
     }
 
-    /// Does what a command says.
-    pub(crate) fn obey(&mut self, alloc: Global, command: Command) -> Result<String, AllocError>
-        requires { IsWithin command }
+    /// Does what a command says that posts nothing.
+    fn obey_silently(&mut self, alloc: Global, command: Command) -> Result<String, AllocError>
+        requires within { IsWithin command }
+        requires none { event_of command ≡ [] }
         ensures does { IfOk result (λ text. Does command self.old (string_bytes text) self.new) }
         ensures plain { IfOk result (λ text. line_count (string_bytes text) ≡ 0) }
     {
         match command {
-            Command::Event(event) => self.post_next(alloc, event),
-            Command::Post(collector, seq, event) => self.post(alloc, collector, seq, event),
+            Command::Event(_) | Command::Post(_, _, _) => unreachable!(),
             Command::Open => self.open(alloc),
             Command::Take(slot) => self.take(alloc, slot),
             Command::Give(slot) => self.give(alloc, slot),
@@ -169,10 +170,23 @@ impl Console {
             Command::Publish => self.publish(alloc),
             Command::Sync => self.sync(alloc),
             Command::Version => self.version(alloc),
-            Command::About(asked, y, x) => self.ask_row(alloc, asked, y, x),
-            Command::Trace(y, x, s) => self.ask_trace(alloc, y, x, s),
+            Command::About(asked, point, dest) => self.ask_row(alloc, asked, point, dest),
+            Command::Trace(point, dest, s) => self.ask_trace(alloc, point, dest, s),
             Command::WhatIf(events) => self.ask_what_if(alloc, events.as_slice()),
             Command::Audit => self.ask_audit(alloc),
+        }
+    }
+
+    /// Does what a command says.
+    pub(crate) fn obey(&mut self, alloc: Global, command: Command) -> Result<Answer, AllocError>
+        requires { IsWithin command }
+        ensures does { IfOk result (λ answer. Does command self.old answer self.new) }
+        ensures plain { IfOk result (λ answer. line_count answer ≡ 0) }
+    {
+        match command {
+            Command::Event(event) => self.post_next(alloc, event),
+            Command::Post(collector, seq, event) => self.post(alloc, collector, seq, event),
+            other => Ok(Answer::of_text(self.obey_silently(alloc, other)?)),
         }
     }
 }

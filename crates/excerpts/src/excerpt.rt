@@ -10,13 +10,12 @@ ghost use Rattle.excerpts.specs.Around.{neighbours_left};
 ghost use Rattle.excerpts.specs.Excerpt.{ExcerptValue, content_at, content_in, content_of, excerpt_at, is_read_by, leads as row_leads, IsExcerptAnswer, IsRight};
 
 use crate::faults::ExcerptFault;
-use crate::places::place_of_row;
+use crate::places::{place_of_row, point_by};
 use crate::reading::{are_same_reads, are_same_row_points, is_read};
 use crate::{Frozen, Neighbours};
 use net_data::Net;
 use net_items::equals::{are_same_points, are_same_sets, is_same_plan};
-use net_items::lookups::{find_point, is_stp};
-use net_items::{Kind, LinkSet, Plan, Row};
+use net_items::{Kind, LinkSet, Plan, Point, Row};
 use plan_rows::uses::is_via;
 use point_codes::PointCode;
 use std::alloc::AllocError;
@@ -159,12 +158,19 @@ impl Excerpt {
         }
     }
 
+    /// The point of a code.
+    fn point(&self, code: PointCode) -> Option<Point>
+        ensures { result ≡ point_at self.now.network.points code }
+    {
+        self.validity();
+        point_by(self.net.order(), self.net.net().points(), code)
+    }
+
     /// The kind of a point.
     pub fn kind_of(&self, code: PointCode) -> Option<Kind>
         ensures { result ≡ option_map (λ p. p.kind) (point_at self.now.network.points code) }
     {
-        self.validity();
-        match find_point(self.net.net().points(), code) {
+        match self.point(code) {
             Some(point) => Some(point.kind),
             None => None,
         }
@@ -174,15 +180,17 @@ impl Excerpt {
     pub fn is_stp(&self, code: PointCode) -> bool
         ensures { result ≡ stp_is self.now.network.points code }
     {
-        self.validity();
-        is_stp(self.net.net().points(), code)
+        match self.kind_of(code) {
+            Some(Kind::Stp) => true,
+            Some(Kind::Sep) | None => false,
+        }
     }
 
     /// The mate of a point.
     pub fn mate_of(&self, code: PointCode) -> Option<PointCode>
         ensures { result ≡ the_mate self.now.network.points code }
     {
-        self.net.net().mate_of(code)
+        self.point(code)?.mate
     }
 
     /// Whether an available set joins two points.

@@ -1,4 +1,4 @@
-//! Where the row of a point stands in a plan, looked for first where it is expected.
+//! Where a point stands in its network, and its row in a plan, looked for first where they are expected.
 //!
 //! Mostly nearly all points of a network have a row in a plan. The rows of a plan that wasn't asked for just before come from memory,
 //! so a binary search among these waits at almost each step.
@@ -6,8 +6,10 @@
 ghost use Rattle.std.specs.Prelude.{◌≡◌, IfErr, IfOk};
 ghost use Rattle.std.specs.Option.{IfSome};
 ghost use Rattle.net_items.specs.Keyed.{IsRising, IsFoundAt, IsGapAt};
+ghost use Rattle.net_items.specs.Lookups.{point_at};
 
 use net_items::copies::position_of_row;
+use net_items::lookups::find_point;
 use net_items::{Point, Row};
 use point_codes::PointCode;
 use std::alloc::{AllocError, Global};
@@ -23,7 +25,8 @@ const CODE_COUNT: usize = 16384;
 #[derive(Drop)]
 pub struct PointOrder {
     before: Vec<u16>,
-    count: usize,
+    /// What of 2^32 one point is, of all points: a product by it is faster than a division by their count.
+    share: u64,
 }
 
 impl PointOrder {
@@ -37,20 +40,39 @@ impl PointOrder {
             }
             position = position.saturating_add(1);
         }
-        let order = PointOrder {
-            before,
-            count: points.len(),
-        };
+        let share = (1 << 32) / (points.len() as u64).max(1);
+        let order = PointOrder { before, share };
         Ok(Arc::new(alloc, order)?)
+    }
+
+    /// How many points stand before the point of that code, if there is one.
+    fn before(&self, code: PointCode) -> u16 {
+        match self.before.get(usize::from(code.number())) {
+            Some(before) => *before,
+            None => 0,
+        }
     }
 
     /// Where the row or the plan of a point stands among so many, if the points without one are spread evenly.
     pub fn expected(&self, count: usize, code: PointCode) -> usize {
-        match self.before.get(usize::from(code.number())) {
-            Some(before) => usize::from(*before).saturating_mul(count) / self.count.max(1),
-            None => 0,
+        let share = u64::from(self.before(code)).saturating_mul(self.share);
+        (share.saturating_mul(count as u64) >> 32) as usize
+    }
+}
+
+/// The point of that code, looked for first where it stands if the order is that of these points.
+pub fn point_by(order: &PointOrder, points: &[Point], code: PointCode) -> Option<Point>
+    requires { IsRising (λ p. p.code) points.now }
+    ensures { result ≡ point_at points.now code }
+{
+    let at = usize::from(order.before(code));
+    if at < points.len() {
+        let point = points[at];
+        if point.code == code {
+            return Some(point);
         }
     }
+    find_point(points, code)
 }
 
 /// The place of a point's row, if it is near a place.

@@ -25,5 +25,5 @@ mod sets;
 
 pub use faults::{Key, LoadFault};
 pub use laws::one_answer_law;
-pub use reading::load;
+pub use reading::{load, load_owned};
 pub use tokens::{read_code, read_id, read_kind, read_row, read_slc};

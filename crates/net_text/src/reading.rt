@@ -1,11 +1,11 @@
 //! Reading a network text.
 
-ghost use Rattle.std.specs.Prelude.{◌≡◌, ◌≢◌, ◌≤◌, map, Ok, Err, IfOk, IfErr, OnOk};
+ghost use Rattle.std.specs.Prelude.{◌≡◌, ◌≢◌, ◌≤◌, map, Some, Ok, Err, IfOk, IfErr, OnOk};
 ghost use Rattle.toml.specs.View.{view, table_view};
 ghost use Rattle.net_data.specs.Edits.{apply_all};
 ghost use Rattle.net_text.specs.Keys.{held, text_of};
 ghost use Rattle.net_text.specs.Entries.{entry_of};
-ghost use Rattle.net_text.specs.Reading.{Says, network_of, apply_entry as entry_applied, apply_entries as entries_applied, apply_fields as fields_applied, start as started, build as built};
+ghost use Rattle.net_text.specs.Reading.{IsDocument, Says, network_of, apply_entry as entry_applied, apply_entries as entries_applied, apply_fields as fields_applied, start as started, build as built};
 
 use crate::entries::read_entry;
 use crate::faults::{Key, LoadFault};
@@ -119,18 +119,14 @@ fn read_table(alloc: Global, table: &Table) -> Result<Net, LoadFault>
     build(alloc, &fields)
 }
 
-/// The network that a text says. The error is the text's first fault: `NotToml`, `BadKey`, `BadLine` or `Refused`, in the
-/// order of the crate's rules, or `OutOfMemory`; never `Read`.
-pub fn load(alloc: Global, text: &[u8]) -> Result<Net, LoadFault>
-    ensures ok { IfOk result (λ net. Says text.now (Ok net)) }
+/// The document that a text is.
+fn parse(alloc: Global, text: &[u8]) -> Result<Table, LoadFault>
+    ensures ok { IfOk result (λ table. IsDocument text.now (Some (table_view table))) }
     ensures err { IfErr result (λ e. e ≢ LoadFault.OutOfMemory → Says text.now (Err e)) }
     ensures never_read { result ≢ Err LoadFault.Read }
 {
     match toml::table_from_slice(alloc, text) {
-        Ok(table) => match read_table(alloc, &table) {
-            Ok(net) => Ok(net),
-            Err(fault) => Err(fault),
-        },
+        Ok(table) => Ok(table),
         Err(e) => {
             if e.is_memory() {
                 return Err(LoadFault::OutOfMemory);
@@ -138,4 +134,26 @@ pub fn load(alloc: Global, text: &[u8]) -> Result<Net, LoadFault>
             Err(LoadFault::NotToml)
         }
     }
+}
+
+/// The network that a text says. The error is the text's first fault: `NotToml`, `BadKey`, `BadLine` or `Refused`, in the
+/// order of the crate's rules, or `OutOfMemory`; never `Read`.
+pub fn load(alloc: Global, text: &[u8]) -> Result<Net, LoadFault>
+    ensures ok { IfOk result (λ net. Says text.now (Ok net)) }
+    ensures err { IfErr result (λ e. e ≢ LoadFault.OutOfMemory → Says text.now (Err e)) }
+    ensures never_read { result ≢ Err LoadFault.Read }
+{
+    let table = parse(alloc, text)?;
+    read_table(alloc, &table)
+}
+
+/// The same of a text that is given away, so that its memory serves the network.
+pub fn load_owned(alloc: Global, text: Vec<u8>) -> Result<Net, LoadFault>
+    ensures ok { IfOk result (λ net. Says text.items (Ok net)) }
+    ensures err { IfErr result (λ e. e ≢ LoadFault.OutOfMemory → Says text.items (Err e)) }
+    ensures never_read { result ≢ Err LoadFault.Read }
+{
+    let table = parse(alloc, text.as_slice())?;
+    drop(text);
+    read_table(alloc, &table)
 }

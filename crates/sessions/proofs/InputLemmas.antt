@@ -1,5 +1,5 @@
 -- Where the network text ends and the script starts.
-use Rattle.std.proofs.Common.{◌≡◌, ℕ, ◌+◌, ◌-◌, ◌<◌, ◌≤◌, ◌==◌, Bool, true, false, cond, List, [], ◌∷◌, ◌++◌, length, take, drop, get_or, Option, Some, None, Ok, Err, inl, inr, sym, ap, subst, refl, ◌∙◌, arith, append_assoc, append-nil, length-append, length-drop}
+use Rattle.std.proofs.Common.{◌≡◌, ℕ, ◌+◌, ◌-◌, ◌<◌, ◌≤◌, ◌==◌, Bool, true, false, cond, List, [], ◌∷◌, ◌++◌, length, take, drop, get_or, Option, Some, None, Result, Ok, Err, MatchResult, inl, inr, sym, ap, subst, refl, ◌∙◌, arith, append_assoc, append-nil, length-append, length-drop}
 use Rattle.std.proofs.lemmas.Bool.{eqb-true, true≢false}
 use Rattle.std.proofs.lemmas.List.{take-append-drop, take-append-le, drop-append-le, append_cancel_right, take_more, length-take-le, drop-take, take_all}
 use Rattle.std.proofs.Math.ListN.{drop_of_length-le}
@@ -14,7 +14,7 @@ use Rattle.sessions.specs.Run.{CutsOff, IsEnd, IsOutcome, Ran}
 use Rattle.sessions.specs.declared.faults.Fault.{Fault}
 use Rattle.sessions.specs.declared.faults.Fault.TheVariants.{OutOfMemory, Read, Write, NoPlace, Load}
 use Rattle.sessions.specs.declared.input.Opening.{Opening}
-use Rattle.sessions.specs.Input.{is_mark, has_mark, before_mark, after_mark, joined, text_part, script_part, HasText, IsWithinLimit, IsLoadFault, IsUnloaded, IsUnopened, IsSplit, IsOpening, IsOpenAt, IsMarkAt, RanAfter, RanInput}
+use Rattle.sessions.specs.Input.{is_mark, has_mark, before_mark, after_mark, joined, text_part, script_part, HasText, HasReadAll, HasLoaded, HasNotLoaded, IsWithinLimit, IsLoadFault, IsUnloaded, IsUnopened, IsSplit, IsOpening, IsOpenAt, IsMarkAt, RanAfter, RanInput}
 use Rattle.sessions.proofs.LineLemmas.{cut_joined, cut_ended, cut_grown}
 use Rattle.sessions.proofs.RunLemmas.{outcome_ended, outcome_none}
 
@@ -217,6 +217,12 @@ load_cause Read read left text has within same is = absurd is
 load_cause Write read left text has within same is = absurd is
 load_cause NoPlace read left text has within same is = absurd is
 load_cause (Load e) read left text has within same is = (has, within, is.0, subst (λ t. Says t (Err e)) (sym same) is.1)
+
+-- what a text that was read says is the end of its reading
+pub loaded_whole : (unread left : Option (List ℕ)) (text : List ℕ) (loaded : Result Network Fault) → HasReadAll unread left text
+    → MatchResult loaded (λ net. Says text (Ok net)) (IsLoadFault text) → MatchResult loaded (HasLoaded unread left) (HasNotLoaded unread left)
+loaded_whole unread left text (Ok net) read says = record { text = text; read = read; says = says }
+loaded_whole unread left text (Err fault) read is = record { cause = inr (text, read, is) }
 
 -- what comes after some bytes was read in their place
 read_through : (a b c : Option (List ℕ)) (front rest read : List ℕ) → Consumes a b (front ++ rest) → Consumes (prepend_known rest b) c read → Consumes a c (front ++ read)

@@ -17,17 +17,6 @@ use Rattle.sessions.proofs.AnswerLemmas.{Answered-none, ended_answers, part_whol
 use Rattle.answers.proofs.PlainLemmas.{line_count-append}
 
 module _ {S : Type 0} (Commands : List ℕ → S → List ℕ → S → Type 0) where
-  -- a line was ended and answered
-  pub taken_line : (start : S) (read written : List ℕ) (s t : Session S) (text : List ℕ) → IsTaken Commands start read written s
-      → Replies Commands (rest_of read) s.state text t.state → t.answers.items ≡ s.answers.items ++ text → IsLine t.line []
-      → IsTaken Commands start (read ++ 10 ∷ []) written t
-  taken_line start read written s t text at reply said empty = record {
-    answered = subst (λ x. Answered Commands start (whole_lines (read ++ 10 ∷ [])) x t.state)
-        (append_assoc written s.answers.items text ∙ ap (λ x. written ++ x) (sym said))
-        (ended_answers Commands start s.state t.state read (written ++ s.answers.items) text at.answered reply);
-    rest = subst (IsLine t.line) (ap (λ c. c.rest) (sym (cut_ended read))) empty;
-  }
-
   -- bytes of a line were taken
   pub taken_piece : (start : S) (all read written : List ℕ) (s t : Session S) (bytes : List ℕ) → read ++ bytes ≡ all → IsTaken Commands start read written s
       → lacks 10 bytes ≡ true → t.answers.items ≡ s.answers.items → t.state ≡ s.state → IsLine t.line (rest_of read ++ bytes)
@@ -38,6 +27,23 @@ module _ {S : Type 0} (Commands : List ℕ → S → List ℕ → S → Type 0) 
       record {
         answered = rw (whole, said, same) at.answered;
         rest = subst (IsLine t.line) (ap (λ c. c.rest) (sym cuts)) rest;
+      }
+
+  -- a line was ended by its last bytes and answered
+  pub taken_ended : (start : S) (read written last : List ℕ) (s t : Session S) (text : List ℕ) → lacks 10 last ≡ true → IsTaken Commands start read written s
+      → Replies Commands (rest_of read ++ last) s.state text t.state → t.answers.items ≡ s.answers.items ++ text → IsLine t.line []
+      → IsTaken Commands start ((read ++ last) ++ 10 ∷ []) written t
+  taken_ended start read written last s t text none at reply said empty =
+      let all = read ++ last in
+      let cuts = cut_grown_all read last none in
+      let whole : whole_lines all ≡ whole_lines read = ap (λ c. c.whole) cuts in
+      let asked : Replies Commands (rest_of all) s.state text t.state = subst (λ r. Replies Commands r s.state text t.state) (ap (λ c. c.rest) (sym cuts)) reply in
+      record {
+        answered = subst (λ x. Answered Commands start (whole_lines (all ++ 10 ∷ [])) x t.state)
+            (append_assoc written s.answers.items text ∙ ap (λ x. written ++ x) (sym said))
+            (ended_answers Commands start s.state t.state all (written ++ s.answers.items) text
+            (subst (λ ls. Answered Commands start ls (written ++ s.answers.items) s.state) (sym whole) at.answered) asked);
+        rest = subst (IsLine t.line) (ap (λ c. c.rest) (sym (cut_ended all))) empty;
       }
 
   -- what is answered of a part are answers to the first lines of all

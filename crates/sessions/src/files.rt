@@ -4,9 +4,10 @@ ghost use Rattle.std.specs.Prelude.{MatchResult};
 ghost use Rattle.sessions.specs.Input.{HasReadAll, HasNotReadAll, HasLoaded, HasNotLoaded};
 
 use crate::faults::Fault;
-use crate::input::{TEXT_LIMIT, load_text};
+use crate::input::{TEXT_LIMIT, of_run};
 use crate::runs::{CHUNK, READ_LIMIT};
 use net_data::Net;
+use net_text::load_owned;
 use std::alloc::Global;
 use std::io::{ErrorKind, Read};
 
@@ -43,5 +44,5 @@ pub fn read_net<R: Read>(alloc: Global, reader: &mut R) -> Result<Net, Fault>
     ensures { MatchResult result (HasLoaded (R.remaining reader.old) (R.remaining reader.new)) (HasNotLoaded (R.remaining reader.old) (R.remaining reader.new)) }
 {
     let bytes = read_all(alloc, reader)?;
-    load_text(alloc, bytes.as_slice())
+    of_run(load_owned(alloc, bytes))
 }

@@ -1,6 +1,6 @@
 //! A run of an input that starts with the network text.
 
-ghost use Rattle.std.specs.Prelude.{◌≡◌, ℕ, ◌-◌, ◌*◌, ◌≤◌, min, ◌++◌, List, length, take, [], IfOk, OnOk, MatchResult, IfSome, Option, None, Some, Ok};
+ghost use Rattle.std.specs.Prelude.{◌≡◌, ◌≢◌, ℕ, ◌-◌, ◌*◌, ◌≤◌, min, ◌++◌, List, length, take, [], IfErr, IfOk, OnOk, MatchResult, IfSome, Option, None, Some, Ok, Err};
 ghost use Rattle.std.specs.Io.KnownBytes.{Consumes, IsAtEnd};
 ghost use Rattle.net_text.specs.Reading.{Says};
 ghost use Rattle.sessions.specs.Input.{is_mark, IsOpenAt, IsMarkAt, IsOpening, IsUnopened, IsLoadFault, RanAfter, text_part, script_part};
@@ -181,15 +181,23 @@ pub fn read_text<R: Read>(alloc: Global, reader: &mut R) -> Result<Opening, Faul
     Err(Fault::Read)
 }
 
-/// The network that a text says.
-pub fn load_text(alloc: Global, text: &[u8]) -> Result<Net, Fault>
-    ensures { MatchResult result (λ net. Says text.now (Ok net)) (IsLoadFault text.now) }
+/// What was loaded, with its fault as one of the run.
+pub(crate) fn of_run(loaded: Result<Net, LoadFault>) -> Result<Net, Fault>
+    ensures { (text : List ℕ) → IfOk loaded (λ net. Says text (Ok net)) → IfErr loaded (λ e. e ≢ LoadFault.OutOfMemory → Says text (Err e))
+        → loaded ≢ Err LoadFault.Read → MatchResult result (λ net. Says text (Ok net)) (IsLoadFault text) }
 {
-    match load(alloc, text) {
+    match loaded {
         Ok(net) => Ok(net),
         Err(LoadFault::OutOfMemory) => Err(Fault::OutOfMemory),
         Err(fault) => Err(Fault::Load(fault)),
     }
+}
+
+/// The network that a text says.
+pub fn load_text(alloc: Global, text: &[u8]) -> Result<Net, Fault>
+    ensures { MatchResult result (λ net. Says text.now (Ok net)) (IsLoadFault text.now) }
+{
+    of_run(load(alloc, text))
 }
 
 impl Opening {

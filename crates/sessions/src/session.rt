@@ -1,6 +1,7 @@
 //! A run of a script: the lines that are read, and their answers.
 
-ghost use Rattle.std.specs.Prelude.{◌≡◌, ℕ, ◌+◌, ◌^◌, ◌<◌, ◌≤◌, [], ◌∷◌, ◌++◌, List, length, take, IfOk, IfErr, OnOk, OnErr, Err, string_bytes, Option};
+ghost use Rattle.std.specs.Prelude.{◌≡◌, ℕ, ◌+◌, ◌^◌, ◌<◌, ◌≤◌, ◌==◌, not, true, [], ◌∷◌, ◌++◌, List, length, take, IfErr, OnOk, OnErr, Err, string_bytes, Option};
+ghost use Rattle.std.specs.List.{list_all};
 ghost use Rattle.std.specs.Io.KnownBytes.{Appends};
 ghost use Rattle.sessions.specs.Lines.{whole_lines};
 ghost use Rattle.sessions.specs.Replies.{Replies};
@@ -21,6 +22,8 @@ pub struct Session<A> {
     pub line: Line,
     pub answers: Vec<u8>,
     pub lines: u64,
+    /// The answer to the last line, whose memory serves the next one.
+    pub text: String,
 }
 
 /// The number of writes after which a text is given up.
@@ -50,6 +53,9 @@ fn write_all<W: Write>(writer: &mut W, text: &[u8]) -> usize
     at
 }
 
+/// The answer to a line over the limit.
+const TOO_LONG: &str = "refused 62 BadLine\n";
+
 /// How many lines a text ends.
 fn count_lines(text: &[u8]) -> usize
     ensures { result ≡ line_count text.now }
@@ -62,22 +68,48 @@ fn count_lines(text: &[u8]) -> usize
     count
 }
 
-/// What a line that is whole now is answered with.
-fn reply<A: Answering>(alloc: Global, state: &mut A, line: &Line) -> Result<String, Fault>
-    ensures text { IfOk result (λ text. (rest : List ℕ) → IsLine line.now rest → Replies A.commands rest state.old (string_bytes text) state.new) }
-    ensures one { IfOk result (λ text. line_count (string_bytes text) ≤ 1) }
+/// Writes what a line is answered with, and a line feed, in the place of a text.
+fn reply<A: Answering>(
+    alloc: Global,
+    state: &mut A,
+    line: &[u8],
+    text: &mut String,
+) -> Result<(), Fault>
+    ensures text { OnOk result (Replies A.commands line.now state.old (string_bytes text.new) state.new) }
+    ensures one { OnOk result (line_count (string_bytes text.new) ≤ 1) }
     ensures fault { IfErr result (CutsOff A.needs_place) }
 {
-    let bytes = without_return(line.bytes.as_slice());
-    if line.too_long || bytes.len() > LINE_LIMIT {
-        return Ok(String::from_str(alloc, "refused 62 BadLine\n")?);
+    text.clear();
+    let line = without_return(line);
+    if line.len() > LINE_LIMIT {
+        text.push_str(TOO_LONG)?;
+        return Ok(());
     }
-    if is_quiet(bytes) {
-        return Ok(String::new(alloc));
+    if is_quiet(line) {
+        return Ok(());
     }
-    let mut text = state.answer(alloc, bytes)?;
+    state.answer(alloc, line)?.put(text)?;
     text.push('\n')?;
-    Ok(text)
+    Ok(())
+}
+
+/// Writes what a line that was read in pieces is answered with, as `reply` does.
+fn reply_to_kept<A: Answering>(
+    alloc: Global,
+    state: &mut A,
+    line: &Line,
+    text: &mut String,
+) -> Result<(), Fault>
+    ensures text { OnOk result ((rest : List ℕ) → IsLine line.now rest → Replies A.commands rest state.old (string_bytes text.new) state.new) }
+    ensures one { OnOk result (line_count (string_bytes text.new) ≤ 1) }
+    ensures fault { IfErr result (CutsOff A.needs_place) }
+{
+    if !line.too_long {
+        return reply(alloc, state, line.bytes.as_slice(), text);
+    }
+    text.clear();
+    text.push_str(TOO_LONG)?;
+    Ok(())
 }
 
 impl<A: Answering> Session<A> {
@@ -93,20 +125,38 @@ impl<A: Answering> Session<A> {
             line: Line::new(alloc),
             answers: Vec::new(alloc),
             lines: 0,
+            text: String::new(alloc),
         }
     }
 
-    /// Ends the line: its answer waits with the others.
-    fn end_line(&mut self, alloc: Global) -> Result<(), Fault>
-        ensures ok { OnOk result ((start : A) (read written : List ℕ)
-            → IsTaken A.commands start read written self.old → IsTaken A.commands start (read ++ 10 ∷ []) written self.new) }
+    /// Writes what the line is answered with, of which these bytes are the last. One that stands whole in what was read is
+    /// answered from there.
+    fn reply_to_line(&mut self, alloc: Global, last: &[u8]) -> Result<(), Fault>
+        ensures text { OnOk result ((rest : List ℕ) → IsLine self.old.line rest
+            → Replies A.commands (rest ++ last.now) self.old.state (string_bytes self.new.text) self.new.state) }
+        ensures one { OnOk result (line_count (string_bytes self.new.text) ≤ 1) }
+        ensures fault { IfErr result (CutsOff A.needs_place) }
+        ensures answers { self.new.answers ≡ self.old.answers }
+        ensures lines { self.new.lines ≡ self.old.lines }
+    {
+        if !self.line.has_begun() {
+            return reply(alloc, &mut self.state, last, &mut self.text);
+        }
+        self.line.take_all(last)?;
+        reply_to_kept(alloc, &mut self.state, &self.line, &mut self.text)
+    }
+
+    /// Ends the line with its last bytes: its answer waits with the others.
+    fn end_line(&mut self, alloc: Global, last: &[u8]) -> Result<(), Fault>
+        ensures ok { OnOk result ((start : A) (read written : List ℕ) → list_all (λ b. not (b == 10)) last.now ≡ true
+            → IsTaken A.commands start read written self.old → IsTaken A.commands start ((read ++ last.now) ++ 10 ∷ []) written self.new) }
         ensures err { OnErr result (self.new.answers.items ≡ self.old.answers.items) }
         ensures fault { IfErr result (CutsOff A.needs_place) }
         ensures one { line_count self.new.answers.items ≤ line_count self.old.answers.items + 1 }
         ensures lines { self.new.lines ≡ self.old.lines }
     {
-        let text = reply(alloc, &mut self.state, &self.line)?;
-        self.answers.extend_from_slice(text.as_bytes())?;
+        self.reply_to_line(alloc, last)?;
+        self.answers.extend_from_slice(self.text.as_bytes())?;
         self.line.clear();
         Ok(())
     }
@@ -123,8 +173,7 @@ impl<A: Answering> Session<A> {
     {
         let mut rest = chunk;
         while let Some((front, after)) = split_at_byte(rest, b'\n') {
-            self.line.take_all(front)?;
-            self.end_line(alloc)?;
+            self.end_line(alloc, front)?;
             rest = after;
         }
         self.line.take_all(rest)?;

@@ -15,10 +15,11 @@ loop-front-preserved g c =
     record {
       taken = λ start read written at.
           let before = c.loop-front.invariant.taken start read written at in
-          let done = before.0 in
-          let piece = taken_piece g.A.Answering.commands start (done ++ front) done written c.loop-front.self _ front refl before.2 (split_front 10 rest _ _ split) refl refl
-          (c.in_ok-take_all.ensures (rest_of done) before.2.rest) in
-          ((done ++ front) ++ 10 ∷ [], split_on done rest _ _ split ∙ before.1, c.in_ok-end_line.ensures.ok start _ written piece);
+          let done = before.0 in (
+            (done ++ front) ++ 10 ∷ [],
+            split_on done rest _ _ split ∙ before.1,
+            c.in_ok-end_line.ensures.ok start done written (split_front 10 rest _ _ split) before.2,
+          );
       few =
           let few = c.loop-front.invariant.few in
           let one = c.end_line.ensures.one in
@@ -27,18 +28,13 @@ loop-front-preserved g c =
       lines = search rules;
     }
 
-pub returns-in_err-take_all-clause-front : goal.returns-in_err-take_all-clause-front
-returns-in_err-take_all-clause-front g c = λ start read written at.
-    let before = c.loop-front.invariant.taken start read written at in
-    taken_part g.A.Answering.commands start _ before.0 c.loop-front.rest.now written c.loop-front.self _ before.1 before.2 refl
-
 pub returns-in_err-end_line-clause-front : goal.returns-in_err-end_line-clause-front
 returns-in_err-end_line-clause-front g c = λ start read written at.
     let before = c.loop-front.invariant.taken start read written at in
     taken_part g.A.Answering.commands start _ before.0 c.loop-front.rest.now written c.loop-front.self _ before.1 before.2 c.in_err-end_line.ensures.err
 
-pub returns-in_err-take_all-2-clause-front : goal.returns-in_err-take_all-2-clause-front
-returns-in_err-take_all-2-clause-front g c = λ start read written at.
+pub returns-in_err-take_all-clause-front : goal.returns-in_err-take_all-clause-front
+returns-in_err-take_all-clause-front g c = λ start read written at.
     let before = c.loop-front.invariant.taken start read written at in
     taken_part g.A.Answering.commands start _ before.0 c.loop-front.rest.now written c.loop-front.self _ before.1 before.2 refl
 
@@ -47,7 +43,7 @@ returns-clause-ok g c = λ start read written at.
     let rest = c.loop-front.rest.now in
     let before = c.loop-front.invariant.taken start read written at in
     taken_piece g.A.Answering.commands start _ before.0 written c.loop-front.self _ rest before.1 before.2 (split_nowhere 10 rest (sym c.in_default.ensures)) refl refl
-    (c.in_ok-take_all-2.ensures (rest_of before.0) before.2.rest)
+    (c.in_ok-take_all.ensures (rest_of before.0) before.2.rest)
 
 pub returns-clause-front : goal.returns-clause-front
 returns-clause-front g c = λ start read written at.

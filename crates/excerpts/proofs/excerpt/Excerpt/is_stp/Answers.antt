@@ -1,5 +1,0 @@
-use Rattle.std.proofs.Common.{rules}
-use Rattle.excerpts.proofs.excerpt.Excerpt.is_stp.Goals as goal
-
-pub returns : goal.returns
-returns c = search rules

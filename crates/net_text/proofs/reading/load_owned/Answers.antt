@@ -1,0 +1,20 @@
+use Rattle.std.proofs.Common.{Some, subst}
+use Rattle.toml.specs.View.{table_view}
+use Rattle.net_text.specs.Reading.{IsDocument}
+use Rattle.net_text.proofs.SaysLemmas.{says_fault, says_net, says_no_read}
+use Rattle.net_text.proofs.reading.load_owned.Goals as goal
+
+pub returns-clause-ok : goal.returns-clause-ok
+returns-clause-ok c =
+    let doc = table_view c.in_ok-table.table in
+    let is = subst (λ t. IsDocument t (Some doc)) c.as_slice.ensures.value c.in_ok-table.ensures.ok in
+    says_net c.args.text.items doc c.read_table.result is c.read_table.ensures.ok
+
+pub returns-clause-err : goal.returns-clause-err
+returns-clause-err c =
+    let doc = table_view c.in_ok-table.table in
+    let is = subst (λ t. IsDocument t (Some doc)) c.as_slice.ensures.value c.in_ok-table.ensures.ok in
+    says_fault c.args.text.items doc c.read_table.result is c.read_table.ensures.err
+
+pub returns-clause-never_read : goal.returns-clause-never_read
+returns-clause-never_read c = says_no_read (table_view c.in_ok-table.table) c.read_table.result c.read_table.ensures.err
