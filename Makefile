@@ -2,15 +2,17 @@
 # make test      the gate: every proof from nothing, the edits that must be refused, the tests, the stored run, the transcripts
 #                of the pages, the worked examples, and a part of the hostile runs
 # make keep      proves the program's crates as `rt check` does, which keeps the proof of each function: for who will change them
+# make install   builds the program, if its sources have changed, and puts it and its manual page below PREFIX, /usr/local if none is given
 # make soak      runs many threads at one hub, thirty million events, and tells what became of them
 # make hostile   takes memory away from the program and breaks its input and output, at each place in turn
 
 PROGRAM = crates/route_desk/out/route_desk
+PREFIX = /usr/local
 # what the last build was made from: newer than each source
 BUILT = crates/route_desk/out/built
 SOURCES = crates.txt $(shell find crates \( -name out -o -name must-fail \) -prune -o -type f \( -name '*.rt' -o -name '*.antt' \) -print)
 
-.PHONY: demo build keep test soak hostile
+.PHONY: demo build install keep test soak hostile
 
 demo: build
 	@scripts/demo.sh $(PROGRAM)
@@ -20,6 +22,10 @@ build: $(BUILT)
 $(BUILT): $(SOURCES)
 	@scripts/build.py
 	@touch $(BUILT)
+
+install: build
+	install -D $(PROGRAM) $(DESTDIR)$(PREFIX)/bin/route_desk
+	install -D -m 644 docs/route_desk.1 $(DESTDIR)$(PREFIX)/share/man/man1/route_desk.1
 
 keep:
 	@scripts/build.py keep
