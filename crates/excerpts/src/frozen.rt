@@ -122,7 +122,7 @@ impl Frozen {
 
     /// If some events made this network of an earlier one, and changed links and sets alone: pairs of points, in both orders,
     /// and among them all that an available set joins in one of the two networks alone. That it has no others isn't promised,
-    /// and none are told if there are more than 64. It fails only if memory is refused.
+    /// and none are told if there are more than 128. It fails only if memory is refused.
     pub fn turned_by(
         &self,
         alloc: Global,

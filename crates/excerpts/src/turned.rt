@@ -89,7 +89,7 @@ fn put_turned(
 }
 
 /// How many ends of turned sets are told at most.
-const TURNED_LIMIT: usize = 64;
+const TURNED_LIMIT: usize = 128;
 
 /// Whether an event leaves points, plans and the transfer-restricted option as they are.
 fn is_keeping(event: &Event) -> bool

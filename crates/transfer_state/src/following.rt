@@ -22,7 +22,7 @@ use std::alloc::{AllocError, Global};
 use std::sync::Arc;
 
 /// How many rows are chosen anew at most. Beyond, it costs less to choose all from scratch.
-const FOLLOW_LIMIT: usize = 64;
+const FOLLOW_LIMIT: usize = 128;
 
 /// Marks the row in a place.
 fn mark_place(marks: &mut Vec<usize>, position: usize) -> Result<(), AllocError>
