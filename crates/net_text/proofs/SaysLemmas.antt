@@ -1,10 +1,9 @@
--- A text says one answer.
-use Rattle.std.proofs.Common.{◌≡◌, ◌≢◌, List, ℕ, Option, Some, None, Result, Ok, Err, IfOk, IfErr, refl, ap, sym, ◌∙◌}
+-- A text says one answer: that of its document.
+use Rattle.std.proofs.Common.{◌≡◌, ◌≢◌, List, ℕ, Option, Some, None, Ok, Err, IfOk, IfErr, refl, ap, sym, ◌∙◌}
 use Rattle.toml.specs.Data.{Members}
 use Rattle.net_data.specs.Network.{Network}
 use Rattle.net_text.specs.Faults.{Answer}
 use Rattle.net_text.specs.Reading.{IsDocument, answer_of, network_of, Says}
-use Rattle.net_text.specs.declared.faults.LoadFault.{LoadFault}
 use Rattle.net_text.specs.declared.faults.LoadFault.TheVariants.{OutOfMemory, Read}
 use Rattle.net_text.proofs.FaultLemmas.{never_read}
 
