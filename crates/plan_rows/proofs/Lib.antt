@@ -1,3 +1,4 @@
 pub mod SeenLemmas
 pub mod RanksLemmas
 pub mod TransferLemmas
+pub mod CauseLemmas

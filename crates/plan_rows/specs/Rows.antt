@@ -6,6 +6,7 @@ use Rattle.net_items.specs.declared.items.Point.{Point}
 use Rattle.net_items.specs.declared.items.LinkSet.{LinkSet}
 use Rattle.net_items.specs.declared.lists.Row.{Row}
 use Rattle.net_items.specs.Lookups.{is_stp, mate_of, adjacent}
+use Rattle.net_sets.specs.Joints.{AroundValue}
 use Rattle.net_sets.specs.Sets.{is_nil}
 
 -- each via passes
@@ -35,6 +36,10 @@ has_mate_row points sets dest rows r = is_stp points r.point && option_map_or (�
 -- a via that is not the point's mate, unless it is the destination
 abbrev pub is_free : List Point → ℕ → ℕ → ℕ → Bool
 is_free points dest y z = z == dest || not (is_mate points y z)
+
+-- nothing is wrong with a via, but that it may stand twice; around the row's point are those sets
+abbrev pub is_right_via : List Point → AroundValue → ℕ → List Row → Row → ℕ → Bool
+is_right_via points around dest rows r z = adjacent around.sets around.point z && (is_lower points dest rows r z && is_free points dest r.point z)
 
 -- a class of one or two vias
 abbrev pub is_small_class : List ℕ → Bool

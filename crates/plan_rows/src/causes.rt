@@ -1,6 +1,7 @@
 //! What is wrong with the rows of a plan.
 
-ghost use Rattle.std.specs.Prelude.{◌≡◌, [], ◌==◌, length};
+ghost use Rattle.std.specs.Prelude.{◌≡◌, [], ◌==◌, List, None, length, true};
+ghost use Rattle.net_items.specs.declared.lists.Row.{Row};
 ghost use Rattle.std.specs.List.{list_all, list_any};
 ghost use Rattle.net_items.specs.Keyed.{IsRising};
 ghost use Rattle.net_items.specs.Lookups.{vias_of, has_point};
@@ -12,7 +13,7 @@ ghost use Rattle.plan_rows.specs.Causes.{cause_of as the_cause, wrong_row as the
 
 use crate::ranks::note_ranks;
 use crate::row_questions::{
-    are_vias_joined, are_vias_lower, are_vias_no_mates, has_mate_row, is_small_row,
+    are_vias_joined, are_vias_lower, are_vias_no_mates, are_vias_right, has_mate_row, is_small_row,
 };
 use crate::seen::{are_vias_once, is_seen, see, see_points};
 use crate::settings::Setting;
@@ -51,6 +52,36 @@ pub struct WrongRow {
     pub cause: Cause,
 }
 
+/// Whether nothing is wrong with a row. Each via is looked at once, so this is told sooner than what is wrong.
+fn is_right(
+    setting: &Setting<'_>,
+    sets: &Sets,
+    around: &Around<'_>,
+    row: &Row,
+    repeated: bool,
+    once: bool,
+) -> bool
+    requires { around.now ≡ record { point = row.now.point; sets = sets.now } }
+    ensures { (earlier : List Row) → repeated ≡ list_any (λ other. other.point == row.now.point) earlier → once ≡ distinct (vias_of row.now) → result ≡ true → the_cause setting.now.points sets.now setting.now.dest setting.now.rows earlier row.now ≡ None }
+{
+    if row.point == setting.dest() {
+        return false;
+    }
+    if repeated {
+        return false;
+    }
+    if !once {
+        return false;
+    }
+    if !are_vias_right(setting, around, row) {
+        return false;
+    }
+    if row.mate {
+        return has_mate_row(setting, sets, row);
+    }
+    !has_no_class(row)
+}
+
 /// What is wrong with a row, whose earlier rows are given, with the sets around its point, whether an earlier row has its
 /// point, and whether each of its vias stands once.
 pub fn cause_of(
@@ -67,6 +98,9 @@ pub fn cause_of(
     requires once { once ≡ distinct (vias_of row.now) }
     ensures { result ≡ the_cause setting.now.points sets.now setting.now.dest setting.now.rows earlier.now row.now }
 {
+    if is_right(setting, sets, around, row, twice, once) {
+        return None;
+    }
     if row.point == setting.dest() {
         return Some(Cause::IsDest);
     }

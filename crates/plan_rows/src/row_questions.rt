@@ -4,8 +4,8 @@ ghost use Rattle.std.specs.Prelude.{◌≡◌, length, ◌==◌, ◌||◌, not, 
 ghost use Rattle.std.specs.List.{list_all};
 ghost use Rattle.std.specs.Option.{option_map_or};
 ghost use Rattle.net_items.specs.Keyed.{IsRising, IsFoundAt, IsGapAt};
-ghost use Rattle.net_items.specs.Lookups.{point_at, has_point, is_stp as stp, mate_of as mate, set_between, adjacent, row_at};
-ghost use Rattle.plan_rows.specs.Rows.{all_vias, is_mate as mate_is, is_lower as lower, is_free as free, is_small_class as small_class, has_mate_row as mate_row, is_small_row as small_row};
+ghost use Rattle.net_items.specs.Lookups.{point_at, has_point, is_stp as stp, mate_of as the_mate, set_between, adjacent, row_at};
+ghost use Rattle.plan_rows.specs.Rows.{all_vias, is_mate as mate_is, is_lower as lower, is_free as free, is_small_class as small_class, has_mate_row as mate_row, is_small_row as small_row, is_right_via as right_via};
 
 use crate::settings::Setting;
 use net_items::lookups::mate_of;
@@ -102,6 +102,56 @@ fn are_classes_no_mates(mate: Option<PointCode>, dest: PointCode, classes: &[Via
     classes
         .iter()
         .all(|vias| are_no_mates(mate, dest, vias.as_slice()))
+}
+
+/// Whether a via of a row is right: a set joins it to the row's point, it leads to the destination or to a transfer point with a
+/// row of lower rank, and it isn't the point's mate, unless that is the destination.
+fn is_right_via(
+    setting: &Setting<'_>,
+    around: &Around<'_>,
+    row: &Row,
+    mate: Option<PointCode>,
+    via: PointCode,
+) -> bool
+    requires { mate ≡ the_mate setting.now.points row.now.point }
+    ensures { result ≡ right_via setting.now.points around.now setting.now.dest setting.now.rows row.now via }
+{
+    around.is_adjacent(via) && is_lower(setting, row, via) && is_free_of(mate, setting.dest(), via)
+}
+
+fn are_right(
+    setting: &Setting<'_>,
+    around: &Around<'_>,
+    row: &Row,
+    mate: Option<PointCode>,
+    vias: &[PointCode],
+) -> bool
+    requires { mate ≡ the_mate setting.now.points row.now.point }
+    ensures { result ≡ list_all (right_via setting.now.points around.now setting.now.dest setting.now.rows row.now) vias.now }
+{
+    vias.iter()
+        .all(|z| is_right_via(setting, around, row, mate, *z))
+}
+
+fn are_classes_right(
+    setting: &Setting<'_>,
+    around: &Around<'_>,
+    row: &Row,
+    mate: Option<PointCode>,
+    classes: &[Vias],
+) -> bool
+    requires { mate ≡ the_mate setting.now.points row.now.point }
+    ensures { result ≡ list_all (λ vias. list_all (right_via setting.now.points around.now setting.now.dest setting.now.rows row.now) vias) classes.now }
+{
+    classes.iter().all(|vias| are_right(setting, around, row, mate, vias.as_slice()))
+}
+
+/// Whether each via of a row is right, whose point has these sets around it: each is looked at once.
+pub fn are_vias_right(setting: &Setting<'_>, around: &Around<'_>, row: &Row) -> bool
+    ensures { result ≡ all_vias (right_via setting.now.points around.now setting.now.dest setting.now.rows row.now) row.now }
+{
+    let mate = setting.mate_of(row.point);
+    are_classes_right(setting, around, row, mate, row.classes.as_slice())
 }
 
 /// Whether no via is the row point's mate, unless that is the destination.

@@ -84,6 +84,12 @@ fn is_short(row: &Row) -> bool {
 pub fn are_vias_once(row: &Row) -> bool
     ensures { result ≡ distinct (vias_of row.now) }
 {
+    // Most rows have one class of two.
+    if let [only] = row.classes.as_slice() {
+        if let [first, second] = only.as_slice() {
+            return first != second;
+        }
+    }
     if is_short(row) {
         are_vias_apart(row.classes.as_slice())
     } else {

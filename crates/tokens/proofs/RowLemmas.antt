@@ -154,3 +154,11 @@ row_writes row h =
 
 pub row_law : (row : Row) (text : List ℕ) → (row_of text ≡ Some row) ↔ (IsRow row × (text ≡ row_text row))
 row_law row text = (row_reads row text, λ h. ap row_of h.1 ∙ row_writes row h.0)
+
+-- a row read from the front
+pub plain_row : (row : Row) (text tail rest : List ℕ) → row.point < 16384 → row.rank ≤ 255 → AllByRecursion IsClass row.classes
+    → text ≡ code_text row.point ++ (58 ∷ (decimal row.rank ++ (58 ∷ tail))) → tail ≡ classes_text row.classes ++ rest → rest ≡ word_if row.mate (codes ":m") → row_of text ≡ Some row
+plain_row row text tail rest coded ranked classes head body end =
+    let written : text ≡ row_text row
+    = head ∙ ap (λ t. code_text row.point ++ (58 ∷ (decimal row.rank ++ (58 ∷ t)))) (body ∙ ap (λ t. classes_text row.classes ++ t) end) in
+    ap row_of written ∙ row_writes row (coded, ranked, classes)
