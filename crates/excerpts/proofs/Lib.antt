@@ -8,3 +8,4 @@ pub mod EntryLemmas
 pub mod TurnedLemmas
 pub mod RenewedLemmas
 pub mod KeepingLemmas
+pub mod LeadLemmas

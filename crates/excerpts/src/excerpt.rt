@@ -148,10 +148,17 @@ impl Excerpt {
         }
     }
 
-    /// Whether the row of a point leads to another point.
+    /// Whether the row of a point leads to another point. A row leads to the destination and to transfer points alone, so for
+    /// any other point it isn't read.
     pub fn leads(&self, point: PointCode, other: PointCode) -> bool
         ensures { result ≡ row_leads self.now.plan.rows point other }
     {
+        self.validity();
+        if other != self.dest() {
+            if !self.is_stp(other) {
+                return false;
+            }
+        }
         match self.row(point) {
             Some(row) => is_via(row, other),
             None => false,
