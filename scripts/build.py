@@ -1,17 +1,18 @@
 #!/usr/bin/env python3
 """Proves and builds the program, and says how far it is: how many crates are done, of how many, and the minutes so far.
 
-build.py        proves the program's crates as the gate does, side by side in a copy of them, with no wrong bodies and no tests:
-                from nothing, or from what an earlier run of the gate or of this proved of the same files on this machine. Where
-                `build.py keep` was run before, it goes on from what that left.
+build.py        proves the program's crates by the gate's command, with no wrong bodies and no tests: from nothing, or from what an
+                earlier run of the gate or of this proved of the same files on this machine. Each crate is proved in a copy of it and of
+                those below it, as soon as these are. Where `build.py keep` was run before, it goes on from what that left.
 build.py keep   proves them as `rt check` does, which keeps the proof of each function in the tree, so that a check of a crate
                 starts from there. It takes longer. The prover works on one crate of a tree at a time, so each crate is proved
-                in a copy of the tree, as soon as those below it are, and what was proved is put beside its sources in the tree
-                and in the other copies: the prover knows it by a sum of the sources, wherever they stand. The crate with the
-                most work above it gets a job for each processor; others are proved beside it, one job each, and give way to it.
+                in a copy of the tree too, and what was proved is put beside its sources in the tree and in the other copies: the
+                prover knows it by a sum of the sources, wherever they stand. The first crate gets a job for each processor.
+
+In both ways the crate with the most work above it goes first; others are proved beside it, one job each, and give way to it.
 """
 import os
-import re
+import queue
 import shutil
 import subprocess
 import sys
@@ -21,6 +22,8 @@ from concurrent.futures import FIRST_COMPLETED, ThreadPoolExecutor, wait
 
 PROGRAM = "route_desk"
 START = time.monotonic()
+# the provers that run
+RUNNING = set()
 
 
 def read_graph():
@@ -44,11 +47,11 @@ def needed(graph, crate, found):
 
 
 def size(crate):
-    """The bytes of a crate's sources, a measure of its work; the least stands for what every crate takes."""
-    bytes = 20_000
+    """The bytes of a crate's code, a measure of its work: lemmas take little. The least stands for what every crate takes."""
+    bytes = 10_000
     for at, folders, files in os.walk(f"crates/{crate}"):
         folders[:] = [it for it in folders if it not in ("out", "must-fail")]
-        bytes += sum(os.path.getsize(f"{at}/{it}") for it in files if it.endswith((".rt", ".antt")))
+        bytes += sum(os.path.getsize(f"{at}/{it}") for it in files if it.endswith(".rt"))
     return bytes
 
 
@@ -61,32 +64,46 @@ def work_above(graph, crates):
     return above
 
 
-def prove_anew(graph, crates, room):
-    """Proves the crates in a copy of them, side by side, builds the program there, and puts it in the tree."""
-    ignored = shutil.ignore_patterns("out", "must-fail")
-    for crate in crates:
-        shutil.copytree(f"crates/{crate}", f"{room}/crates/{crate}", ignore=ignored)
-    with open("crates.txt", encoding="utf-8") as lines, open(f"{room}/crates.txt", "w", encoding="utf-8") as kept:
-        kept.writelines(line for line in lines if line.split(" ")[0].rstrip(":\n") in crates)
-    shutil.copy("HANDLES", room)
-    # the prover wants the top of a repository
-    os.mkdir(f"{room}/.git")
-    log, proved = f"{room}/log", set()
-    with open(log, "w", encoding="utf-8") as kept:
-        how = {"cwd": room, "stdout": subprocess.PIPE, "stderr": subprocess.STDOUT, "text": True, "errors": "replace"}
-        run = subprocess.Popen(["rt", "ci"], env={**os.environ, "PYTHONUNBUFFERED": "1"}, **how)
-        for line in run.stdout:
-            kept.write(line)
-            found = re.match(r"rt: (\w+) (proved|is kept)\b", line)
-            if found:
-                proved.add(found[1])
-                left = [it for it in crates if it not in proved and proved.issuperset(graph[it])]
-                coming = f"; the next: {', '.join(left)}" if left else ""
-                say(f"{len(proved)} of {len(crates)} crates proved: {found[1]}{coming}")
-    if run.wait():
-        stop(log)
+class NotProved(Exception):
+    """A prover did not end well. It has the file of what the prover said."""
+
+
+class NothingKept(Exception):
+    """What a run of the prover proves isn't kept for the next one."""
+
+
+def prove_anew(graph, crates, count, room):
+    """Proves the crates by the gate's command, builds the program, and puts it in the tree."""
+    try:
+        each_in_turn(graph, crates, count, lambda crate, is_first: prove_by_gate(graph, crate, is_first, room))
+    except NothingKept:
+        say("nothing is kept between runs of the prover here, so one run proves all")
+        prove_by_gate(graph, PROGRAM, True, room)
     os.makedirs(f"crates/{PROGRAM}/out", exist_ok=True)
-    shutil.copy(f"{room}/crates/{PROGRAM}/out/{PROGRAM}", f"crates/{PROGRAM}/out")
+    shutil.copy(f"{room}/{PROGRAM}/crates/{PROGRAM}/out/{PROGRAM}", f"crates/{PROGRAM}/out")
+
+
+def prove_by_gate(graph, crate, is_first, room):
+    """Proves a crate, and those below it that no run proved, by the gate's command in a copy of them. The prover gives a crate that
+    is alone a second job; the others get one each, and give way."""
+    tree, wanted = f"{room}/{crate}", needed(graph, crate, [])
+    shutil.rmtree(tree, ignore_errors=True)
+    for it in wanted:
+        shutil.copytree(f"crates/{it}", f"{tree}/crates/{it}", ignore=shutil.ignore_patterns("out", "must-fail"))
+    with open("crates.txt", encoding="utf-8") as lines, open(f"{tree}/crates.txt", "w", encoding="utf-8") as kept:
+        kept.writelines(line for line in lines if line.split(" ")[0].rstrip(":\n") in wanted)
+    shutil.copy("HANDLES", tree)
+    # the prover wants the top of a repository
+    os.mkdir(f"{tree}/.git")
+    one_job = {} if is_first else {"RT_JOBS": "1"}
+    log = f"{room}/{crate}.log"
+    run([*way(is_first), "rt", "ci"], tree, log, {**os.environ, **one_job})
+    if crate == PROGRAM:
+        return
+    shutil.rmtree(tree)
+    with open(log, encoding="utf-8", errors="replace") as said:
+        if "nothing is kept" in said.read():
+            raise NothingKept
 
 
 def lanes():
@@ -108,6 +125,22 @@ def stop(log):
     sys.exit(1)
 
 
+def way(is_first):
+    """How a prover is started: one that isn't the first gives way to it."""
+    return [] if is_first else ["nice", "-n", "10"]
+
+
+def run(command, folder, log, environment=None):
+    """Runs a prover, whose output goes to a file."""
+    with open(log, "w", encoding="utf-8") as kept:
+        prover = subprocess.Popen(command, cwd=folder, stdout=kept, stderr=kept, env=environment)
+    RUNNING.add(prover)
+    status = prover.wait()
+    RUNNING.discard(prover)
+    if status:
+        raise NotProved(log)
+
+
 def put(crate, source, target):
     """Gives what was proved in one tree to another, as second names of its files: the prover replaces such files, and never writes into them."""
     to = f"{target}/crates/{crate}/out"
@@ -115,43 +148,49 @@ def put(crate, source, target):
     shutil.copytree(f"{source}/crates/{crate}/out", to, copy_function=os.link, symlinks=True)
 
 
-def prove(crate, tree, jobs, is_first):
-    """Proves a library in a tree, and returns what it was asked with the prover's status."""
-    nice = [] if is_first else ["nice", "-n", "5"]
-    with open(f"{tree}/{crate}.log", "w", encoding="utf-8") as log:
-        command = [*nice, "rt", "lib", "--jobs", str(jobs)]
-        return crate, tree, subprocess.run(command, cwd=f"{tree}/crates/{crate}", stdout=log, stderr=log, check=False).returncode
+def each_in_turn(graph, crates, most, prove):
+    """Has each crate proved as soon as those below it are, so many at once, and told to one that has more work from it on than those
+    that run, which are half done, that it is the first: it never waits for a place."""
+    above, done, running = work_above(graph, crates), [], {}
+    left = sorted(crates, key=lambda it: -above[it])
+    with ThreadPoolExecutor(len(crates)) as pool:
+        try:
+            while left or running:
+                for crate in [it for it in left if set(graph[it]).issubset(done)]:
+                    is_first = all(above[crate] > above[it] - size(it) / 2 for it in running.values())
+                    if is_first or len(running) < most:
+                        left.remove(crate)
+                        running[pool.submit(prove, crate, is_first)] = crate
+                for ended in wait(running, return_when=FIRST_COMPLETED).done:
+                    crate = running.pop(ended)
+                    ended.result()
+                    done.append(crate)
+                    others = f"; in work: {', '.join(running.values())}" if running else ""
+                    say(f"{len(done)} of {len(crates)} crates proved: {crate}{others}")
+        except BaseException:
+            for prover in list(RUNNING):
+                prover.terminate()
+            raise
 
 
 def prove_side_by_side(graph, crates, count, room):
-    """Proves the libraries below the program, each as soon as those below it are."""
-    above, done, running = work_above(graph, crates), set(), {}
-    trees = [f"{room}/{number}" for number in range(count)]
+    """Proves the libraries below the program as `rt check` does."""
+    trees, free = [f"{room}/{number}" for number in range(count + 1)], queue.SimpleQueue()
     for tree in trees:
-        ignored = shutil.ignore_patterns("out", "must-fail")
-        shutil.copytree("crates", f"{tree}/crates", ignore=ignored)
+        shutil.copytree("crates", f"{tree}/crates", ignore=shutil.ignore_patterns("out", "must-fail"))
         for file in ("crates.txt", "HANDLES"):
             shutil.copy(file, tree)
-    free, left = list(trees), sorted(crates[:-1], key=lambda it: -above[it])
-    with ThreadPoolExecutor(count) as pool:
-        while left or running:
-            for crate in [it for it in left if done.issuperset(graph[it])][: len(free)]:
-                is_first = all(above[crate] > above[it] for it in running.values())
-                left.remove(crate)
-                running[pool.submit(prove, crate, free.pop(), count if is_first else 1, is_first)] = crate
-            for ended in wait(running, return_when=FIRST_COMPLETED).done:
-                crate, tree, status = ended.result()
-                if status:
-                    for it in running:
-                        it.cancel()
-                    stop(f"{tree}/{crate}.log")
-                for other in (".", *trees):
-                    if other != tree:
-                        put(crate, tree, other)
-                del running[ended]
-                done.add(crate)
-                free.append(tree)
-                say(f"{len(done)} of {len(crates)} crates proved: {crate}")
+        free.put(tree)
+
+    def prove(crate, is_first):
+        tree, jobs = free.get(), count if is_first else 1
+        run([*way(is_first), "rt", "lib", "--jobs", str(jobs)], f"{tree}/crates/{crate}", f"{room}/{crate}.log")
+        for other in (".", *trees):
+            if other != tree:
+                put(crate, tree, other)
+        free.put(tree)
+
+    each_in_turn(graph, crates[:-1], count, prove)
 
 
 def build(crates, count):
@@ -184,10 +223,14 @@ def main():
     room = tempfile.mkdtemp(dir=".", prefix=".build-")
     try:
         if not keeps and len(kept) < len(crates) - 1:
-            prove_anew(graph, crates, room)
+            prove_anew(graph, crates, count, room)
             return
         if count > 1 and not kept:
             prove_side_by_side(graph, crates, count, room)
+    except NotProved as failure:
+        stop(failure.args[0])
+    except KeyboardInterrupt:
+        sys.exit(130)
     finally:
         shutil.rmtree(room, ignore_errors=True)
     build(crates, count)
