@@ -11,3 +11,4 @@ pub mod Answer
 pub mod Audits
 pub mod DeskRefusals
 pub mod Replies
+pub mod Help

@@ -16,15 +16,18 @@
 //!    waiting W`; the taking of a job `job V CODE`; a result `given`; an abandonment `abandoned`; a publication `published
 //!    N`; `synced N` and `version P accepted N` tell what is published and accepted.
 //! 10. A refusal is `refused`, its number, its name and its values. No answer has a line feed.
+//! 11. A line that is no command is refused 62 BadLine, but for `help`: it tells every word that begins a command, and `help
+//!     WORD` the form of that word's commands, with an example: `help FORM, as EXAMPLE`.
 //!
 //! Stands on `work_units`, `path_trace`, `what_if`, `script_words`, `itoa`. A change here also changes specs/ (Answer, Audits, DeskRefusals,
-//! Links, Messages, Plain, Refusals, Replies, Rows, Status, Text, Traces, WhatIfs), proofs/ and must-fail/.
+//! Help, Links, Messages, Plain, Refusals, Replies, Rows, Status, Text, Traces, WhatIfs), proofs/ and must-fail/.
 #![tactic(auto)]
 
 pub mod answer;
 pub mod audits;
 mod codes;
 mod desk_refusals;
+pub mod help;
 mod links;
 mod messages;
 pub mod plain;
@@ -37,6 +40,7 @@ pub mod what_ifs;
 
 pub use answer::Answer;
 pub use audits::{answer_audit, clause_word, put_complaint};
+pub use help::answer_other;
 pub use plain::{write_bad_line, write_no_plan, write_no_row};
 pub use refusals::put_refusal;
 pub use replies::{

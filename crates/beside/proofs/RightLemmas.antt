@@ -7,6 +7,7 @@ use Rattle.net_data.specs.declared.events.Event.{Event}
 use Rattle.net_data.specs.Network.{Network}
 use Rattle.net_versions.specs.Versions.{VersionValue, settled_version}
 use Rattle.tokens.specs.Words.{words_of}
+use Rattle.answers.specs.Help.{other_answer}
 use Rattle.script_words.specs.Commands.{command_of}
 use Rattle.script_words.specs.declared.commands.Command.{Command}
 use Rattle.script_words.specs.declared.commands.Command.TheVariants as command
@@ -185,16 +186,16 @@ module _ (line : List ℕ) (old : BesideValue) (text : List ℕ) (new : BesideVa
       ∙ ap (λ (es : List Event). if says_taken text then es else []) none ∙ nothing_taken (says_taken text)
 
   -- a command that is done under the lock
-  done_there : (o : Option Command) → command_of (words_of line) ≡ o → (found : DeskAndChain) → DoesAt (Obeys o) old found text new → new.left.desk.published ≡ found.desk.published → Moves old (taken_by line text) new
+  done_there : (o : Option Command) → command_of (words_of line) ≡ o → (found : DeskAndChain) → DoesAt (Obeys (other_answer (words_of line)) o) old found text new → new.left.desk.published ≡ found.desk.published → Moves old (taken_by line text) new
   done_there o is found does published = acts found (record {
     finds = does.finds;
     shown = does.shown;
     told = does.told;
     published = published;
-    runs = line_runs line (at_console found.desk) text (at_console new.left.desk) (subst (λ (c : Option Command). Obeys c (at_console found.desk) text (at_console new.left.desk)) (sym is) does.done);
+    runs = line_runs line (at_console found.desk) text (at_console new.left.desk) (subst (λ (c : Option Command). Obeys (other_answer (words_of line)) c (at_console found.desk) text (at_console new.left.desk)) (sym is) does.done);
   })
 
-  obeyed : (o : Option Command) → command_of (words_of line) ≡ o → ObeysBeside o old text new → Moves old (taken_by line text) new
+  obeyed : (o : Option Command) → command_of (words_of line) ≡ o → ObeysBeside (other_answer (words_of line)) o old text new → Moves old (taken_by line text) new
   obeyed None e is = stays (none_taken None e refl) is.1
   obeyed (Some (command.Event event)) e is = done_there (Some (command.Event event)) e is.0 is.1 (posts_publish_none is.0.desk new.left.desk event text _ is.1.done)
   obeyed (Some (command.Post collector seq event)) e is = done_there (Some (command.Post collector seq event)) e is.0 is.1 (calls_publish_none is.0.desk new.left.desk collector seq event text is.1.done)

@@ -12,6 +12,7 @@ use Rattle.net_versions.specs.Versions.{VersionValue, settled_version}
 use Rattle.path_trace.specs.Traces.{trace_at}
 use Rattle.plan_rows.specs.Causes.{first, when}
 use Rattle.tokens.specs.Words.{words_of}
+use Rattle.answers.specs.Help.{other_answer}
 use Rattle.script_words.specs.Commands.{command_of}
 use Rattle.script_words.specs.declared.commands.Command.{Command}
 use Rattle.script_words.specs.declared.commands.Command.TheVariants as command
@@ -416,21 +417,21 @@ module _ (start : DeskValue) (steady : IsSteadyDesk start) (es more : List Event
           subst (Same n new) (sym other) (looked_same start steady es n b c same keeps n version new c looks kept same.less same.aim (omega arith)),
         )
 
-    obeys_same : (o : Option Command) → MayCome n o → ObeysBeside o b x new → Obeys o c y end → (x ≡ y) × Same (events_after n o) new end
-    obeys_same None may is at = told_same _ x y is at
-    obeys_same (Some (command.Event event)) may is at = nexts_same is.0 event may is.1 at
-    obeys_same (Some (command.Post collector seq event)) may is at = calls_same (Does (command.Post collector seq event)) is.0 collector seq event may is.1 is.1.done at
-    obeys_same (Some command.Open) may is at = absurd may
-    obeys_same (Some (command.Take k)) may is at = absurd may
-    obeys_same (Some (command.Give k)) may is at = absurd may
-    obeys_same (Some (command.Abandon k)) may is at = absurd may
-    obeys_same (Some command.Publish) may is at = absurd may
-    obeys_same (Some command.Sync) may is at = syncs_same is at
-    obeys_same (Some command.Version) may is at = versions_same is.0 may is.1 at
-    obeys_same (Some (command.About asked p d)) may is at = asks_same (λ net. answer_about asked net p d) is.0 may is.1 is.2.0 at.0 at.1
-    obeys_same (Some (command.Trace p d s)) may is at = asks_same (λ net. trace_answer (trace_at net p d s)) is.0 may is.1 is.2.0 at.0 at.1
-    obeys_same (Some (command.WhatIf events)) may is at = asks_same (λ net. what_if_text (report_of net events)) is.0 may is.1 is.2.0 at.0 at.1
-    obeys_same (Some command.Audit) may is at = asks_same (λ net. audit_right (length net.plans)) is.0 may is.1 is.2.0 at.0 at.1
+    obeys_same : (other : List ℕ) (o : Option Command) → MayCome n o → ObeysBeside other o b x new → Obeys other o c y end → (x ≡ y) × Same (events_after n o) new end
+    obeys_same other None may is at = told_same _ x y is at
+    obeys_same other (Some (command.Event event)) may is at = nexts_same is.0 event may is.1 at
+    obeys_same other (Some (command.Post collector seq event)) may is at = calls_same (Does (command.Post collector seq event)) is.0 collector seq event may is.1 is.1.done at
+    obeys_same other (Some command.Open) may is at = absurd may
+    obeys_same other (Some (command.Take k)) may is at = absurd may
+    obeys_same other (Some (command.Give k)) may is at = absurd may
+    obeys_same other (Some (command.Abandon k)) may is at = absurd may
+    obeys_same other (Some command.Publish) may is at = absurd may
+    obeys_same other (Some command.Sync) may is at = syncs_same is at
+    obeys_same other (Some command.Version) may is at = versions_same is.0 may is.1 at
+    obeys_same other (Some (command.About asked p d)) may is at = asks_same (λ net. answer_about asked net p d) is.0 may is.1 is.2.0 at.0 at.1
+    obeys_same other (Some (command.Trace p d s)) may is at = asks_same (λ net. trace_answer (trace_at net p d s)) is.0 may is.1 is.2.0 at.0 at.1
+    obeys_same other (Some (command.WhatIf events)) may is at = asks_same (λ net. what_if_text (report_of net events)) is.0 may is.1 is.2.0 at.0 at.1
+    obeys_same other (Some command.Audit) may is at = asks_same (λ net. audit_right (length net.plans)) is.0 may is.1 is.2.0 at.0 at.1
 
   line_same : (line x y : List ℕ) → MayCome n (command_in line) → Replies CommandsBeside line b x new → Replies Commands line c y end → (x ≡ y) × Same (events_after n (command_in line)) new end
   line_same line x y = go (is_too_long (trimmed line)) (is_silent (trimmed line))
@@ -440,7 +441,7 @@ module _ (start : DeskValue) (steady : IsSteadyDesk start) (es more : List Event
       go true quiet may is at = told_same _ x y is at
       go false true may is at = told_same _ x y is at
       go false false may is at =
-          let both = obeys_same is.0 at.0 (command_of (words_of (trimmed line))) may is.1 at.1 in
+          let both = obeys_same is.0 at.0 (other_answer (words_of (trimmed line))) (command_of (words_of (trimmed line))) may is.1 at.1 in
           (is.2 ∙ ap (λ (t : List ℕ). t ++ 10 ∷ []) both.0 ∙ sym at.2, both.1)
 
 -- ---- all lines

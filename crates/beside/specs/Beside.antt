@@ -8,6 +8,7 @@ use Rattle.script_words.specs.Commands.{command_of}
 use Rattle.script_words.specs.declared.commands.Command.{Command}
 use Rattle.script_words.specs.declared.commands.Command.TheVariants as command
 use Rattle.desk_core.specs.Desk.{DeskValue, accepted, net_now, new_desk}
+use Rattle.answers.specs.Help.{other_answer}
 use Rattle.answers.specs.Plain.{bad_line}
 use Rattle.answers.specs.Replies.{synced_text}
 use Rattle.desk_console.specs.Console.{ConsoleValue}
@@ -97,11 +98,11 @@ DoesBeside (command.Trace y x s) = Asks (command.Trace y x s)
 DoesBeside (command.WhatIf events) = Asks (command.WhatIf events)
 DoesBeside command.Audit = Asks command.Audit
 
--- what a command does, and a line that is none
-abbrev pub ObeysBeside : Option Command → BesideValue → List ℕ → BesideValue → Type 0
-ObeysBeside None = Tells bad_line
-ObeysBeside (Some command) = DoesBeside command
+-- what a command does; to a line that is none, another text is told
+abbrev pub ObeysBeside : List ℕ → Option Command → BesideValue → List ℕ → BesideValue → Type 0
+ObeysBeside other None = Tells other
+ObeysBeside other (Some command) = DoesBeside command
 
 -- what a line does beside workers: the text of its answer, and what stands after it
 abbrev pub CommandsBeside : List ℕ → BesideValue → List ℕ → BesideValue → Type 0
-CommandsBeside line = ObeysBeside (command_of (words_of line))
+CommandsBeside line = ObeysBeside (other_answer (words_of line)) (command_of (words_of line))

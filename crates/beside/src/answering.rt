@@ -1,6 +1,7 @@
 //! Who answers a script beside workers.
 
 ghost use Rattle.std.specs.Prelude.{◌≡◌, ◌≤◌, [], IfErr, IfOk, IfSome, string_bytes};
+ghost use Rattle.answers.specs.Help.{other_answer};
 ghost use Rattle.answers.specs.Text.{line_count};
 ghost use Rattle.desk_core.specs.Desk.{accepted};
 ghost use Rattle.desk_console.specs.Taken.{event_of};
@@ -11,7 +12,7 @@ ghost use Rattle.sessions.specs.Run.{CutsOff};
 ghost use Rattle.beside.specs.Beside.{DoesBeside, Looks, SyncsBeside};
 
 use crate::visitor::Visitor;
-use answers::{Answer, write_bad_line, write_synced};
+use answers::{Answer, answer_other, write_bad_line, write_synced};
 use net_data::{Event, Net};
 use script_words::{Command, read_command};
 use sessions::{Answering, Fault};
@@ -29,6 +30,15 @@ fn read_line(alloc: Global, line: &[u8]) -> Result<Option<Command>, AllocError>
 {
     let words = split_words(alloc, line)?;
     read_command(alloc, words.as_slice())
+}
+
+/// What is answered to a line that is no command.
+fn answer_no_command(alloc: Global, line: &[u8]) -> Result<String, AllocError>
+    ensures text { IfOk result (λ text. string_bytes text ≡ other_answer (words_of line.now)) }
+    ensures plain { IfOk result (λ text. line_count (string_bytes text) ≡ 0) }
+{
+    let words = split_words(alloc, line)?;
+    answer_other(alloc, words.as_slice())
 }
 
 /// Who answers a script beside workers: it comes to their hub under its lock, and reads what is published without it. Contracts
@@ -189,7 +199,7 @@ impl<'a, N: Naming, R: Wait> Answering for Beside<'a, N, R> {
     fn answer(&mut self, alloc: Global, line: &[u8]) -> Result<Answer, Fault> {
         match read_line(alloc, line)? {
             Some(command) => self.obey(alloc, command),
-            None => Ok(Answer::of_text(write_bad_line(alloc)?)),
+            None => Ok(Answer::of_text(answer_no_command(alloc, line)?)),
         }
     }
 

@@ -5,6 +5,7 @@ use Rattle.std.specs.Option.{option_map_or}
 use Rattle.net_data.specs.declared.events.Event.{Event}
 use Rattle.work_units.specs.Work.{Work}
 use Rattle.tokens.specs.Words.{words_of}
+use Rattle.answers.specs.Help.{other_answer}
 use Rattle.script_words.specs.Commands.{command_of}
 use Rattle.script_words.specs.declared.commands.Command.{Command}
 use Rattle.script_words.specs.declared.commands.Command.TheVariants as command
@@ -112,10 +113,10 @@ module _ (c : ConsoleValue) (text : List ℕ) (new : ConsoleValue) where
   command_runs (command.WhatIf events) is = told is.1
   command_runs command.Audit is = told is.1
 
-  obeyed : (o : Option Command) → Obeys o c text new → IsRunOf c.desk (if says_taken text then option_map_or event_of o [] else []) new.desk
-  obeyed None is = told is.1
-  obeyed (Some done) is = command_runs done is
+  obeyed : (other : List ℕ) (o : Option Command) → Obeys other o c text new → IsRunOf c.desk (if says_taken text then option_map_or event_of o [] else []) new.desk
+  obeyed other None is = told is.1
+  obeyed other (Some done) is = command_runs done is
 
 -- what a line does is a run of the desk's steps, which accepts the line's event if it is answered `taken`
 pub line_runs : (line : List ℕ) (c : ConsoleValue) (text : List ℕ) (new : ConsoleValue) → Commands line c text new → IsRunOf c.desk (taken_by line text) new.desk
-line_runs line c text new is = obeyed c text new (command_of (words_of line)) is
+line_runs line c text new is = obeyed c text new (other_answer (words_of line)) (command_of (words_of line)) is

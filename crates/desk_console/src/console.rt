@@ -5,7 +5,7 @@ ghost use Rattle.answers.specs.Text.{line_count};
 ghost use Rattle.desk_console.specs.Commands.{Commands};
 ghost use Rattle.desk_console.specs.Console.{net_of, opening};
 
-use answers::{Answer, write_bad_line};
+use answers::{Answer, answer_other};
 use desk_core::Desk;
 use net_data::Net;
 use script_words::read_command;
@@ -78,7 +78,7 @@ impl Console {
         let words = split_words(alloc, line)?;
         match read_command(alloc, words.as_slice())? {
             Some(command) => self.obey(alloc, command),
-            None => Ok(Answer::of_text(write_bad_line(alloc)?)),
+            None => Ok(Answer::of_text(answer_other(alloc, words.as_slice())?)),
         }
     }
 }

@@ -12,7 +12,7 @@
 //!    results.
 //! 4. `version` tells the numbers of the published version and of the last accepted event. All other questions are
 //!    answered from the published version alone.
-//! 5. A line that is no command is answered `refused 62 BadLine`.
+//! 5. A line that is no command is answered `refused 62 BadLine`, but for `help` and `help WORD`.
 //!
 //! Stands on `answers`. A change here also changes specs/ (Commands, Console, Does, Settling, Syncing), proofs/ and must-
 //! fail/.

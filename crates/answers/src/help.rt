@@ -1,0 +1,189 @@
+//! What `help` answers.
+
+ghost use Rattle.std.specs.Prelude.{◌≡◌, IfOk, IfSome, find as first_that, map, option_map, string_bytes};
+ghost use Rattle.answers.specs.Help.{forms as all_forms, is_of, other_answer, value_of};
+ghost use Rattle.answers.specs.Text.{line_count};
+
+use crate::plain::write_bad_line;
+use std::alloc::{AllocError, Global};
+
+/// A word that begins a command, and what is told of it.
+struct Form {
+    word: &'static str,
+    /// The form of its commands, and an example.
+    text: &'static str,
+}
+
+/// Each word that begins a command.
+const FORMS: &[Form] = &[
+    Form {
+        word: "fail",
+        text: "help fail ID SLC, as fail 2 0",
+    },
+    Form {
+        word: "restore",
+        text: "help restore ID SLC, as restore 2 0",
+    },
+    Form {
+        word: "block",
+        text: "help block ID SLC END, as block 2 0 b",
+    },
+    Form {
+        word: "unblock",
+        text: "help unblock ID SLC END, as unblock 2 0 b",
+    },
+    Form {
+        word: "inhibit",
+        text: "help inhibit ID SLC END, as inhibit 2 0 a",
+    },
+    Form {
+        word: "uninhibit",
+        text: "help uninhibit ID SLC END, as uninhibit 2 0 a",
+    },
+    Form {
+        word: "point",
+        text: "help point add CODE KIND or point drop CODE, as point add 2-1-3 sep",
+    },
+    Form {
+        word: "pair",
+        text: "help pair CODE CODE, as pair 2-10-1 2-10-2",
+    },
+    Form {
+        word: "unpair",
+        text: "help unpair CODE, as unpair 2-10-1",
+    },
+    Form {
+        word: "set",
+        text: "help set add ID CODE CODE SLC SLC .. or set drop ID, as set add 3 2-1-3 2-10-1 0 1",
+    },
+    Form {
+        word: "link",
+        text: "help link add ID SLC or link drop ID SLC, as link add 2 1",
+    },
+    Form {
+        word: "plan",
+        text: "help plan set CODE ROW ROW .. or plan drop CODE, as plan set 2-1-2 2-1-1:2:2-10-1 2-10-1:1:2-1-2",
+    },
+    Form {
+        word: "tfr",
+        text: "help tfr on or tfr off, as tfr off",
+    },
+    Form {
+        word: "post",
+        text: "help post C SEQ EVENT, as post 1 1 fail 2 0",
+    },
+    Form {
+        word: "open",
+        text: "help open, as open",
+    },
+    Form {
+        word: "take",
+        text: "help take K, as take 0",
+    },
+    Form {
+        word: "give",
+        text: "help give K, as give 0",
+    },
+    Form {
+        word: "abandon",
+        text: "help abandon K, as abandon 0",
+    },
+    Form {
+        word: "publish",
+        text: "help publish, as publish",
+    },
+    Form {
+        word: "sync",
+        text: "help sync, as sync",
+    },
+    Form {
+        word: "version",
+        text: "help version, as version",
+    },
+    Form {
+        word: "status",
+        text: "help status Y X, as status 2-1-1 2-1-2",
+    },
+    Form {
+        word: "sls",
+        text: "help sls Y X, as sls 2-1-1 2-1-2",
+    },
+    Form {
+        word: "messages",
+        text: "help messages Y X, as messages 2-10-1 2-1-2",
+    },
+    Form {
+        word: "octets",
+        text: "help octets Y Z X, as octets 2-10-1 2-1-1 2-1-2",
+    },
+    Form {
+        word: "trace",
+        text: "help trace Y X S, as trace 2-1-1 2-1-2 0",
+    },
+    Form {
+        word: "whatif",
+        text: "help whatif EVENT ; EVENT .., as whatif fail 2 0 ; inhibit 1 0 a",
+    },
+    Form {
+        word: "audit",
+        text: "help audit, as audit",
+    },
+    Form {
+        word: "help",
+        text: "help help or help WORD, as help status",
+    },
+];
+
+/// All these words, each after a space.
+const ALL_WORDS: &str =
+    "help fail restore block unblock inhibit uninhibit point pair unpair set link plan tfr post open take give abandon publish sync version status sls messages octets trace whatif audit help";
+
+fn forms() -> &'static [Form]
+    ensures { map value_of result.now ≡ all_forms }
+{
+    FORMS
+}
+
+/// The first form of a list that is a word's.
+fn find_among<'a>(list: &'a [Form], word: &[u8]) -> Option<&'a Form>
+    ensures { option_map (λ f. value_of f.now) result ≡ first_that (is_of word.now) (map value_of list.entry.now) }
+{
+    let mut rest = list;
+    while let Some((first, more)) = rest.split_first() {
+        if word == first.word.as_bytes() {
+            return Some(first);
+        }
+        rest = more;
+    }
+    None
+}
+
+/// What is told of a word that begins a command: the form of its commands, and an example.
+fn form_of(word: &[u8]) -> Option<&'static str>
+    ensures form { option_map (λ text. text.now) result ≡ option_map (λ f. f.text) (first_that (is_of word.now) all_forms) }
+    ensures plain { IfSome result (λ text. line_count text.now ≡ 0) }
+{
+    find_among(forms(), word).map(|form| form.text)
+}
+
+/// What is answered to a line that is no command, by its words: `help` tells every word that begins one, `help WORD` the form of
+/// that word's commands, with an example; any other is refused as a bad line. It fails if memory is refused.
+pub fn answer_other(alloc: Global, words: &[&[u8]]) -> Result<String, AllocError>
+    ensures text { IfOk result (λ text. string_bytes text ≡ other_answer (map (λ w. w.now) words.now)) }
+    ensures plain { IfOk result (λ text. line_count (string_bytes text) ≡ 0) }
+{
+    let [first, rest @ ..] = words else {
+        return write_bad_line(alloc);
+    };
+    if *first != "help".as_bytes() {
+        return write_bad_line(alloc);
+    }
+    match rest {
+        [] => String::from_str(alloc, ALL_WORDS),
+        [word] => match form_of(*word) {
+            Some(text) => String::from_str(alloc, text),
+            None => write_bad_line(alloc),
+        },
+        [_, _, ..] => write_bad_line(alloc),
+    }
+}
