@@ -103,6 +103,24 @@ impl Vias {
         }
     }
 
+    /// One via.
+    pub fn of_one(via: PointCode) -> Vias
+        ensures { result ≡ via ∷ [] }
+    {
+        Vias {
+            list: ViaList::One([via]),
+        }
+    }
+
+    /// Two vias.
+    pub fn of_two(first: PointCode, second: PointCode) -> Vias
+        ensures { result ≡ first ∷ second ∷ [] }
+    {
+        Vias {
+            list: ViaList::Two([first, second]),
+        }
+    }
+
     /// A copy of these vias.
     pub fn from_slice(alloc: Global, vias: &[PointCode]) -> Result<Vias, AllocError>
         ensures { IfOk result (λ v. v ≡ vias.now) }

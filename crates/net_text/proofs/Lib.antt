@@ -1,4 +1,5 @@
 pub mod TableLemmas
 pub mod EntryLemmas
 pub mod FaultLemmas
+pub mod PlanLemmas
 pub mod SaysLemmas

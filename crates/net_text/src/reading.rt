@@ -1,11 +1,13 @@
 //! Reading a network text.
 
-ghost use Rattle.std.specs.Prelude.{◌≡◌, ◌≢◌, ◌≤◌, map, Some, Ok, Err, IfOk, IfErr, OnOk};
-ghost use Rattle.toml.specs.View.{view, table_view};
+ghost use Rattle.std.specs.Prelude.{◌≡◌, ◌≢◌, ◌≤◌, map, Some, Ok, Err, IfOk, IfErr, OnOk, unwrap_or, codes};
+ghost use Rattle.toml.specs.Data.{no_items, get_member, as_array};
+ghost use Rattle.toml.specs.View.{view, table_view, items_view};
 ghost use Rattle.net_data.specs.Edits.{apply_all};
-ghost use Rattle.net_text.specs.Keys.{held, text_of};
+ghost use Rattle.net_text.specs.Faults.{chain};
+ghost use Rattle.net_text.specs.Keys.{held, text_of, texts_from};
 ghost use Rattle.net_text.specs.Entries.{entry_of};
-ghost use Rattle.net_text.specs.Reading.{IsDocument, Says, network_of, apply_entry as entry_applied, apply_entries as entries_applied, apply_fields as fields_applied, start as started, build as built};
+ghost use Rattle.net_text.specs.Reading.{IsDocument, Says, network_of, apply_entry as entry_applied, apply_entries as entries_applied, start as started};
 
 use crate::entries::read_entry;
 use crate::faults::{Key, LoadFault};
@@ -82,10 +84,10 @@ fn start(alloc: Global, fields: &Fields) -> Result<Net, LoadFault>
     }
 }
 
-/// Applies the entries of all arrays in their order, up to the first fault.
-fn apply_fields(alloc: Global, net: &mut Net, fields: &Fields) -> Result<(), LoadFault>
-    ensures ok { OnOk result (fields_applied (held fields.now) net.old ≡ Ok net.new) }
-    ensures err { IfErr result (λ e. e ≢ LoadFault.OutOfMemory → fields_applied (held fields.now) net.old ≡ Err e) }
+/// Applies the entries of the arrays before the plans, in their order, up to the first fault.
+fn apply_parts(alloc: Global, net: &mut Net, fields: &Fields) -> Result<(), LoadFault>
+    ensures ok { OnOk result (chain (entries_applied Key.Points fields.now.format 1 net.old (held fields.now).points) (λ a. chain (entries_applied Key.Pairs fields.now.format 1 a (held fields.now).pairs) (λ b. entries_applied Key.Sets fields.now.format 1 b (held fields.now).sets)) ≡ Ok net.new) }
+    ensures err { IfErr result (λ e. e ≢ LoadFault.OutOfMemory → chain (entries_applied Key.Points fields.now.format 1 net.old (held fields.now).points) (λ a. chain (entries_applied Key.Pairs fields.now.format 1 a (held fields.now).pairs) (λ b. entries_applied Key.Sets fields.now.format 1 b (held fields.now).sets)) ≡ Err e) }
 {
     if let Err(fault) = apply_entries(alloc, net, Key::Points, fields.format, fields.points) {
         return Err(fault);
@@ -93,30 +95,64 @@ fn apply_fields(alloc: Global, net: &mut Net, fields: &Fields) -> Result<(), Loa
     if let Err(fault) = apply_entries(alloc, net, Key::Pairs, fields.format, fields.pairs) {
         return Err(fault);
     }
-    if let Err(fault) = apply_entries(alloc, net, Key::Sets, fields.format, fields.sets) {
-        return Err(fault);
+    apply_entries(alloc, net, Key::Sets, fields.format, fields.sets)
+}
+
+/// The elements of a value that is given away, none if it isn't an array.
+fn elements_of(alloc: Global, value: Value) -> Vec<Value>
+    ensures { items_view result.items ≡ unwrap_or (as_array (view value)) no_items }
+{
+    match value {
+        Value::Array(values) => values,
+        _ => Vec::new(alloc),
     }
-    apply_entries(alloc, net, Key::Plans, fields.format, fields.plans)
 }
 
-/// The network of the entries, or their first fault, with their places counted from 1.
-fn build(alloc: Global, fields: &Fields) -> Result<Net, LoadFault>
-    requires { fields.now.ni ≤ 3 }
-    ensures ok { IfOk result (λ net. built (held fields.now) ≡ Ok net) }
-    ensures err { IfErr result (λ e. e ≢ LoadFault.OutOfMemory → built (held fields.now) ≡ Err e) }
+/// The elements of the array at `plans` of a table that is given away, none if it is missing. The rest of the table is
+/// given back.
+fn take_plans(alloc: Global, mut table: Table) -> Vec<Value>
+    ensures { IfOk (texts_from Key.Plans (get_member (codes "plans") (table_view table))) (λ texts. map (λ v. text_of (view v)) result.items ≡ texts) }
 {
-    let mut net = start(alloc, fields)?;
-    apply_fields(alloc, &mut net, fields)?;
+    match table.remove("plans") {
+        Some(value) => elements_of(alloc, value),
+        None => Vec::new(alloc),
+    }
+}
+
+/// Applies the entries of an array that is given away, up to the first fault. Each value is given back once it is
+/// applied, so that its memory serves what the next ones add.
+fn apply_owned_entries(
+    alloc: Global,
+    net: &mut Net,
+    key: Key,
+    format: Format,
+    values: Vec<Value>,
+) -> Result<(), LoadFault>
+    ensures ok { OnOk result (entries_applied key format 1 net.old (map (λ v. text_of (view v)) values.items) ≡ Ok net.new) }
+    ensures err { IfErr result (λ e. e ≢ LoadFault.OutOfMemory → entries_applied key format 1 net.old (map (λ v. text_of (view v)) values.items) ≡ Err e) }
+{
+    for (i, value) in values.into_iter().enumerate() {
+        let text = text_in(&value).as_bytes();
+        if let Err(fault) = apply_entry(alloc, net, key, format, i + 1, text) {
+            return Err(fault);
+        }
+    }
+    Ok(())
+}
+
+/// What a document says: all keys are read before the first entry. Each plan is given back once it is applied, and the
+/// rest of the document before the first plan.
+fn read_table(alloc: Global, table: Table) -> Result<Net, LoadFault>
+    ensures ok { IfOk result (λ net. network_of (table_view table) ≡ Ok net) }
+    ensures err { IfErr result (λ e. e ≢ LoadFault.OutOfMemory → network_of (table_view table) ≡ Err e) }
+{
+    let fields = read_fields(&table)?;
+    let format = fields.format;
+    let mut net = start(alloc, &fields)?;
+    apply_parts(alloc, &mut net, &fields)?;
+    let plans = take_plans(alloc, table);
+    apply_owned_entries(alloc, &mut net, Key::Plans, format, plans)?;
     Ok(net)
-}
-
-/// What a document says: all keys are read before the first entry.
-fn read_table(alloc: Global, table: &Table) -> Result<Net, LoadFault>
-    ensures ok { IfOk result (λ net. network_of (table_view table.now) ≡ Ok net) }
-    ensures err { IfErr result (λ e. e ≢ LoadFault.OutOfMemory → network_of (table_view table.now) ≡ Err e) }
-{
-    let fields = read_fields(table)?;
-    build(alloc, &fields)
 }
 
 /// The document that a text is.
@@ -144,7 +180,7 @@ pub fn load(alloc: Global, text: &[u8]) -> Result<Net, LoadFault>
     ensures never_read { result ≢ Err LoadFault.Read }
 {
     let table = parse(alloc, text)?;
-    read_table(alloc, &table)
+    read_table(alloc, table)
 }
 
 /// The same of a text that is given away, so that its memory serves the network.
@@ -155,5 +191,5 @@ pub fn load_owned(alloc: Global, text: Vec<u8>) -> Result<Net, LoadFault>
 {
     let table = parse(alloc, text.as_slice())?;
     drop(text);
-    read_table(alloc, &table)
+    read_table(alloc, table)
 }

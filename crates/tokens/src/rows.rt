@@ -180,23 +180,20 @@ fn take_head(text: &[u8]) -> Option<(PointCode, u8, &[u8])>
 }
 
 /// The class of one or two vias that a text begins with, and what comes after it.
-fn take_class(alloc: Global, text: &[u8]) -> Result<Option<(Vias, &[u8])>, AllocError>
-    ensures class { IfOk result (λ o. IfSome o (λ p. IsClass p.0)) }
-    ensures text { IfOk result (λ o. IfSome o (λ p. text.entry.now ≡ vias_text p.0 ++ p.1.now)) }
+fn take_class(text: &[u8]) -> Option<(Vias, &[u8])>
+    ensures class { IfSome result (λ p. IsClass p.0) }
+    ensures text { IfSome result (λ p. text.entry.now ≡ vias_text p.0 ++ p.1.now) }
 {
     let Some((first, rest)) = take_code(text) else {
-        return Ok(None);
+        return None;
     };
-    let mut vias = Vias::new();
-    vias.push(alloc, first)?;
     let Some(more) = take_byte(rest, b'+') else {
-        return Ok(Some((vias, rest)));
+        return Some((Vias::of_one(first), rest));
     };
     let Some((second, rest)) = take_code(more) else {
-        return Ok(None);
+        return None;
     };
-    vias.push(alloc, second)?;
-    Ok(Some((vias, rest)))
+    Some((Vias::of_two(first, second), rest))
 }
 
 /// The one or two classes that a text begins with, and what comes after them.
@@ -204,13 +201,13 @@ fn take_classes(alloc: Global, text: &[u8]) -> Result<Option<(Classes, &[u8])>, 
     ensures classes { IfOk result (λ o. IfSome o (λ p. AllByRecursion IsClass p.0)) }
     ensures text { IfOk result (λ o. IfSome o (λ p. text.entry.now ≡ classes_text p.0 ++ p.1.now)) }
 {
-    let Some((first, rest)) = take_class(alloc, text)? else {
+    let Some((first, rest)) = take_class(text) else {
         return Ok(None);
     };
     let Some(more) = take_byte(rest, b'/') else {
         return Ok(Some((Classes::of_one(alloc, first), rest)));
     };
-    let Some((second, rest)) = take_class(alloc, more)? else {
+    let Some((second, rest)) = take_class(more) else {
         return Ok(None);
     };
     let mut classes = Vec::with_capacity(alloc, 2)?;

@@ -2,16 +2,16 @@
 use Rattle.std.proofs.Common.{◌≡◌, ◌≢◌, ℕ, zero, suc, ◌+◌, ◌<◌, ◌≤◌, List, [], ◌∷◌, Option, Some, None, All, get_or, set, map, cond, eqb, Bool, true, false, refl, sym, ap, ◌∙◌, arith, inl, inr, ◌⊎◌, subst, length, replicate, slice_get, below_more}
 use Rattle.std.proofs.lemmas.List.{get_or-set_other, get_or-set_same, get_or_read, length-set, length-replicate}
 use Rattle.std.proofs.lemmas.List.Elements.{All-weaker}
-use Rattle.std.proofs.lemmas.Bool.{eq-eqb, ne_eqb, cases_eq}
+use Rattle.std.proofs.lemmas.Bool.{eq-eqb, ne_eqb, cases_eq, true≢false}
 use Rattle.route_choice.specs.declared.choices.Far.{Far}
 use Rattle.route_choice.specs.declared.choices.Far.TheVariants.{Allowed, Prohibited}
 use Rattle.net_items.specs.declared.lists.Row.{Row}
 use Rattle.route_choice.specs.Routes.{Offer, offered_in, offered}
-use Rattle.std.specs.Prelude.{find, slice_get}
+use Rattle.std.specs.Prelude.{find, slice_get, slice_index_or}
 use Rattle.std.proofs.lemmas.Option.{same_Some, slice_get_within}
 use Rattle.profile.specs.Status.{Source, source_row, source_rank, choice_by, choice, status}
 use Rattle.transfer_state.specs.Kept.{KeptValue, kept}
-use Rattle.transfer_state.specs.Told.{far_at, KnowsBelow, TellsBelow}
+use Rattle.transfer_state.specs.Told.{far_at, HasRanks, KnowsBelow, TellsBelow}
 use Rattle.profile.specs.Valid.{IsValidSource, IsValidRow, IsSmall}
 use Rattle.link_sets.proofs.ListLemmas.{find_gives}
 use Rattle.profile.proofs.UnfoldingLemmas.{row_valid, rank_is, choice_same, status_is}
@@ -239,3 +239,26 @@ module _ (src : Source) (valid : IsValidSource src) where
     told = told;
     told_here = λ k r low there same_rank. absurd (omega arith);
   }
+
+  -- where no row has a rank, the next one is known
+  pub skipped_below : (choices : List KeptValue) (n : ℕ) → KnowsBelow src choices n → ((i : ℕ) (row : Row) → slice_get src.rows i ≡ Some row → row.rank ≢ n) → KnowsBelow src choices (n + 1)
+  skipped_below choices n below none k r there low =
+      elim (cases_eq r.rank n) [
+        | inl e ↦ absurd (none k r there e)
+        | inr ne ↦ below k r there (omega arith)
+      ]
+
+  -- and told
+  pub skipped_told : (fars : List Far) (n : ℕ) → 1 ≤ n → TellsBelow src fars n → ((i : ℕ) (row : Row) → slice_get src.rows i ≡ Some row → row.rank ≢ n) → TellsBelow src fars (n + 1)
+  skipped_told fars n ranked told none z low = go (source_row src z) refl
+    where
+      go : (o : Option Row) → source_row src z ≡ o → far_at fars z ≡ status src z
+      go None e = let no_rank : source_rank src z ≡ 0 = rw e refl in told z (omega (arith, no_rank, ranked))
+      go (Some row) e =
+          let position = found_place src.rows z row e in
+          let rank : source_rank src z ≡ row.rank = rank_is src valid z row e in
+          told z (omega (arith, low, rank, none position.0 row position.1))
+
+-- a rank that isn't in the table is that of no row
+pub unused_rank : (rows : List Row) (used : List Bool) (n : ℕ) → HasRanks rows used → slice_index_or used n false ≡ false → (i : ℕ) (row : Row) → slice_get rows i ≡ Some row → row.rank ≢ n
+unused_rank rows used n has unused i row there e = true≢false (sym (has i row there) ∙ ap (λ k. slice_index_or used k false) e ∙ unused)

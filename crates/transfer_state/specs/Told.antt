@@ -1,5 +1,5 @@
 -- What is told by what is kept of choices in the rows' places, and by a table of far statuses.
-use Rattle.std.specs.Prelude.{◌≡◌, ◌<◌, ℕ, ◌==◌, List, [], ◌∷◌, Some, length, slice_get, slice_index_or, if◌then◌else◌}
+use Rattle.std.specs.Prelude.{◌≡◌, ◌<◌, ℕ, ◌==◌, Bool, true, false, List, [], ◌∷◌, Some, length, slice_get, slice_index_or, if◌then◌else◌}
 use Rattle.route_choice.specs.declared.choices.Far.{Far}
 use Rattle.route_choice.specs.declared.choices.Far.TheVariants.{Allowed, Prohibited}
 use Rattle.net_items.specs.declared.lists.Row.{Row}
@@ -23,6 +23,10 @@ AreChoices src choices = (i : ℕ) (row : Row) → slice_get src.rows i ≡ Some
 -- the rows of rank below n have their choices in place
 abbrev pub KnowsBelow : Source → List KeptValue → ℕ → Type 0
 KnowsBelow src choices n = (i : ℕ) (row : Row) → slice_get src.rows i ≡ Some row → row.rank < n → slice_get choices i ≡ Some (kept (choice src row))
+
+-- a table of ranks has that of each row
+abbrev pub HasRanks : List Row → List Bool → Type 0
+HasRanks rows used = (i : ℕ) (row : Row) → slice_get rows i ≡ Some row → slice_index_or used row.rank false ≡ true
 
 -- the status of the row of a point by choices in the rows' places, prohibited if it has no row
 abbrev pub far_in : List Row → List KeptValue → ℕ → Far

@@ -1,9 +1,9 @@
 //! The choices of all rows by one sweep over the ranks.
 
-ghost use Rattle.std.specs.Prelude.{◌≡◌, ◌<◌, ◌≤◌, ◌+◌, ℕ, Some, length, slice_get, slice_set, All, map, IfOk};
+ghost use Rattle.std.specs.Prelude.{◌≡◌, ◌<◌, ◌≤◌, ◌+◌, ℕ, Some, true, false, length, slice_get, slice_index_or, slice_set, All, map, IfOk};
 ghost use Rattle.net_items.specs.declared.lists.Row.{Row};
 ghost use Rattle.excerpts.specs.Excerpt.{source_of};
-ghost use Rattle.transfer_state.specs.Told.{AreChoices, KnowsBelow, TellsBelow};
+ghost use Rattle.transfer_state.specs.Told.{AreChoices, HasRanks, KnowsBelow, TellsBelow};
 
 use crate::choosing::{Statuses, kept_choice, rows_of};
 use crate::kept::Kept;
@@ -62,6 +62,44 @@ fn sweep_rank(e: &Excerpt, choices: &mut [Kept], fars: &mut [Far], rank: u16)
     }
 }
 
+/// Notes a rank in a table of all.
+fn note_rank(used: &mut [bool], rank: u8)
+    requires { length used.old ≡ 256 }
+    ensures long { length used.new ≡ 256 }
+    ensures here { slice_index_or used.new rank false ≡ true }
+    ensures kept { (k : ℕ) → slice_index_or used.old k false ≡ true → slice_index_or used.new k false ≡ true }
+{
+    used[usize::from(rank)] = true;
+}
+
+/// Which ranks rows have.
+fn used_ranks(rows: &[Row]) -> [bool; 256]
+    ensures { HasRanks rows.now result }
+{
+    let mut used = [false; 256];
+    for row in rows {
+        note_rank(&mut used, row.rank);
+    }
+    used
+}
+
+/// Sweeps a rank, unless no row has it.
+fn sweep_if_used(e: &Excerpt, choices: &mut [Kept], fars: &mut [Far], used: &[bool; 256], rank: u16)
+    requires together { length choices.old ≡ length e.now.plan.rows }
+    requires coded { length fars.old ≡ 16384 }
+    requires ranked { (1 ≤ rank) × (rank < 256) }
+    requires used { HasRanks e.now.plan.rows used.now }
+    requires below { KnowsBelow (source_of e.now) choices.old rank }
+    requires told { TellsBelow (source_of e.now) fars.old rank }
+    ensures below { KnowsBelow (source_of e.now) choices.new (rank + 1) }
+    ensures told { TellsBelow (source_of e.now) fars.new (rank + 1) }
+{
+    e.validity();
+    if used[usize::from(rank)] {
+        sweep_rank(e, choices, fars, rank);
+    }
+}
+
 /// The highest rank of rows.
 fn highest_rank(rows: &[Row]) -> u8
     ensures { (i : ℕ) (row : Row) → slice_get rows.now i ≡ Some row → row.rank ≤ result }
@@ -85,8 +123,9 @@ pub(crate) fn choices(alloc: Global, e: &Excerpt) -> Result<Vec<Kept>, AllocErro
     let mut choices = vec![in alloc; Kept::of(&Choice::NONE); rows.len()]?;
     let mut fars = [Far::Prohibited; CODE_COUNT];
     tell(&mut fars, e.dest(), Far::Allowed);
+    let used = used_ranks(rows);
     for rank in 1..u16::from(highest_rank(rows)) + 1 {
-        sweep_rank(e, &mut choices, &mut fars, rank);
+        sweep_if_used(e, &mut choices, &mut fars, &used, rank);
     }
     Ok(choices)
 }
