@@ -9,3 +9,4 @@ pub mod TurnedLemmas
 pub mod RenewedLemmas
 pub mod KeepingLemmas
 pub mod LeadLemmas
+pub mod PlaceLemmas

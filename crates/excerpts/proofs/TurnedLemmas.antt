@@ -1,5 +1,6 @@
 -- What a list of ends tells of the availability between two points.
-use Rattle.std.proofs.Common.{◌≡◌, ◌≢◌, ℕ, suc, ◌+◌, ◌<◌, Bool, true, false, ◌&&◌, eqb, Option, Some, None, List, [], ◌∷◌, ◌≤◌, length, get_or, drop, refl, sym, ap, ◌∙◌, arith, inl, inr, ◌⊎◌, slice_get}
+use Rattle.std.proofs.Common.{◌≡◌, ◌≢◌, ℕ, suc, ◌+◌, ◌<◌, Bool, true, false, ◌&&◌, eqb, Option, Some, None, List, [], ◌∷◌, ◌≤◌, length, get_or, drop, refl, sym, ap, ◌∙◌, arith, inl, inr, map, ◌||◌, ◌⊎◌, slice_get}
+use Rattle.std.specs.List.{AllByRecursion}
 use Rattle.std.proofs.lemmas.List.{drop_all, drop_more}
 use Rattle.std.specs.Prelude.{find, is_some}
 use Rattle.std.proofs.lemmas.Bool.{eqb-true, cases_eq}
@@ -9,8 +10,10 @@ use Rattle.net_items.specs.Lookups.{joins, set_between}
 use Rattle.link_sets.specs.Availability.{set_available, connected}
 use Rattle.profile.proofs.CertificateLemmas.{connected_back}
 use Rattle.excerpts.specs.declared.turned.Ends.{Ends}
+use Rattle.excerpts.specs.declared.turned.Pair.{Pair}
+use Rattle.net_items.specs.declared.items.Point.{Point}
 use Rattle.excerpts.specs.Index.{HasSameEnds}
-use Rattle.excerpts.specs.Turned.{has_ends, AreTurned}
+use Rattle.excerpts.specs.Turned.{has_ends, has_pair, told_of, ArePairsTurned, IsTold}
 
 -- what is found has a place, and passes
 pub place_found : {X : Type 0} (p : X → Bool) (xs : List X) (x : X) → find p xs ≡ Some x → (k : ℕ) × (slice_get xs k ≡ Some x) × (p x ≡ true)
@@ -37,15 +40,15 @@ ends_of_joint y z s e = go (eqb s.a y) refl (eqb s.b z) refl
 
 module _ (after before : List LinkSet) where
   -- the sets in the first places have their ends in the list, if an available set joins these in one network alone
-  abbrev pub ArePut : List LinkSet → List Ends → ℕ → Type 0
+  abbrev pub ArePut : List LinkSet → List Pair → ℕ → Type 0
   ArePut sets list i = (k : ℕ) (s : LinkSet) → k < i → slice_get sets k ≡ Some s → connected after s.a s.b ≢ connected before s.a s.b
-      → (has_ends list s.a s.b ≡ true) × (has_ends list s.b s.a ≡ true)
+      → (has_pair list s.a s.b ≡ true) × (has_pair list s.b s.a ≡ true)
 
   -- one more set
-  pub put_more : (sets : List LinkSet) (list longer : List Ends) (i : ℕ) (s : LinkSet) → slice_get sets i ≡ Some s
-      → ((y z : ℕ) → has_ends list y z ≡ true → has_ends longer y z ≡ true)
-      → (connected after s.a s.b ≢ connected before s.a s.b → has_ends longer s.a s.b ≡ true)
-      → (connected after s.a s.b ≢ connected before s.a s.b → has_ends longer s.b s.a ≡ true)
+  pub put_more : (sets : List LinkSet) (list longer : List Pair) (i : ℕ) (s : LinkSet) → slice_get sets i ≡ Some s
+      → ((y z : ℕ) → has_pair list y z ≡ true → has_pair longer y z ≡ true)
+      → (connected after s.a s.b ≢ connected before s.a s.b → has_pair longer s.a s.b ≡ true)
+      → (connected after s.a s.b ≢ connected before s.a s.b → has_pair longer s.b s.a ≡ true)
       → ArePut sets list i → ArePut sets longer (i + 1)
   put_more sets list longer i s at kept there back put k t low is differ =
       elim (cases_eq k i) [
@@ -57,11 +60,11 @@ module _ (after before : List LinkSet) where
       ]
 
   -- all sets
-  pub put_all : (sets : List LinkSet) (list : List Ends) (n : ℕ) → ((k : ℕ) (s : LinkSet) → slice_get sets k ≡ Some s → k < n) → ArePut sets list n
-      → (y z : ℕ) → is_some (set_between sets y z) ≡ true → connected after y z ≢ connected before y z → has_ends list y z ≡ true
+  pub put_all : (sets : List LinkSet) (list : List Pair) (n : ℕ) → ((k : ℕ) (s : LinkSet) → slice_get sets k ≡ Some s → k < n) → ArePut sets list n
+      → (y z : ℕ) → is_some (set_between sets y z) ≡ true → connected after y z ≢ connected before y z → has_pair list y z ≡ true
   put_all sets list n within put y z there differ = go (set_between sets y z) refl
     where
-      go : (o : Option LinkSet) → set_between sets y z ≡ o → has_ends list y z ≡ true
+      go : (o : Option LinkSet) → set_between sets y z ≡ o → has_pair list y z ≡ true
       go None e = let none : false ≡ true = rw e at there in cc
       go (Some s) e =
           let found = place_found (joins y z) sets s e in
@@ -83,39 +86,39 @@ module _ (after before : List LinkSet) where
       go (Some s) some = rw some refl
 
   -- two points that the list lacks are joined in both or in neither
-  pub turned_by : (list : List Ends)
-      → ((y z : ℕ) → is_some (set_between after y z) ≡ true → connected after y z ≢ connected before y z → has_ends list y z ≡ true)
-      → ((y z : ℕ) → is_some (set_between before y z) ≡ true → connected after y z ≢ connected before y z → has_ends list y z ≡ true)
-      → (y z : ℕ) → has_ends list y z ≡ false → connected after y z ≡ connected before y z
+  pub turned_by : (list : List Pair)
+      → ((y z : ℕ) → is_some (set_between after y z) ≡ true → connected after y z ≢ connected before y z → has_pair list y z ≡ true)
+      → ((y z : ℕ) → is_some (set_between before y z) ≡ true → connected after y z ≢ connected before y z → has_pair list y z ≡ true)
+      → (y z : ℕ) → has_pair list y z ≡ false → connected after y z ≡ connected before y z
   turned_by list ours theirs y z lacks = go (connected after y z) refl (connected before y z) refl
     where
       go : (p : Bool) → connected after y z ≡ p → (q : Bool) → connected before y z ≡ q → connected after y z ≡ connected before y z
       go true ep true eq = ep ∙ sym eq
       go false ep false eq = ep ∙ sym eq
       go true ep false eq =
-          let has : has_ends list y z ≡ true = ours y z (no_set after y z ep) (λ e. (let no : true ≡ false = sym ep ∙ e ∙ eq in cc)) in
+          let has : has_pair list y z ≡ true = ours y z (no_set after y z ep) (λ e. (let no : true ≡ false = sym ep ∙ e ∙ eq in cc)) in
           let no : true ≡ false = sym has ∙ lacks in cc
       go false ep true eq =
-          let has : has_ends list y z ≡ true = theirs y z (no_set before y z eq) (λ e. (let no : false ≡ true = sym ep ∙ e ∙ eq in cc)) in
+          let has : has_pair list y z ≡ true = theirs y z (no_set before y z eq) (λ e. (let no : false ≡ true = sym ep ∙ e ∙ eq in cc)) in
           let no : true ≡ false = sym has ∙ lacks in cc
 
 -- ---- sets that join the same points, place by place
 
 module _ (sets others : List LinkSet) where
   -- between points that the list lacks, the sets from a place on tell whether all join alike
-  abbrev pub TellFrom : List Ends → ℕ → Type 0
-  TellFrom list i = (y z : ℕ) → has_ends list y z ≡ false → connected (drop i sets) y z ≡ connected (drop i others) y z → connected sets y z ≡ connected others y z
+  abbrev pub TellFrom : List Pair → ℕ → Type 0
+  TellFrom list i = (y z : ℕ) → has_pair list y z ≡ false → connected (drop i sets) y z ≡ connected (drop i others) y z → connected sets y z ≡ connected others y z
 
   -- one place more
-  pub tell_more : (list longer : List Ends) (i : ℕ) (s t : LinkSet) → i < length sets → s ≡ get_or sets i s → i < length others → t ≡ get_or others i t → HasSameEnds s t
-      → ((y z : ℕ) → has_ends list y z ≡ true → has_ends longer y z ≡ true)
-      → (set_available s ≢ set_available t → has_ends longer s.a s.b ≡ true)
-      → (set_available s ≢ set_available t → has_ends longer s.b s.a ≡ true)
+  pub tell_more : (list longer : List Pair) (i : ℕ) (s t : LinkSet) → i < length sets → s ≡ get_or sets i s → i < length others → t ≡ get_or others i t → HasSameEnds s t
+      → ((y z : ℕ) → has_pair list y z ≡ true → has_pair longer y z ≡ true)
+      → (set_available s ≢ set_available t → has_pair longer s.a s.b ≡ true)
+      → (set_available s ≢ set_available t → has_pair longer s.b s.a ≡ true)
       → TellFrom list i → TellFrom longer (i + 1)
   tell_more list longer i s t within is low other same kept there back tell y z lacks rest =
-      tell y z (shorter (has_ends list y z) refl) (rw (drop_more sets i s within, drop_more others i t low, ← is, ← other) here)
+      tell y z (shorter (has_pair list y z) refl) (rw (drop_more sets i s within, drop_more others i t low, ← is, ← other) here)
     where
-      shorter : (b : Bool) → has_ends list y z ≡ b → has_ends list y z ≡ false
+      shorter : (b : Bool) → has_pair list y z ≡ b → has_pair list y z ≡ false
       shorter false e = e
       shorter true e = let bad : true ≡ false = sym (kept y z e) ∙ lacks in cc
 
@@ -126,7 +129,7 @@ module _ (sets others : List LinkSet) where
       available : joins y z s ≡ true → set_available s ≡ set_available t
       available e = go (set_available s) refl (set_available t) refl
         where
-          has : (set_available s ≢ set_available t) → has_ends longer y z ≡ true
+          has : (set_available s ≢ set_available t) → has_pair longer y z ≡ true
           has differ = elim (ends_of_joint y z s e) [
             | inl w ↦ rw (w.0, w.1) at (there differ)
             | inr w ↦ rw (w.0, w.1) at (back differ)
@@ -146,5 +149,17 @@ module _ (sets others : List LinkSet) where
           go false e = let neither = alike ∙ e in rw (e, neither) rest
 
   -- past the end nothing is left
-  pub tell_all : (list : List Ends) (i : ℕ) → length sets ≤ i → length others ≤ i → TellFrom list i → AreTurned others sets list
+  pub tell_all : (list : List Pair) (i : ℕ) → length sets ≤ i → length others ≤ i → TellFrom list i → ArePairsTurned others sets list
   tell_all list i within low tell y z lacks = tell y z lacks (rw (drop_all i sets within, drop_all i others low) refl)
+
+-- ---- what is told of pairs
+
+-- the ends are those of the pairs
+pub told_ends : (points : List Point) (pairs : List Pair) (y z : ℕ) → has_ends (map (told_of points) pairs) y z ≡ has_pair pairs y z
+told_ends points [] y z = refl
+told_ends points (p ∷ pairs) y z = ap (λ b. (eqb p.point y && eqb p.other z) || b) (told_ends points pairs y z)
+
+-- and what they tell is true
+pub all_told : (points : List Point) (pairs : List Pair) → AllByRecursion (IsTold points) (map (told_of points) pairs)
+all_told points [] = tt
+all_told points (p ∷ pairs) = (record { transfers = refl; mates = refl }, all_told points pairs)

@@ -1,20 +1,45 @@
 -- Between which points an available set is in one of two networks alone (own, after Q.704 clause 3.2).
-use Rattle.std.specs.Prelude.{◌≡◌, ℕ, ◌==◌, ◌&&◌, ◌||◌, Bool, false, List}
-use Rattle.std.specs.List.{list_any}
+use Rattle.std.specs.Prelude.{◌≡◌, ℕ, ◌==◌, ◌&&◌, ◌||◌, Bool, false, List, map}
+use Rattle.std.specs.List.{list_any, AllByRecursion}
+use Rattle.std.specs.Option.{option_map_or}
 use Rattle.net_items.specs.declared.items.LinkSet.{LinkSet}
+use Rattle.net_items.specs.declared.items.Point.{Point}
+use Rattle.net_items.specs.Lookups.{is_stp, mate_of}
 use Rattle.net_data.specs.declared.events.Event.{Event}
 use Rattle.net_data.specs.Kinds.{is_of_links, is_of_sets}
 use Rattle.net_data.specs.Network.{Network}
 use Rattle.link_sets.specs.Availability.{connected}
 use Rattle.excerpts.specs.declared.turned.Ends.{Ends}
+use Rattle.excerpts.specs.declared.turned.Pair.{Pair}
 
 -- the list has the two points, in this order
 abbrev pub has_ends : List Ends → ℕ → ℕ → Bool
 has_ends list y z = list_any (λ (e : Ends). e.point == y && e.other == z) list
 
+-- the same of pairs of points
+abbrev pub has_pair : List Pair → ℕ → ℕ → Bool
+has_pair list y z = list_any (λ (p : Pair). p.point == y && p.other == z) list
+
 -- an available set joins two points in both networks or in neither, unless the list has them
 abbrev pub AreTurned : List LinkSet → List LinkSet → List Ends → Type 0
 AreTurned before after list = (y z : ℕ) → has_ends list y z ≡ false → connected after y z ≡ connected before y z
+
+-- the same of pairs of points
+abbrev pub ArePairsTurned : List LinkSet → List LinkSet → List Pair → Type 0
+ArePairsTurned before after list = (y z : ℕ) → has_pair list y z ≡ false → connected after y z ≡ connected before y z
+
+-- two points are mates
+abbrev pub are_mates : List Point → ℕ → ℕ → Bool
+are_mates points y z = option_map_or (λ m. m == z) (mate_of points y) false
+
+-- the ends that two points are, with what is true of them whatever the destination
+abbrev pub told_of : List Point → Pair → Ends
+told_of points p = record { point = p.point; other = p.other; transfers = is_stp points p.other; mates = are_mates points p.point p.other }
+
+-- what the ends tell of their points is true
+pub record IsTold (points : List Point) (ends : Ends) : Type 0 where
+  pub transfers : ends.transfers ≡ is_stp points ends.other
+  pub mates : ends.mates ≡ are_mates points ends.point ends.other
 
 -- an event that leaves points, plans and the transfer-restricted option
 abbrev pub keeps_plans : Event → Bool
@@ -26,3 +51,4 @@ pub record HasTurned (before after : Network) (list : List Ends) : Type 0 where
   pub plans : after.plans ≡ before.plans
   pub tfr : after.tfr ≡ before.tfr
   pub turned : AreTurned before.sets after.sets list
+  pub told : AllByRecursion (IsTold after.points) list

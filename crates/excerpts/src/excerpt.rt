@@ -1,7 +1,7 @@
 //! The excerpt of one destination.
 
-ghost use Rattle.std.specs.Prelude.{◌≡◌, ◌↔◌, IsTrue, Some, IfErr, IfOk};
-ghost use Rattle.std.specs.Option.{option_copied, option_map};
+ghost use Rattle.std.specs.Prelude.{◌≡◌, ◌↔◌, IsTrue, Some, IfErr, IfOk, is_some};
+ghost use Rattle.std.specs.Option.{option_copied, option_map, IfSome};
 ghost use Rattle.net_items.specs.Keyed.{IsRising, IsFoundAt, IsGapAt};
 ghost use Rattle.net_items.specs.Lookups.{point_at, mate_of as the_mate, is_stp as stp_is, row_at, set_between as between};
 ghost use Rattle.link_sets.specs.Availability.{connected};
@@ -10,7 +10,7 @@ ghost use Rattle.excerpts.specs.Around.{neighbours_left};
 ghost use Rattle.excerpts.specs.Excerpt.{ExcerptValue, content_at, content_in, content_of, excerpt_at, is_read_by, leads as row_leads, IsExcerptAnswer, IsRight};
 
 use crate::faults::ExcerptFault;
-use crate::places::{place_of_row, point_by};
+use crate::places::{place_by_code, place_of_row, point_by};
 use crate::reading::{are_same_reads, are_same_row_points, is_read};
 use crate::{Frozen, Neighbours};
 use net_data::Net;
@@ -137,6 +137,15 @@ impl Excerpt {
         place_of_row(self.net.order(), self.plan.rows.as_slice(), point)
     }
 
+    /// The same, for who reads what stands in that place beside the rows, and not the row: the codes of the rows tell it.
+    pub fn place_by_code(&self, point: PointCode) -> Result<usize, usize>
+        ensures found { IfOk result (IsFoundAt (λ r. r.point) point self.now.plan.rows) }
+        ensures absent { IfErr result (IsGapAt (λ r. r.point) point self.now.plan.rows) }
+    {
+        self.validity();
+        place_by_code(self.net.order(), &self.plan.rows, point)
+    }
+
     /// The row of a point, if it has one.
     pub fn row(&self, point: PointCode) -> Option<&Row>
         ensures { option_copied result ≡ row_at self.now.plan.rows point }
@@ -148,21 +157,35 @@ impl Excerpt {
         }
     }
 
-    /// Whether the row of a point leads to another point. A row leads to the destination and to transfer points alone, so for
-    /// any other point it isn't read.
+    /// Whether the row of a point leads to another point.
     pub fn leads(&self, point: PointCode, other: PointCode) -> bool
         ensures { result ≡ row_leads self.now.plan.rows point other }
     {
+        self.place_leading(point, other, self.is_stp(other))
+            .is_some()
+    }
+
+    /// The place of the row of a point, if it leads to another, of which it is known whether it is a transfer point. A row leads to
+    /// the destination and to transfer points alone, so for any other point it isn't read.
+    pub fn place_leading(
+        &self,
+        point: PointCode,
+        other: PointCode,
+        transfers: bool,
+    ) -> Option<usize>
+        requires { transfers ≡ stp_is self.now.network.points other }
+        ensures place { IfSome result (IsFoundAt (λ r. r.point) point self.now.plan.rows) }
+        ensures leads { is_some result ≡ row_leads self.now.plan.rows point other }
+    {
         self.validity();
         if other != self.dest() {
-            if !self.is_stp(other) {
-                return false;
+            if !transfers {
+                return None;
             }
         }
-        match self.row(point) {
-            Some(row) => is_via(row, other),
-            None => false,
-        }
+        let at = self.place_of_row(point).ok()?;
+        let leads = is_via(&self.plan.rows.as_slice()[at], other);
+        leads.then_some(at)
     }
 
     /// The point of a code.

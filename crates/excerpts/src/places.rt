@@ -1,16 +1,16 @@
 //! Where a point stands in its network, and its row in a plan, looked for first where they are expected.
 //!
 //! Mostly nearly all points of a network have a row in a plan. The rows of a plan that wasn't asked for just before come from memory,
-//! so a binary search among these waits at almost each step.
+//! so a binary search among these waits at almost each step. Their codes stand side by side, for who wants to know the place alone.
 
-ghost use Rattle.std.specs.Prelude.{◌≡◌, IfErr, IfOk};
+ghost use Rattle.std.specs.Prelude.{◌≡◌, IfErr, IfOk, Some, slice_get};
 ghost use Rattle.std.specs.Option.{IfSome};
 ghost use Rattle.net_items.specs.Keyed.{IsRising, IsFoundAt, IsGapAt};
 ghost use Rattle.net_items.specs.Lookups.{point_at};
 
 use net_items::copies::position_of_row;
 use net_items::lookups::find_point;
-use net_items::{Point, Row};
+use net_items::{Point, Row, Rows};
 use point_codes::PointCode;
 use std::alloc::{AllocError, Global};
 use std::sync::Arc;
@@ -96,6 +96,41 @@ fn place_near(rows: &[Row], point: PointCode, expected: usize) -> Option<usize>
         }
     }
     None
+}
+
+/// The place of a code, if it is near a place.
+fn place_near_code(codes: &[PointCode], point: PointCode, expected: usize) -> Option<usize>
+    ensures { IfSome result (λ at. slice_get codes.now at ≡ Some point) }
+{
+    let mut at = expected;
+    for _ in 0..NEAR {
+        if at >= codes.len() {
+            return None;
+        }
+        let code = codes[at];
+        if code == point {
+            return Some(at);
+        }
+        if code < point {
+            at += 1;
+        } else {
+            at = at.checked_sub(1)?;
+        }
+    }
+    None
+}
+
+/// The place of a point's row, or where it would go, by the codes of the rows: if it is where it is expected, no row is read.
+pub fn place_by_code(order: &PointOrder, rows: &Rows, point: PointCode) -> Result<usize, usize>
+    requires { IsRising (λ r. r.point) rows.now }
+    ensures found { IfOk result (IsFoundAt (λ r. r.point) point rows.now) }
+    ensures absent { IfErr result (IsGapAt (λ r. r.point) point rows.now) }
+{
+    let codes = rows.codes();
+    match place_near_code(codes, point, order.expected(codes.len(), point)) {
+        Some(at) => Ok(at),
+        None => position_of_row(rows.as_slice(), point),
+    }
 }
 
 /// The place of a point's row, or where it would go.

@@ -1,55 +1,68 @@
 //! Between which points an available set is in one of two networks alone.
 
-ghost use Rattle.std.specs.Prelude.{◌≡◌, ◌≢◌, ◌↔◌, ℕ, IsTrue, true, IfOk, OnOk, is_some};
+ghost use Rattle.std.specs.Prelude.{◌≡◌, ◌≢◌, ◌↔◌, ℕ, IsTrue, true, IfOk, OnOk, is_some, map};
+ghost use Rattle.net_items.specs.Keyed.{IsRising};
 ghost use Rattle.net_items.specs.Lookups.{set_between};
 ghost use Rattle.link_sets.specs.Availability.{connected, set_available as set_is_available};
 ghost use Rattle.std.specs.List.{list_all};
 ghost use Rattle.std.specs.Option.{IfSome};
 ghost use Rattle.net_data.specs.Edits.{replay};
-ghost use Rattle.excerpts.specs.Turned.{has_ends, keeps_plans, AreTurned, HasTurned};
+ghost use Rattle.excerpts.specs.Turned.{are_mates as mates_of, has_pair, keeps_plans, told_of, ArePairsTurned, HasTurned};
 
 use crate::Frozen;
 use crate::index::has_same_ends;
 use link_sets::set_available;
 use net_data::Event;
-use net_items::LinkSet;
+use net_items::lookups::{is_stp, mate_of};
+use net_items::{LinkSet, Point};
 use point_codes::PointCode;
 use std::alloc::{AllocError, Global};
 
+/// Two points, in this order.
+#[derive(Clone, Copy, Debug, PartialEq, Eq)]
+pub(crate) struct Pair {
+    pub(crate) point: PointCode,
+    pub(crate) other: PointCode,
+}
+
 /// Two points, in this order, the set between which became available, or is available no longer (own, after Q.704 clause
-/// 3.2).
+/// 3.2); and what is true of them whatever the destination.
 #[derive(Clone, Copy, Debug, PartialEq, Eq)]
 pub struct Ends {
     /// The first point.
     pub point: PointCode,
     /// The point at the other end.
     pub other: PointCode,
+    /// Whether that one is a transfer point: if not, a row leads to it only if it is the destination.
+    pub transfers: bool,
+    /// Whether the two are mates.
+    pub mates: bool,
 }
 
 /// Whether a list has two points in this order.
-fn has(list: &[Ends], point: PointCode, other: PointCode) -> bool
-    ensures { result ≡ has_ends list.now point other }
+fn has(list: &[Pair], point: PointCode, other: PointCode) -> bool
+    ensures { result ≡ has_pair list.now point other }
 {
     list.iter()
-        .any(|ends| ends.point == point && ends.other == other)
+        .any(|pair| pair.point == point && pair.other == other)
 }
 
 /// Puts in two points, in this order, unless they are there.
-fn put_ends(list: &mut Vec<Ends>, point: PointCode, other: PointCode) -> Result<(), AllocError>
-    ensures kept { OnOk result ((y z : ℕ) → has_ends list.old.items y z ≡ true → has_ends list.new.items y z ≡ true) }
-    ensures put { OnOk result (has_ends list.new.items point other ≡ true) }
+fn put_ends(list: &mut Vec<Pair>, point: PointCode, other: PointCode) -> Result<(), AllocError>
+    ensures kept { OnOk result ((y z : ℕ) → has_pair list.old.items y z ≡ true → has_pair list.new.items y z ≡ true) }
+    ensures put { OnOk result (has_pair list.new.items point other ≡ true) }
 {
     if !has(list, point, other) {
-        list.push(Ends { point, other })?;
+        list.push(Pair { point, other })?;
     }
     Ok(())
 }
 
 /// Puts in the ends of a set, in both orders.
-fn put_both(list: &mut Vec<Ends>, set: &LinkSet) -> Result<(), AllocError>
-    ensures kept { OnOk result ((y z : ℕ) → has_ends list.old.items y z ≡ true → has_ends list.new.items y z ≡ true) }
-    ensures there { OnOk result (has_ends list.new.items set.now.a set.now.b ≡ true) }
-    ensures back { OnOk result (has_ends list.new.items set.now.b set.now.a ≡ true) }
+fn put_both(list: &mut Vec<Pair>, set: &LinkSet) -> Result<(), AllocError>
+    ensures kept { OnOk result ((y z : ℕ) → has_pair list.old.items y z ≡ true → has_pair list.new.items y z ≡ true) }
+    ensures there { OnOk result (has_pair list.new.items set.now.a set.now.b ≡ true) }
+    ensures back { OnOk result (has_pair list.new.items set.now.b set.now.a ≡ true) }
 {
     put_ends(list, set.a, set.b)?;
     put_ends(list, set.b, set.a)
@@ -57,14 +70,14 @@ fn put_both(list: &mut Vec<Ends>, set: &LinkSet) -> Result<(), AllocError>
 
 /// Puts in the ends of a set, in both orders, if an available set joins them in one of two networks alone.
 fn put_if_turned(
-    list: &mut Vec<Ends>,
+    list: &mut Vec<Pair>,
     set: &LinkSet,
     net: &Frozen,
     before: &Frozen,
 ) -> Result<(), AllocError>
-    ensures kept { OnOk result ((y z : ℕ) → has_ends list.old.items y z ≡ true → has_ends list.new.items y z ≡ true) }
-    ensures there { OnOk result (connected net.now.sets set.now.a set.now.b ≢ connected before.now.sets set.now.a set.now.b → has_ends list.new.items set.now.a set.now.b ≡ true) }
-    ensures back { OnOk result (connected net.now.sets set.now.a set.now.b ≢ connected before.now.sets set.now.a set.now.b → has_ends list.new.items set.now.b set.now.a ≡ true) }
+    ensures kept { OnOk result ((y z : ℕ) → has_pair list.old.items y z ≡ true → has_pair list.new.items y z ≡ true) }
+    ensures there { OnOk result (connected net.now.sets set.now.a set.now.b ≢ connected before.now.sets set.now.a set.now.b → has_pair list.new.items set.now.a set.now.b ≡ true) }
+    ensures back { OnOk result (connected net.now.sets set.now.a set.now.b ≢ connected before.now.sets set.now.a set.now.b → has_pair list.new.items set.now.b set.now.a ≡ true) }
 {
     if net.is_connected(set.a, set.b) != before.is_connected(set.a, set.b) {
         put_both(list, set)?;
@@ -74,13 +87,13 @@ fn put_if_turned(
 
 /// Puts in the ends of each of some sets, in both orders, between which an available set is in one of two networks alone.
 fn put_turned(
-    list: &mut Vec<Ends>,
+    list: &mut Vec<Pair>,
     sets: &[LinkSet],
     net: &Frozen,
     before: &Frozen,
 ) -> Result<(), AllocError>
-    ensures kept { OnOk result ((y z : ℕ) → has_ends list.old.items y z ≡ true → has_ends list.new.items y z ≡ true) }
-    ensures put { OnOk result ((y z : ℕ) → is_some (set_between sets.now y z) ≡ true → connected net.now.sets y z ≢ connected before.now.sets y z → has_ends list.new.items y z ≡ true) }
+    ensures kept { OnOk result ((y z : ℕ) → has_pair list.old.items y z ≡ true → has_pair list.new.items y z ≡ true) }
+    ensures put { OnOk result ((y z : ℕ) → is_some (set_between sets.now y z) ≡ true → connected net.now.sets y z ≢ connected before.now.sets y z → has_pair list.new.items y z ≡ true) }
 {
     for set in sets {
         put_if_turned(list, set, net, before)?;
@@ -109,6 +122,43 @@ fn are_keeping(events: &[Event]) -> bool
     events.iter().all(is_keeping)
 }
 
+/// Whether two points are mates.
+fn are_mates(points: &[Point], point: PointCode, other: PointCode) -> bool
+    requires { IsRising (λ p. p.code) points.now }
+    ensures { result ≡ mates_of points.now point other }
+{
+    match mate_of(points, point) {
+        Some(mate) => mate == other,
+        None => false,
+    }
+}
+
+/// What is true of two points of a network, whatever the destination.
+fn told(net: &Frozen, pair: Pair) -> Ends
+    ensures { result ≡ told_of net.now.points pair }
+{
+    net.validity();
+    let points = net.net().points();
+    let Pair { point, other } = pair;
+    Ends {
+        point,
+        other,
+        transfers: is_stp(points, other),
+        mates: are_mates(points, point, other),
+    }
+}
+
+/// The same of each of some pairs.
+fn all_told(alloc: Global, net: &Frozen, pairs: &[Pair]) -> Result<Vec<Ends>, AllocError>
+    ensures { IfOk result (λ list. list.items ≡ map (told_of net.now.points) pairs.now) }
+{
+    let mut list = Vec::with_capacity(alloc, pairs.len())?;
+    for pair in pairs {
+        list.push(told(net, *pair))?;
+    }
+    Ok(list)
+}
+
 /// The ends of the sets that turned by some events, in both orders, if these leave points, plans and the option as they are, and
 /// few sets turned. It fails only if memory is refused.
 pub(crate) fn turned_by(
@@ -123,18 +173,18 @@ pub(crate) fn turned_by(
     if !are_keeping(events) {
         return Ok(None);
     }
-    let turned = turned_ends(alloc, net, before)?;
+    let turned = turned_pairs(alloc, net, before)?;
     if turned.len() > TURNED_LIMIT {
         return Ok(None);
     }
-    Ok(Some(turned))
+    Ok(Some(all_told(alloc, net, &turned)?))
 }
 
 /// Puts in the ends of a set, in both orders, if it is available and the other one isn't, or the other way round.
-fn put_if_differs(list: &mut Vec<Ends>, set: &LinkSet, other: &LinkSet) -> Result<(), AllocError>
-    ensures kept { OnOk result ((y z : ℕ) → has_ends list.old.items y z ≡ true → has_ends list.new.items y z ≡ true) }
-    ensures there { OnOk result (set_is_available set.now ≢ set_is_available other.now → has_ends list.new.items set.now.a set.now.b ≡ true) }
-    ensures back { OnOk result (set_is_available set.now ≢ set_is_available other.now → has_ends list.new.items set.now.b set.now.a ≡ true) }
+fn put_if_differs(list: &mut Vec<Pair>, set: &LinkSet, other: &LinkSet) -> Result<(), AllocError>
+    ensures kept { OnOk result ((y z : ℕ) → has_pair list.old.items y z ≡ true → has_pair list.new.items y z ≡ true) }
+    ensures there { OnOk result (set_is_available set.now ≢ set_is_available other.now → has_pair list.new.items set.now.a set.now.b ≡ true) }
+    ensures back { OnOk result (set_is_available set.now ≢ set_is_available other.now → has_pair list.new.items set.now.b set.now.a ≡ true) }
 {
     if set_available(set) != set_available(other) {
         put_both(list, set)?;
@@ -147,8 +197,8 @@ fn turned_in_place(
     alloc: Global,
     sets: &[LinkSet],
     others: &[LinkSet],
-) -> Result<Option<Vec<Ends>>, AllocError>
-    ensures { IfOk result (λ o. IfSome o (λ list. AreTurned others.now sets.now list.items)) }
+) -> Result<Option<Vec<Pair>>, AllocError>
+    ensures { IfOk result (λ o. IfSome o (λ list. ArePairsTurned others.now sets.now list.items)) }
 {
     if sets.len() != others.len() {
         return Ok(None);
@@ -166,8 +216,8 @@ fn turned_in_place(
 
 /// Pairs of points, in both orders, and among them all that an available set joins in one of two networks alone. It fails only
 /// if memory is refused.
-fn turned_ends(alloc: Global, net: &Frozen, before: &Frozen) -> Result<Vec<Ends>, AllocError>
-    ensures { IfOk result (λ list. AreTurned before.now.sets net.now.sets list.items) }
+fn turned_pairs(alloc: Global, net: &Frozen, before: &Frozen) -> Result<Vec<Pair>, AllocError>
+    ensures { IfOk result (λ list. ArePairsTurned before.now.sets net.now.sets list.items) }
 {
     if let Some(list) = turned_in_place(alloc, net.net().sets(), before.net().sets())? {
         return Ok(list);

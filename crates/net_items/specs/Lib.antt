@@ -1,3 +1,4 @@
 pub mod Keyed
 pub mod Lookups
 pub mod Vias
+pub mod Classes

@@ -9,10 +9,11 @@
 //! The lists inside these types are small types of their own, which contracts see as lists. Whether they make a
 //! valid network is the subject of the crate `net_data`.
 //!
-//! Stands on `point_codes`, `link_state`, `smallvec`. A change here also changes specs/ (Keyed, Lookups, Vias), proofs/ and
+//! Stands on `point_codes`, `link_state`, `smallvec`. A change here also changes specs/ (Classes, Keyed, Lookups, Vias), proofs/ and
 //! must-fail/.
 #![tactic(auto)]
 
+pub mod classes;
 pub mod copies;
 pub mod equals;
 pub mod items;
@@ -21,7 +22,8 @@ pub mod lists;
 pub mod lookups;
 pub mod vias;
 
+pub use classes::Classes;
 pub use items::{Kind, LinkSet, Plan, Point};
 pub use links::Link;
-pub use lists::{Classes, Links, Row, Rows, Slcs};
+pub use lists::{Links, Row, Rows, Slcs};
 pub use vias::Vias;

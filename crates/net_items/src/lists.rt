@@ -1,10 +1,10 @@
 //! Lists inside plain data, each a small type that a contract sees as a list.
 
-ghost use Rattle.std.specs.Prelude.{◌≡◌, ◌<◌, ◌++◌, ◌∷◌, [], List, ℕ, length, slice_set, OnOk, OnErr, IfOk, IfErr, is_some, true};
+ghost use Rattle.std.specs.Prelude.{◌≡◌, ◌<◌, ◌++◌, ◌∷◌, [], List, ℕ, length, map, slice_set, OnOk, OnErr, IfOk, IfErr, is_some, true};
 ghost use Rattle.net_items.specs.Keyed.{IsRising, IsFoundAt, IsGapAt, at_key, put, without};
 
+use crate::classes::Classes;
 use crate::links::Link;
-use crate::vias::Vias;
 use point_codes::PointCode;
 use smallvec::SmallVec;
 use std::alloc::{AllocError, Global};
@@ -112,45 +112,6 @@ impl Links {
     }
 }
 
-/// The classes of a row, the first first. One of them needs no memory.
-#[derive(Debug, Drop)]
-pub struct Classes {
-    list: SmallVec<Vias, 1>,
-}
-
-impl Model for Classes {
-    ghost Value = { List (List ℕ) };
-
-    ghost view = { λ l. l.list.items };
-}
-
-impl Classes {
-    /// These classes.
-    pub fn from_vec(list: Vec<Vias>) -> Classes
-        ensures { result ≡ list.items }
-    {
-        Classes {
-            list: SmallVec::from_vec(list),
-        }
-    }
-
-    /// One class.
-    pub fn of_one(alloc: Global, vias: Vias) -> Classes
-        ensures { result ≡ vias ∷ [] }
-    {
-        Classes {
-            list: SmallVec::from_buf(alloc, [vias]),
-        }
-    }
-
-    /// The classes as a slice.
-    pub fn as_slice(&self) -> &[Vias]
-        ensures { result.now ≡ self.now }
-    {
-        self.list.as_slice()
-    }
-}
-
 /// What a plan says of one point.
 #[derive(Debug, Drop)]
 pub struct Row {
@@ -168,30 +129,42 @@ pub struct Row {
 #[derive(Debug, Drop)]
 pub struct Rows {
     list: Vec<Row>,
+    /// The codes of their points, side by side: a search among these reads no row.
+    codes: Vec<PointCode>,
 }
 
 impl Model for Rows {
-    ghost use Rattle.std.specs.Prelude.{List};
+    ghost use Rattle.std.specs.Prelude.{◌≡◌, List, map};
     ghost use Rattle.net_items.specs.declared.lists.Row.{Row};
 
     ghost Value = { List Row };
 
     ghost view = { λ l. l.list.items };
+
+    ghost invariant = { λ l. l.codes.items ≡ map (λ (r : Row). r.point) l.list.items };
+}
+
+/// The codes of the points of rows, in their places.
+fn codes_of(alloc: Global, rows: &[Row]) -> Result<Vec<PointCode>, AllocError>
+    ensures { IfOk result (λ codes. codes.items ≡ map (λ r. r.point) rows.now) }
+{
+    rows.iter().map(|row| row.point).collect(alloc)
 }
 
 impl Rows {
     /// These rows.
-    pub fn from_vec(list: Vec<Row>) -> Rows
-        ensures { result ≡ list.items }
+    pub fn from_vec(alloc: Global, list: Vec<Row>) -> Result<Rows, AllocError>
+        ensures { IfOk result (λ rows. rows ≡ list.items) }
     {
-        Rows { list }
+        let codes = codes_of(alloc, &list)?;
+        Ok(Rows { list, codes })
     }
 
     /// The rows in a vector.
     pub fn into_vec(self) -> Vec<Row>
         ensures { result.items ≡ self }
     {
-        let Rows { list } = self;
+        let Rows { list, .. } = self;
         list
     }
 
@@ -200,6 +173,13 @@ impl Rows {
         ensures { result.now ≡ self.now }
     {
         self.list.as_slice()
+    }
+
+    /// The codes of the points of the rows, in their places.
+    pub fn codes(&self) -> &[PointCode]
+        ensures { result.now ≡ map (λ r. r.point) self.now }
+    {
+        self.codes.as_slice()
     }
 }
 

@@ -4,16 +4,15 @@ ghost use Rattle.std.specs.Prelude.{◌≡◌, ◌++◌, ◌∷◌, map, IfOk, O
 ghost use Rattle.std.specs.List.{flat_map};
 ghost use Rattle.point_codes.specs.Codes.{code_text};
 ghost use Rattle.tokens.specs.Kinds.{kind_text};
-ghost use Rattle.tokens.specs.Marked.{marks_text, marked_text};
+ghost use Rattle.tokens.specs.Marked.{marked_text};
 ghost use Rattle.tokens.specs.declared.marked.Format.TheVariants.{Two};
 ghost use Rattle.tokens.specs.Rows.{row_text, vias_text, classes_text};
-ghost use Rattle.tokens.specs.Words.{word_if};
 ghost use Rattle.net_saving.specs.Writing.{point_text, pair_text, set_text, plan_text};
 
-use link_state::Marks;
 use net_items::{Kind, Link, LinkSet, Plan, Point, Row, Vias};
 use point_codes::PointCode;
 use std::alloc::{AllocError, Global};
+use tokens::{put_if, write_marked};
 
 /// A kind in text.
 fn kind_word(kind: Kind) -> &'static str
@@ -23,37 +22,6 @@ fn kind_word(kind: Kind) -> &'static str
         Kind::Sep => "sep",
         Kind::Stp => "stp",
     }
-}
-
-/// Adds a word if it is wanted.
-fn put_if(text: &mut String, wanted: bool, word: &str) -> Result<(), AllocError>
-    ensures { OnOk result (string_bytes text.new ≡ string_bytes text.old ++ word_if wanted word.now) }
-{
-    if wanted {
-        text.push_str(word)?;
-    }
-    Ok(())
-}
-
-/// Adds the marks of a link.
-fn put_marks(text: &mut String, marks: Marks) -> Result<(), AllocError>
-    ensures { OnOk result (string_bytes text.new ≡ string_bytes text.old ++ marks_text Two marks) }
-{
-    put_if(text, marks.failed, "f")?;
-    put_if(text, marks.blocked_a, "ba")?;
-    put_if(text, marks.blocked_b, "bb")?;
-    put_if(text, marks.inhibited_a, "ia")?;
-    put_if(text, marks.inhibited_b, "ib")
-}
-
-/// A link with its marks in text.
-fn write_marked(alloc: Global, link: &Link) -> Result<String, AllocError>
-    ensures { IfOk result (λ text. string_bytes text ≡ marked_text Two link.now) }
-{
-    let slc = link.slc;
-    let mut text = format!(in alloc; "{slc}")?;
-    put_marks(&mut text, link.marks)?;
-    Ok(text)
 }
 
 /// Adds vias, each after a `+`.

@@ -25,7 +25,7 @@ fn row_of(
     Ok(Row {
         point,
         rank: 2,
-        classes: Classes::from_vec(vec![in alloc; first, second]?),
+        classes: Classes::of_two(alloc, first, second)?,
         mate: true,
     })
 }

@@ -73,7 +73,7 @@ fn new_plan(alloc: Global) -> Result<Plan, Fail> {
     ] {
         rows.push(row_of(alloc, text)?)?;
     }
-    let rows = Rows::from_vec(rows);
+    let rows = Rows::from_vec(alloc, rows)?;
     Ok(Plan { dest, rows })
 }
 
@@ -89,7 +89,7 @@ fn a_copy_of_a_plan_is_equal(rt: HostRuntime) -> Result<(), Fail> {
 fn copies_of_rows_are_equal(rt: HostRuntime) -> Result<(), Fail> {
     let plan = new_plan(rt.alloc())?;
     let dest = plan.dest;
-    let rows = Rows::from_vec(copy_rows(rt.alloc(), plan.rows.as_slice())?);
+    let rows = Rows::from_vec(rt.alloc(), copy_rows(rt.alloc(), plan.rows.as_slice())?)?;
     assert!(rt; is_same_plan(&Plan { dest, rows }, &plan));
     Ok(())
 }
@@ -100,7 +100,7 @@ fn copies_of(alloc: Global, rows: &[Row]) -> Result<Rows, AllocError> {
     for row in rows {
         copies.push(copy_row(alloc, row)?)?;
     }
-    Ok(Rows::from_vec(copies))
+    Rows::from_vec(alloc, copies)
 }
 
 #[test]
@@ -113,11 +113,11 @@ fn a_copy_of_a_row_is_equal(rt: HostRuntime) -> Result<(), Fail> {
 }
 
 /// A row without routes.
-fn row(alloc: Global, point: PointCode, rank: u8) -> Row {
+fn row(point: PointCode, rank: u8) -> Row {
     Row {
         point,
         rank,
-        classes: Classes::from_vec(Vec::new(alloc)),
+        classes: Classes::new(),
         mate: false,
     }
 }
@@ -129,8 +129,8 @@ fn put_both(
     two: (PointCode, u8),
 ) -> Result<Vec<Row>, AllocError> {
     let mut rows = Vec::new(alloc);
-    put_row(&mut rows, row(alloc, one.0, one.1))?;
-    put_row(&mut rows, row(alloc, two.0, two.1))?;
+    put_row(&mut rows, row(one.0, one.1))?;
+    put_row(&mut rows, row(two.0, two.1))?;
     Ok(rows)
 }
 

@@ -34,5 +34,5 @@ pub fn read_rows(alloc: Global, words: &[&[u8]]) -> Result<Option<Rows>, AllocEr
             None => return Ok(None),
         }
     }
-    Ok(Some(Rows::from_vec(rows)))
+    Ok(Some(Rows::from_vec(alloc, rows)?))
 }

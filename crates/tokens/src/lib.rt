@@ -22,7 +22,7 @@ pub mod words;
 
 pub use kinds::read_kind;
 pub use laws::{id_law, kind_law, marked_law, rank_law, row_law, slc_law, words_law};
-pub use marked::{Format, read_marked};
+pub use marked::{Format, read_marked, write_marked};
 pub use numbers::{read_code, read_id, read_rank, read_slc};
 pub use rows::read_row;
-pub use words::split_words;
+pub use words::{put_if, split_words};

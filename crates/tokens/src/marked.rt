@@ -1,13 +1,16 @@
 //! MARKED: a link with its marks, in the two formats of a network text.
 
-ghost use Rattle.std.specs.Prelude.{◌≡◌, ◌<◌, ◌≤◌, not, length, drop, if◌then◌else◌, Some, IfSome, position};
+ghost use Rattle.std.specs.Prelude.{◌≡◌, ◌<◌, ◌≤◌, ◌++◌, not, length, drop, if◌then◌else◌, Some, IfOk, IfSome, OnOk, position, string_bytes};
 ghost use Rattle.std.specs.Char.{is_ascii_digit};
 ghost use Rattle.net_items.specs.declared.links.Link.{Link};
-ghost use Rattle.tokens.specs.Marked.{starts_with, marks_in_one, marks_in_two, digits_len, marked_of};
+ghost use Rattle.tokens.specs.Marked.{starts_with, marks_in_one, marks_in_two, digits_len, marked_of, marks_text, marked_text};
+ghost use Rattle.tokens.specs.declared.marked.Format.TheVariants.{Two};
 
 use crate::numbers::read_slc;
+use crate::words::put_if;
 use link_state::Marks;
 use net_items::Link;
+use std::alloc::{AllocError, Global};
 
 /// The format of a network text.
 #[derive(Clone, Copy, Debug, PartialEq, Eq)]
@@ -101,4 +104,25 @@ pub fn read_marked(format: Format, text: &[u8]) -> Option<Link>
         Format::Two => read_marks_two(&text[n..])?,
     };
     Some(Link { slc, marks })
+}
+
+/// Adds marks as format 2 writes them.
+fn put_marks(text: &mut String, marks: Marks) -> Result<(), AllocError>
+    ensures { OnOk result (string_bytes text.new ≡ string_bytes text.old ++ marks_text Two marks) }
+{
+    put_if(text, marks.failed, "f")?;
+    put_if(text, marks.blocked_a, "ba")?;
+    put_if(text, marks.blocked_b, "bb")?;
+    put_if(text, marks.inhibited_a, "ia")?;
+    put_if(text, marks.inhibited_b, "ib")
+}
+
+/// A link with its marks in text, as format 2 writes it.
+pub fn write_marked(alloc: Global, link: &Link) -> Result<String, AllocError>
+    ensures { IfOk result (λ text. string_bytes text ≡ marked_text Two link.now) }
+{
+    let slc = link.slc;
+    let mut text = format!(in alloc; "{slc}")?;
+    put_marks(&mut text, link.marks)?;
+    Ok(text)
 }

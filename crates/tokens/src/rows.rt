@@ -41,7 +41,7 @@ fn read_class(alloc: Global, text: &[u8]) -> Result<Option<Classes>, AllocError>
     ensures { IfOk result (λ classes. classes ≡ pieces_of 47 vias_of text.now) }
 {
     match read_vias(alloc, text)? {
-        Some(vias) => Ok(Some(Classes::of_one(alloc, vias))),
+        Some(vias) => Ok(Some(Classes::of_one(vias))),
         None => Ok(None),
     }
 }
@@ -88,7 +88,7 @@ fn read_joined_classes(alloc: Global, text: &[u8]) -> Result<Option<Classes>, Al
     if !added {
         return Ok(None);
     }
-    Ok(Some(Classes::from_vec(classes)))
+    Ok(Some(Classes::from_vec(alloc, classes)?))
 }
 
 /// The classes of a row: none, or joined by `/`.
@@ -96,7 +96,7 @@ fn read_classes(alloc: Global, text: &[u8]) -> Result<Option<Classes>, AllocErro
     ensures { IfOk result (λ classes. classes ≡ classes_of text.now) }
 {
     if text.is_empty() {
-        return Ok(Some(Classes::from_vec(Vec::new(alloc))));
+        return Ok(Some(Classes::new()));
     }
     // Most rows have one class.
     match split_at_byte(text, b'/') {
@@ -205,15 +205,12 @@ fn take_classes(alloc: Global, text: &[u8]) -> Result<Option<(Classes, &[u8])>, 
         return Ok(None);
     };
     let Some(more) = take_byte(rest, b'/') else {
-        return Ok(Some((Classes::of_one(alloc, first), rest)));
+        return Ok(Some((Classes::of_one(first), rest)));
     };
     let Some((second, rest)) = take_class(more) else {
         return Ok(None);
     };
-    let mut classes = Vec::with_capacity(alloc, 2)?;
-    classes.push(first)?;
-    classes.push(second)?;
-    Ok(Some((Classes::from_vec(classes), rest)))
+    Ok(Some((Classes::of_two(alloc, first, second)?, rest)))
 }
 
 /// Whether what comes after the classes of a row is the mate flag. `None` if it is neither that nor nothing.

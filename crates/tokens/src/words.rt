@@ -1,7 +1,7 @@
-//! Words between spaces.
+//! Words between spaces, and words that are written if they are wanted.
 
-ghost use Rattle.std.specs.Prelude.{◌≡◌, map, IfOk};
-ghost use Rattle.tokens.specs.Words.{words_of};
+ghost use Rattle.std.specs.Prelude.{◌≡◌, ◌++◌, map, IfOk, OnOk, string_bytes};
+ghost use Rattle.tokens.specs.Words.{word_if, words_of};
 
 use point_codes::split_at_byte;
 use smallvec::SmallVec;
@@ -26,4 +26,14 @@ pub fn split_words<'a>(alloc: Global, text: &'a [u8]) -> Result<SmallVec<&'a [u8
     }
     words.push(rest)?;
     Ok(words)
+}
+
+/// Adds a word if it is wanted.
+pub fn put_if(text: &mut String, wanted: bool, word: &str) -> Result<(), AllocError>
+    ensures { OnOk result (string_bytes text.new ≡ string_bytes text.old ++ word_if wanted word.now) }
+{
+    if wanted {
+        text.push_str(word)?;
+    }
+    Ok(())
 }

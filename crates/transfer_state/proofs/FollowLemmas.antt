@@ -38,7 +38,7 @@ use Rattle.transfer_state.proofs.SweepLemmas.{at_index, found_place, slice_get-s
 -- ---- the status that choices tell
 
 -- what holds of all holds of the one in a place
-all_in_place : {X : Type 0} (P : X → Type 0) (xs : List X) (k : ℕ) (x : X) → AllByRecursion P xs → slice_get xs k ≡ Some x → P x
+pub all_in_place : {X : Type 0} (P : X → Type 0) (xs : List X) (k : ℕ) (x : X) → AllByRecursion P xs → slice_get xs k ≡ Some x → P x
 all_in_place P xs k x all at = subst P (get_or_from_slice_get xs k x x at) (at_index P xs k x all (slice_get_within xs k x at))
 
 -- a row's status is that of the choice in its place
@@ -110,7 +110,7 @@ module _ (src : Source) (valid : IsValidSource src) (rise : IsRising (λ (r : Ro
 
   -- ---- what the choice of a row rests on
 
-  offers_agree : (f g : ℕ → Far) (row : Row) → ((z : ℕ) → is_via row z ≡ true → connected src.sets row.point z ≡ true → f z ≡ g z) → offers src f row ≡ offers src g row
+  pub offers_agree : (f g : ℕ → Far) (row : Row) → ((z : ℕ) → is_via row z ≡ true → connected src.sets row.point z ≡ true → f z ≡ g z) → offers src f row ≡ offers src g row
   offers_agree f g row same =
       map_same (map (offer src f row.point)) (map (offer src g row.point)) row.classes
       (All-weaker (All (λ z. offer src f row.point z ≡ offer src g row.point z)) (λ vias. map (offer src f row.point) vias ≡ map (offer src g row.point) vias)

@@ -38,7 +38,7 @@ pub(crate) fn is_same_status(one: Far, other: Far) -> bool
 }
 
 /// The far status of a point by the choices of the rows.
-fn far_by_choices(e: &Excerpt, choices: &[Kept], code: PointCode) -> Far
+pub(crate) fn far_by_choices(e: &Excerpt, choices: &[Kept], code: PointCode) -> Far
     requires { length choices.now ≡ length e.now.plan.rows }
     ensures { result ≡ far_from (source_of e.now) choices.now code }
 {
@@ -46,7 +46,7 @@ fn far_by_choices(e: &Excerpt, choices: &[Kept], code: PointCode) -> Far
     if code == e.dest() {
         return Far::Allowed;
     }
-    match e.place_of_row(code) {
+    match e.place_by_code(code) {
         Ok(at) => choices[at].status(),
         Err(_) => Far::Prohibited,
     }

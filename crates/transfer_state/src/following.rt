@@ -7,8 +7,10 @@ ghost use Rattle.std.specs.Prelude.{◌≡◌, ◌≢◌, ◌<◌, ℕ, ◌∷�
 ghost use Rattle.std.specs.Arc.{arc_value};
 ghost use Rattle.std.specs.Option.{IfSome};
 ghost use Rattle.excerpts.specs.Excerpt.{source_of};
-ghost use Rattle.std.specs.List.{list_any};
-ghost use Rattle.excerpts.specs.Turned.{has_ends, HasTurned};
+ghost use Rattle.net_items.specs.Keyed.{IsFoundAt};
+ghost use Rattle.net_items.specs.Lookups.{mate_of};
+ghost use Rattle.std.specs.List.{list_any, AllByRecursion};
+ghost use Rattle.excerpts.specs.Turned.{has_ends, HasTurned, IsTold};
 ghost use Rattle.excerpts.specs.declared.turned.Ends.{Ends};
 ghost use Rattle.transfer_state.specs.Following.{is_marked, rests_on, AreMarks, HasMark, HasMarks, HasMarksOf, HasReaders, IsWithoutMark, KeepsMarks, ObeysBut};
 ghost use Rattle.transfer_state.specs.Routing.{IsChosen};
@@ -36,6 +38,25 @@ fn mark_place(marks: &mut Vec<usize>, position: usize) -> Result<(), AllocError>
     Ok(())
 }
 
+/// Marks the row of a point, which is found in a place.
+fn mark_found(
+    e: &Excerpt,
+    marks: &mut Vec<usize>,
+    point: PointCode,
+    at: usize,
+) -> Result<(), AllocError>
+    requires found { IsFoundAt (λ r. r.point) point e.now.plan.rows at }
+    requires marks { AreMarks e.now marks.old.items }
+    ensures within { OnOk result (AreMarks e.now marks.new.items) }
+    ensures kept { OnOk result (KeepsMarks marks.old.items marks.new.items) }
+    ensures marked { OnOk result (HasMark e.now marks.new.items point) }
+{
+    e.validity();
+    // The proof speaks of the row's point.
+    let _ = point;
+    mark_place(marks, at)
+}
+
 /// Marks the row of a point, if it has one.
 fn mark_row(e: &Excerpt, marks: &mut Vec<usize>, point: PointCode) -> Result<(), AllocError>
     requires { AreMarks e.now marks.old.items }
@@ -45,8 +66,21 @@ fn mark_row(e: &Excerpt, marks: &mut Vec<usize>, point: PointCode) -> Result<(),
 {
     e.validity();
     match e.place_of_row(point) {
-        Ok(at) => mark_place(marks, at),
+        Ok(at) => mark_found(e, marks, point, at),
         Err(_) => Ok(()),
+    }
+}
+
+/// Marks the row of a point's mate, if it has one.
+fn mark_mate(e: &Excerpt, marks: &mut Vec<usize>, point: PointCode) -> Result<(), AllocError>
+    requires { AreMarks e.now marks.old.items }
+    ensures within { OnOk result (AreMarks e.now marks.new.items) }
+    ensures kept { OnOk result (KeepsMarks marks.old.items marks.new.items) }
+    ensures marked { OnOk result ((m : ℕ) → mate_of e.now.network.points point ≡ Some m → HasMark e.now marks.new.items m) }
+{
+    match e.mate_of(point) {
+        Some(mate) => mark_row(e, marks, mate),
+        None => Ok(()),
     }
 }
 
@@ -58,10 +92,7 @@ fn mark_with_mate(e: &Excerpt, marks: &mut Vec<usize>, point: PointCode) -> Resu
     ensures marked { OnOk result (HasMarks e.now marks.new.items point) }
 {
     mark_row(e, marks, point)?;
-    match e.mate_of(point) {
-        Some(mate) => mark_row(e, marks, mate),
-        None => Ok(()),
-    }
+    mark_mate(e, marks, point)
 }
 
 /// Whether the row of a point rests on what another point offers to it, or may: it leads there, or that is its mate.
@@ -102,14 +133,33 @@ fn mark_end(
     Ok(())
 }
 
+/// Marks those that rest on a set that turned.
+fn mark_ends(e: &Excerpt, marks: &mut Vec<usize>, ends: &Ends) -> Result<(), AllocError>
+    requires marks { AreMarks e.now marks.old.items }
+    requires told { IsTold e.now.network.points ends.now }
+    ensures within { OnOk result (AreMarks e.now marks.new.items) }
+    ensures kept { OnOk result (KeepsMarks marks.old.items marks.new.items) }
+    ensures marked { OnOk result (HasMarksOf e.now marks.new.items ends.now.point ends.now.other) }
+{
+    match e.place_leading(ends.point, ends.other, ends.transfers) {
+        Some(at) => {
+            mark_found(e, marks, ends.point, at)?;
+            mark_mate(e, marks, ends.point)
+        }
+        None if ends.mates => mark_with_mate(e, marks, ends.point),
+        None => Ok(()),
+    }
+}
+
 /// Marks the rows that rest on a set between the two points of any of these pairs.
 fn mark_turned(e: &Excerpt, marks: &mut Vec<usize>, turned: &[Ends]) -> Result<(), AllocError>
-    requires { AreMarks e.now marks.old.items }
+    requires marks { AreMarks e.now marks.old.items }
+    requires told { AllByRecursion (IsTold e.now.network.points) turned.now }
     ensures within { OnOk result (AreMarks e.now marks.new.items) }
     ensures marked { OnOk result ((y z : ℕ) → has_ends turned.now y z ≡ true → HasMarksOf e.now marks.new.items y z) }
 {
     for ends in turned {
-        mark_end(e, marks, ends.point, ends.other)?;
+        mark_ends(e, marks, ends)?;
     }
     Ok(())
 }
@@ -134,29 +184,35 @@ fn rank_at(rows: &[Row], position: usize) -> u8
     rows[position].rank
 }
 
-/// The place among the marks of one whose row has the least rank.
-fn least(rows: &[Row], marks: &[usize]) -> Option<usize>
+/// The place among the marks of one whose row has the least rank. If none is expected below a rank, the first of that rank is one.
+fn least(rows: &[Row], marks: &[usize], expected: u8) -> Option<usize>
     requires { (k : ℕ) → is_marked marks.now k ≡ true → k < length rows.now }
     ensures some { IfSome result (λ at. at < length marks.now) }
     ensures none { IfNone result (marks.now ≡ []) }
 {
     let mut least = 0;
+    let mut lowest = u8::MAX;
     for at in 0..marks.len() {
-        if rank_at(rows, marks[at]) < rank_at(rows, marks[least]) {
+        let rank = rank_at(rows, marks[at]);
+        if rank <= expected {
+            return Some(at);
+        }
+        if rank < lowest {
             least = at;
+            lowest = rank;
         }
     }
     if marks.is_empty() { None } else { Some(least) }
 }
 
 /// Takes out the mark of a row of the least rank, if there is one: the rows that rest on it are of higher rank, so each row is
-/// mostly chosen once.
-fn take_least(rows: &[Row], marks: &mut Vec<usize>) -> Option<usize>
+/// mostly chosen once, and no mark is expected below the rank of the row before.
+fn take_least(rows: &[Row], marks: &mut Vec<usize>, expected: u8) -> Option<usize>
     requires { (k : ℕ) → is_marked marks.old.items k ≡ true → k < length rows.now }
     ensures some { IfSome result (IsWithoutMark marks.old.items marks.new.items) }
     ensures none { IfNone result (marks.old.items ≡ []) }
 {
-    let at = least(rows, marks)?;
+    let at = least(rows, marks, expected)?;
     Some(marks.swap_remove(at))
 }
 
@@ -209,10 +265,12 @@ fn followed(
     e.validity();
     let mut marks = marks;
     let mut choices = Vec::from_slice(alloc, before)?;
+    let mut rank = 0;
     for _ in 0..FOLLOW_LIMIT {
-        let Some(position) = take_least(rows_of(e), &mut marks) else {
+        let Some(position) = take_least(rows_of(e), &mut marks, rank) else {
             return Ok(Some(choices));
         };
+        rank = rank_at(rows_of(e), position);
         choose_anew(e, &mut choices, &mut marks, position)?;
     }
     Ok(None)
@@ -233,7 +291,7 @@ pub(crate) fn choices_after(
 {
     e.validity();
     before.validity();
-    let mut marks = Vec::new(alloc);
+    let mut marks = Vec::with_capacity(alloc, turned.len())?;
     mark_turned(e, &mut marks, turned)?;
     if marks.is_empty() {
         return Ok(Some(Arc::try_clone(choices)?));

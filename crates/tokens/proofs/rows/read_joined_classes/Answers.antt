@@ -22,4 +22,4 @@ returns-then-not-added-2 c =
 pub returns : goal.returns
 returns c =
     let last = map_Some _ _ c.add_class-2.new.classes.items (c.in_ok-added-2.ensures.added (ap Ok c.if-not-added-2.false)) in
-    ap Some (c.from_vec.ensures ∙ sym last.2) ∙ read_last 47 vias_of c.loop-first.classes.items last.0 c.loop-first.rest.now _ (sym c.in_default.ensures) last.1 c.loop-first.invariant
+    ap Some (c.in_ok-from_vec.ensures ∙ sym last.2) ∙ read_last 47 vias_of c.loop-first.classes.items last.0 c.loop-first.rest.now _ (sym c.in_default.ensures) last.1 c.loop-first.invariant

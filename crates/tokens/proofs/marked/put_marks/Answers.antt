@@ -1,6 +1,6 @@
 use Rattle.std.proofs.lemmas.Grind.{common_steps}
 use Rattle.std.proofs.Common.{arith}
-use Rattle.net_saving.proofs.writing.put_marks.Goals as goal
+use Rattle.tokens.proofs.marked.put_marks.Goals as goal
 
 pub returns : goal.returns
 returns c = grind (arith, common_steps)

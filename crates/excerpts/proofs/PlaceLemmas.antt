@@ -1,0 +1,17 @@
+-- A row whose code stands in a place stands there.
+use Rattle.std.proofs.Common.{◌≡◌, ◌<◌, ℕ, zero, suc, List, [], ◌∷◌, Some, map, get_or, length, slice_get, arith}
+use Rattle.std.proofs.lemmas.List.{length-map}
+use Rattle.std.proofs.lemmas.Option.{same_Some, slice_get_within}
+use Rattle.net_items.specs.declared.lists.Row.{Row}
+use Rattle.net_items.specs.Keyed.{IsRising, IsFoundAt}
+use Rattle.net_items.proofs.KeyedLemmas.{found_here}
+
+at_code : (rows : List Row) (i k : ℕ) → slice_get (map (λ (r : Row). r.point) rows) i ≡ Some k → (d : Row) → (get_or rows i d).point ≡ k
+at_code [] i k e d = cc
+at_code (r ∷ rs) zero k e d = same_Some r.point k e
+at_code (r ∷ rs) (suc i) k e d = at_code rs i k e d
+
+pub found_by_code : (rows : List Row) (i k : ℕ) → IsRising (λ (r : Row). r.point) rows → slice_get (map (λ (r : Row). r.point) rows) i ≡ Some k → IsFoundAt (λ (r : Row). r.point) k rows i
+found_by_code rows i k up e =
+    let within : i < length rows = rw (← length-map rows (λ (r : Row). r.point)) (slice_get_within (map (λ (r : Row). r.point) rows) i k e) in
+    found_here (λ (r : Row). r.point) k rows i up within (at_code rows i k e)
