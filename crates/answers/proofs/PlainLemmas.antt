@@ -1,5 +1,5 @@
 -- Answers have no line feed before their end.
-use Rattle.std.proofs.Common.{◌≡◌, ℕ, ◌+◌, ◌/◌, ◌%◌, ◌^◌, ◌<◌, ◌==◌, true, cond, List, [], ◌∷◌, ◌++◌, Option, Some, None, Result, Ok, Err, IfOk, ap, refl, ◌∙◌, arith, codes}
+use Rattle.std.proofs.Common.{◌≡◌, ℕ, ◌+◌, ◌/◌, ◌%◌, ◌^◌, ◌<◌, ◌==◌, true, cond, List, [], ◌∷◌, ◌++◌, Option, Some, None, Result, Ok, Err, IfOk, ap, refl, ◌∙◌, arith, codes, Bool, false}
 use Rattle.std.proofs.lemmas.Bool.{and_parts}
 use Rattle.std.proofs.lemmas.Bool.Decides.{nat_tests}
 use Rattle.std.proofs.lemmas.List.Sums.{sum_by-append}
@@ -31,6 +31,12 @@ use Rattle.answers.specs.Traces.{hop_text}
 use Rattle.answers.specs.WhatIfs.{change_text, status_word}
 use Rattle.answers.specs.Links.{link_text}
 use Rattle.answers.specs.Messages.{message_kind_text, message_text, octet_text}
+use Rattle.answers.specs.Why.{far_reason, marked_word}
+use Rattle.link_state.specs.declared.marks.Marks.{Marks}
+use Rattle.net_items.specs.declared.links.Link.{Link}
+use Rattle.tokens.specs.Marked.{marks_text, marked_text}
+use Rattle.tokens.specs.Words.{word_if}
+use Rattle.tokens.specs.declared.marked.Format.TheVariants.{Two}
 
 pub line_count-append : (a b : List ℕ) → line_count (a ++ b) ≡ line_count a + line_count b
 line_count-append a b = sum_by-append (λ x. cond (x == 10) 1 0) a b
@@ -194,3 +200,27 @@ plain_audit count small = plain_both (codes "audit ok ") (decimal count) refl (p
 pub plain_made : {T E : Type 0} (bytes_of : T → List ℕ) (bytes : List ℕ) (made : Result T E) → line_count bytes ≡ 0 → IfOk made (λ t. bytes_of t ≡ bytes) → IfOk made (λ t. line_count (bytes_of t) ≡ 0)
 plain_made bytes_of bytes (Ok t) plain is = ap line_count is ∙ plain
 plain_made bytes_of bytes (Err e) plain is = tt
+
+-- a part that is added to a text
+pub plain_added : (old part new : List ℕ) → new ≡ old ++ part → line_count part ≡ 0 → line_count new ≡ line_count old
+plain_added old part new is plain = let both = ap line_count is ∙ line_count-append old part in omega (arith, both, plain)
+
+-- a word, if it is wanted
+pub plain_word_if : (b : Bool) (word : List ℕ) → line_count word ≡ 0 → line_count (word_if b word) ≡ 0
+plain_word_if true word plain = plain
+plain_word_if false word plain = refl
+
+-- the marks of a link
+plain_marks : (m : Marks) → line_count (marks_text Two m) ≡ 0
+plain_marks m =
+    let ib = plain_word_if m.inhibited_b (codes "ib") refl in
+    let ia = plain_both (word_if m.inhibited_a (codes "ia")) (word_if m.inhibited_b (codes "ib")) (plain_word_if m.inhibited_a (codes "ia") refl) ib in
+    let bb = plain_both (word_if m.blocked_b (codes "bb")) (word_if m.inhibited_a (codes "ia") ++ word_if m.inhibited_b (codes "ib")) (plain_word_if m.blocked_b (codes "bb") refl) ia in
+    let ba = plain_both (word_if m.blocked_a (codes "ba")) (word_if m.blocked_b (codes "bb") ++ (word_if m.inhibited_a (codes "ia") ++ word_if m.inhibited_b (codes "ib"))) (plain_word_if m.blocked_a (codes "ba") refl) bb in
+    plain_both (word_if m.failed (codes "f")) (word_if m.blocked_a (codes "ba") ++ (word_if m.blocked_b (codes "bb") ++ (word_if m.inhibited_a (codes "ia") ++ word_if m.inhibited_b (codes "ib"))))
+    (plain_word_if m.failed (codes "f") refl) ba
+
+-- a link with its marks
+pub plain_marked : (link : Link) → link.slc < 2 ^ 64 → line_count (marked_word link) ≡ 0
+plain_marked link small =
+    plain_both (decimal link.slc) (marks_text Two link.marks) (plain_decimal link.slc small) (plain_marks link.marks)

@@ -4,6 +4,7 @@ pub mod Refusals
 pub mod Status
 pub mod Links
 pub mod Messages
+pub mod Why
 pub mod Rows
 pub mod Traces
 pub mod WhatIfs

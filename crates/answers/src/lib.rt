@@ -6,21 +6,25 @@
 //! 3. The link of each signalling link selection: `sls` and sixteen times `ID:SLC`, or `sls none` for class 0.
 //! 4. The transfer messages in force from Y: `messages` and `TFA>CODE` for each, in rising code of the receiver.
 //! 5. The octets of the message in force from Y to a point: `octets` and eight times `HH`, or `octets none`.
-//! 6. The trace of a signalling link selection from Y to X: `trace reached` and `ID:SLC>CODE` for each hop, or `trace
+//! 6. Why Y uses what it uses: `why STATUS`, then ` ; class K CODE REASON` for each via of each class, the first first, and ` ; mate
+//!    CODE REASON` if the row may use its mate; ` used` follows if Y leads its traffic over it. REASON is `ok`, `far restricted` or
+//!    `far prohibited`, the status of the via, or the direct status of the mate; or `down ID` with the set's links and their
+//!    marks, if no link of it is available.
+//! 7. The trace of a signalling link selection from Y to X: `trace reached` and `ID:SLC>CODE` for each hop, or `trace
 //!    stopped`. It is refused as a question about a row is.
-//! 7. What events would change: `whatif granted` or `whatif denied`, and `Y/X BEFORE>AFTER` for each change, where
+//! 8. What events would change: `whatif granted` or `whatif denied`, and `Y/X BEFORE>AFTER` for each change, where
 //!    `none` stands for no row; or `refused`, the refusal of the first event that is refused, and `at PLACE`.
-//! 8. A check of every table by the local rule: `audit ok P` for P tables, or `audit bad X Y c` for the first wrong
+//! 9. A check of every table by the local rule: `audit ok P` for P tables, or `audit bad X Y c` for the first wrong
 //!    one: its destination, and the point and the letter of the first complaint.
-//! 9. Replies of the desk: a post is answered `taken N`, or `again N` if it was accepted before; an opening `opened T
+//! 10. Replies of the desk: a post is answered `taken N`, or `again N` if it was accepted before; an opening `opened T
 //!    waiting W`; the taking of a job `job V CODE`; a result `given`; an abandonment `abandoned`; a publication `published
 //!    N`; `synced N` and `version P accepted N` tell what is published and accepted.
-//! 10. A refusal is `refused`, its number, its name and its values. No answer has a line feed.
-//! 11. A line that is no command is refused 62 BadLine, but for `help`: it tells every word that begins a command, and `help
+//! 11. A refusal is `refused`, its number, its name and its values. No answer has a line feed.
+//! 12. A line that is no command is refused 62 BadLine, but for `help`: it tells every word that begins a command, and `help
 //!     WORD` the form of that word's commands, with an example: `help FORM, as EXAMPLE`.
 //!
-//! Stands on `work_units`, `path_trace`, `what_if`, `script_words`, `itoa`. A change here also changes specs/ (Answer, Audits, DeskRefusals,
-//! Help, Links, Messages, Plain, Refusals, Replies, Rows, Status, Text, Traces, WhatIfs), proofs/ and must-fail/.
+//! Stands on `work_units`, `path_trace`, `what_if`, `tokens`, `script_words`, `itoa`. A change here also changes specs/ (Answer, Audits, DeskRefusals,
+//! Help, Links, Messages, Plain, Refusals, Replies, Rows, Status, Text, Traces, WhatIfs, Why), proofs/ and must-fail/.
 #![tactic(auto)]
 
 pub mod answer;
@@ -37,6 +41,7 @@ pub mod rows;
 mod status;
 pub mod traces;
 pub mod what_ifs;
+mod why;
 
 pub use answer::Answer;
 pub use audits::{answer_audit, clause_word, put_complaint};

@@ -2,20 +2,21 @@
 
 ghost use Rattle.std.specs.Prelude.{◌≡◌, ◌<◌, IfOk, string_bytes};
 ghost use Rattle.std.specs.Option.{option_map_or};
-ghost use Rattle.answers.specs.Rows.{row_in, row_answer, answer_about as the_answer};
+ghost use Rattle.answers.specs.Rows.{point_answer, answer_about as the_answer};
 ghost use Rattle.answers.specs.Plain.{no_row};
 ghost use Rattle.answers.specs.Status.{status_text};
 ghost use Rattle.answers.specs.Links.{links_text};
 ghost use Rattle.answers.specs.Messages.{messages_text, octets_text, octets_to};
-ghost use Rattle.profile.specs.Whole.{scratch};
 ghost use Rattle.excerpts.specs.Excerpt.{source_of};
 ghost use Rattle.transfer_state.specs.Routing.{state_at};
 ghost use Rattle.answers.specs.Text.{line_count};
+ghost use Rattle.answers.specs.Why.{why_of};
 
 use crate::links::write_links;
 use crate::messages::{write_messages, write_octets};
 use crate::plain::{write_no_plan, write_no_row};
 use crate::status::write_status;
+use crate::why::write_why;
 use net_versions::Version;
 use point_codes::PointCode;
 use script_words::Question;
@@ -78,6 +79,18 @@ fn answer_octets(
     }
 }
 
+/// Why a point uses what it uses by a routing.
+fn answer_why(alloc: Global, routing: &Routing, point: PointCode) -> Result<String, AllocError>
+    ensures text { IfOk result (λ text. string_bytes text ≡
+        option_map_or (why_of (source_of routing.now.excerpt)) (state_at routing.now.excerpt point) no_row) }
+    ensures plain { IfOk result (λ text. line_count (string_bytes text) ≡ 0) }
+{
+    match routing.row(point) {
+        Some((row, choice)) => write_why(alloc, routing, row, &choice),
+        None => write_no_row(alloc),
+    }
+}
+
 /// The answer about the row of a point by a routing.
 fn answer_row(
     alloc: Global,
@@ -88,7 +101,7 @@ fn answer_row(
 ) -> Result<String, AllocError>
     requires { ni < 4 }
     ensures text { IfOk result (λ text. string_bytes text ≡
-        row_answer asked ni routing.now.excerpt.plan.dest (row_in (scratch (source_of routing.now.excerpt)) point)) }
+        point_answer asked ni (source_of routing.now.excerpt) point) }
     ensures plain { IfOk result (λ text. line_count (string_bytes text) ≡ 0) }
 {
     match asked {
@@ -96,6 +109,7 @@ fn answer_row(
         Question::Links => answer_links(alloc, routing, point),
         Question::Messages => answer_messages(alloc, routing, point),
         Question::Octets(z) => answer_octets(alloc, ni, routing, point, z),
+        Question::Why => answer_why(alloc, routing, point),
     }
 }
 

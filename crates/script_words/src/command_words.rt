@@ -16,6 +16,8 @@ pub enum CommandWord {
     Messages,
     /// `octets`.
     Octets,
+    /// `why`.
+    Why,
     /// `trace`.
     Trace,
     /// `sync`.
@@ -68,6 +70,7 @@ pub fn read_command_word(word: &[u8]) -> Option<CommandWord>
         _ if is_word(word, "sls") => Some(CommandWord::Sls),
         _ if is_word(word, "messages") => Some(CommandWord::Messages),
         _ if is_word(word, "octets") => Some(CommandWord::Octets),
+        _ if is_word(word, "why") => Some(CommandWord::Why),
         _ if is_word(word, "trace") => Some(CommandWord::Trace),
         _ => read_desk_word(word),
     }

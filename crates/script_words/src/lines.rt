@@ -71,6 +71,7 @@ fn read_by(alloc: Global, word: CommandWord, rest: &[&[u8]]) -> Result<Option<Co
         CommandWord::Sls => Ok(read_about(Question::Links, rest)),
         CommandWord::Messages => Ok(read_about(Question::Messages, rest)),
         CommandWord::Octets => Ok(read_octets(rest)),
+        CommandWord::Why => Ok(read_about(Question::Why, rest)),
         CommandWord::Trace => Ok(read_trace(rest)),
         CommandWord::Sync => Ok(only(Command::Sync, rest)),
         CommandWord::WhatIf => Ok(read_events(alloc, rest)?.map(Command::WhatIf)),

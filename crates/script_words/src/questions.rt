@@ -13,4 +13,6 @@ pub enum Question {
     Messages,
     /// The octets of the message in force from its point to this one (Q.704 clauses 15.7 to 15.9).
     Octets(PointCode),
+    /// Why it uses that: what stands for and against each of its vias, and its mate.
+    Why,
 }

@@ -8,6 +8,7 @@ pub mod MatchLemmas
 pub mod MemberLemmas
 pub mod MessageLemmas
 pub mod PromiseLemmas
+pub mod ReasonLemmas
 pub mod RouteLemmas
 pub mod SizeLemmas
 pub mod StatusLemmas

@@ -71,7 +71,7 @@ hop_is x y s row c found =
     ∙ ap (λ from. body from (choice src row)) (row_point_is x.plan.rows y row found.there)
     ∙ sym (ap (option_and_then (λ r. option_and_then (λ z. option_map (λ link. record { from = y; link = link; to = z }) (link_of src r (choice src r) s)) (carrier r (choice src r) s))) found.there)
 
-row_none : (x : ExcerptValue) (y : ℕ) (o : Option Row) → row_at x.plan.rows y ≡ o → state_at x y ≡ None → o ≡ None
+pub row_none : (x : ExcerptValue) (y : ℕ) (o : Option Row) → row_at x.plan.rows y ≡ o → state_at x y ≡ None → o ≡ None
 row_none x y None at none = refl
 row_none x y (Some row) at none = let there : Some (state_of (source_of x) row (choice (source_of x) row)) ≡ None = sym (state_there x y row at) ∙ none in cc
 

@@ -1,15 +1,17 @@
 -- The settled routing of an excerpt, row by row.
 use Rattle.std.specs.Prelude.{◌≡◌, ℕ, Bool, List, [], ◌∷◌, Option, Some, map}
-use Rattle.std.specs.Option.{option_map, option_and_then}
+use Rattle.std.specs.Option.{option_map, option_map_or, option_and_then}
 use Rattle.net_items.specs.declared.lists.Row.{Row}
 use Rattle.route_choice.specs.declared.choices.Choice.{Choice}
 use Rattle.route_choice.specs.declared.choices.Far.{Far}
+use Rattle.route_choice.specs.declared.choices.Far.TheVariants.{Prohibited}
+use Rattle.route_choice.specs.Routes.{direct}
 use Rattle.profile.specs.declared.tables.RowState.{RowState}
 use Rattle.profile.specs.declared.tables.Table.{Table}
 use Rattle.profile.specs.declared.hops.Hop.{Hop}
 use Rattle.net_items.specs.Lookups.{row_at}
 use Rattle.profile.specs.Valid.{IsSmall}
-use Rattle.profile.specs.Status.{Source, choice}
+use Rattle.profile.specs.Status.{Source, source_row, offers, choice, status}
 use Rattle.profile.specs.Whole.{scratch, carrier, link_of, state_of}
 use Rattle.excerpts.specs.Excerpt.{ExcerptValue, source_of}
 use Rattle.transfer_state.specs.Kept.{KeptValue, kept}
@@ -18,6 +20,10 @@ use Rattle.transfer_state.specs.Promises.{state_in}
 -- what the settled table of an excerpt, from scratch, has for a point
 abbrev pub state_at : ExcerptValue → ℕ → Option RowState
 state_at x y = state_in (scratch (source_of x)) y
+
+-- the direct status of a point, which it offers its mate: by what its vias offer, prohibited if it has no row
+abbrev pub direct_status : Source → ℕ → Far
+direct_status src y = option_map_or (λ row. direct src.tfr (offers src (status src) row)) (source_row src y) Prohibited
 
 -- the link that a signalling link selection takes from a row's point by a choice, with both its ends
 abbrev pub hop_by : Source → Row → Choice → ℕ → Option Hop

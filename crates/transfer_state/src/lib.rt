@@ -35,4 +35,5 @@ pub mod table;
 pub use complaints::{Clause, Complaint, check};
 pub use profile::tables::{LinkRef, Message, Messages, RowLinks, RowState, RowStates, Table};
 pub use routing::{Routing, RoutingSlot};
+pub use states::is_member;
 pub use table::table_of;

@@ -3,27 +3,31 @@
 ghost use Rattle.std.specs.Prelude.{◌≡◌, ◌==◌, ◌<◌, None, Some, IfOk, find, is_some, true};
 ghost use Rattle.std.specs.Option.{MatchOption, option_map};
 ghost use Rattle.net_items.specs.Lookups.{row_at};
-ghost use Rattle.profile.specs.Status.{choice};
+ghost use Rattle.profile.specs.Status.{choice, status};
 ghost use Rattle.profile.specs.Traces.{hop_of};
 ghost use Rattle.profile.specs.Valid.{IsSmall};
 ghost use Rattle.profile.specs.Whole.{state_of, size_of as size_by, member as member_of};
 ghost use Rattle.excerpts.specs.Excerpt.{source_of};
-ghost use Rattle.transfer_state.specs.Routing.{state_at, hop_by, IsChosen, IsFoundRow};
+ghost use Rattle.transfer_state.specs.Routing.{direct_status, state_at, hop_by, IsChosen, IsFoundRow};
 
-use crate::choosing::rows_of;
+use crate::choosing::{Statuses, far_by_choices, fars_of, rows_of};
 use crate::kept::{Kept, opened_choice};
 use crate::states::{links_of, member, message_to, messages_of, used_size};
 use excerpts::Excerpt;
 use net_items::Row;
 use point_codes::PointCode;
 use profile::{Hop, LinkRef, Message, Messages, RowLinks};
-use route_choice::Choice;
+use route_choice::{Choice, Far, direct};
 use sls_share::{link_for, member_for};
 use std::alloc::{AllocError, Global};
 
 /// The row of a point with its choice.
 #[tactic(auto, using(crate::proofs::RouteLemmas::found_row, crate::proofs::RouteLemmas::state_none))]
-fn found<'a>(e: &'a Excerpt, choices: &[Kept], point: PointCode) -> Option<(&'a Row, Choice)>
+pub(crate) fn found<'a>(
+    e: &'a Excerpt,
+    choices: &[Kept],
+    point: PointCode,
+) -> Option<(&'a Row, Choice)>
     requires { IsChosen e.now choices.now }
     ensures { MatchOption result (state_at e.now point ≡ None) (λ f. IsFoundRow e.now point f.0.now f.1) }
 {
@@ -35,6 +39,28 @@ fn found<'a>(e: &'a Excerpt, choices: &[Kept], point: PointCode) -> Option<(&'a 
             Some((row, opened_choice(e, row, choices[at])))
         }
         Err(_) => None,
+    }
+}
+
+/// The status of a point.
+#[tactic(auto, using(crate::proofs::ReasonLemmas::status_told))]
+pub(crate) fn status_at(e: &Excerpt, choices: &[Kept], point: PointCode) -> Far
+    requires { IsChosen e.now choices.now }
+    ensures { result ≡ status (source_of e.now) point }
+{
+    e.validity();
+    far_by_choices(e, choices, point)
+}
+
+/// The direct status of a point.
+pub(crate) fn direct_at(e: &Excerpt, choices: &[Kept], point: PointCode) -> Far
+    requires { IsChosen e.now choices.now }
+    ensures { result ≡ direct_status (source_of e.now) point }
+{
+    e.validity();
+    match found(e, choices, point) {
+        Some((row, _)) => direct(row, &fars_of(e, &Statuses::Choices(choices), row), e.tfr()),
+        None => Far::Prohibited,
     }
 }
 

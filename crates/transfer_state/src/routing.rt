@@ -1,7 +1,8 @@
 //! The settled routing towards one destination: what each point of its plan uses.
 
 ghost use Rattle.std.specs.Prelude.{◌≡◌, ◌≢◌, ◌==◌, ◌↔◌, ◌<◌, IsTrue, true, false, None, Some, IfOk, IfErr, OnOk, OnErr, find, not, if◌then◌else◌};
-ghost use Rattle.std.specs.Option.{option_map};
+ghost use Rattle.std.specs.Option.{option_map, MatchOption};
+ghost use Rattle.profile.specs.Status.{status};
 ghost use Rattle.profile.specs.Traces.{hop_of};
 ghost use Rattle.profile.specs.Whole.{scratch, IsSettledTable};
 ghost use Rattle.excerpts.specs.Excerpt.{content_of, source_of};
@@ -12,20 +13,23 @@ ghost use Rattle.std.specs.List.{list_any};
 ghost use Rattle.excerpts.specs.declared.turned.Ends.{Ends};
 ghost use Rattle.transfer_state.specs.Following.{rests_on, KeepsStatuses};
 ghost use Rattle.transfer_state.specs.Promises.{TellsWalks, KeepsMatesApart};
-ghost use Rattle.transfer_state.specs.Routing.{settled_routing, state_at, statuses_of, IsChosen};
+ghost use Rattle.transfer_state.specs.Routing.{direct_status, settled_routing, state_at, statuses_of, IsChosen, IsFoundRow};
 
 use crate::auditing::check_kept;
 use crate::comparing::have_same_statuses;
 use crate::complaints::Complaint;
 use crate::following::{choices_after, rests_on_any};
 use crate::kept::Kept;
-use crate::routes::{choice_at, hop_at, links_at, message_at, messages_at};
+use crate::routes::{
+    choice_at, direct_at, found, hop_at, links_at, message_at, messages_at, status_at,
+};
 use crate::sweep::choices;
 use crate::table::table_by;
 use excerpts::{Ends, Excerpt};
+use net_items::Row;
 use point_codes::PointCode;
 use profile::{Hop, Message, Messages, RowLinks, Table};
-use route_choice::Choice;
+use route_choice::{Choice, Far};
 use std::alloc::{AllocError, Global};
 use std::marker::Model;
 use std::sync::Arc;
@@ -151,6 +155,28 @@ impl Routing {
         ensures { result ≡ self.now.excerpt.plan.dest }
     {
         self.dest
+    }
+
+    /// The row of a point, with what it uses, if it has one.
+    pub fn row(&self, point: PointCode) -> Option<(&Row, Choice)>
+        ensures { MatchOption result (state_at self.now.excerpt point ≡ None) (λ f. IsFoundRow self.now.excerpt point f.0.now f.1) }
+    {
+        found(&self.excerpt, &self.choices, point)
+    }
+
+    /// The status of a point: allowed at the destination, prohibited if it has no row (own).
+    pub fn status(&self, point: PointCode) -> Far
+        ensures { result ≡ status (source_of self.now.excerpt) point }
+    {
+        status_at(&self.excerpt, &self.choices, point)
+    }
+
+    /// The direct status of a point, which it offers its mate: that of its vias alone, prohibited if it has no row (own, after
+    /// Q.704 clauses 13.2 to 13.4).
+    pub fn direct_status(&self, point: PointCode) -> Far
+        ensures { result ≡ direct_status (source_of self.now.excerpt) point }
+    {
+        direct_at(&self.excerpt, &self.choices, point)
     }
 
     /// What a point uses, with its status, if it has a row.

@@ -93,7 +93,8 @@ fn is_at(member: Option<PointCode>, neighbour: PointCode) -> bool
     }
 }
 
-fn is_member(neighbour: PointCode, choice: &Choice) -> bool
+/// Whether a point is a member of a choice.
+pub fn is_member(neighbour: PointCode, choice: &Choice) -> bool
     ensures { result ≡ is_member_of neighbour choice.now }
 {
     is_at(choice.members[0], neighbour) || is_at(choice.members[1], neighbour)
