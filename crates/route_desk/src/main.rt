@@ -10,19 +10,22 @@
 //! 3. `route_desk check NET` works out the tables of all planned destinations of that network, by as many threads as
 //!    there are processors, checks each by the local rule, and writes `ok P` for P plans, or `bad X Y c` for the first
 //!    wrong one.
-//! 4. `route_desk explain WHAT` writes what the refusal, fault, cause or complaint of that number or name means and what
+//! 4. If standard input is a terminal, `run NET` says on standard error how large the network is, and prompts for each line there.
+//! 5. `route_desk explain WHAT` writes what the refusal, fault, cause or complaint of that number or name means and what
 //!    to do; without WHAT the title and the meaning of each, a line each.
-//! 5. It exits with 0 if the script was answered to its end: a refused line is no fault of a run; or if all
+//! 6. It exits with 0 if the script was answered to its end: a refused line is no fault of a run; or if all
 //!    tables are right, or if what was asked for is explained.
-//! 6. It exits with 1 if a table is wrong, if the network isn't loaded, or where memory, reading, writing or the want of a
+//! 7. It exits with 1 if a table is wrong, if the network isn't loaded, or where memory, reading, writing or the want of a
 //!    place for a reader ended the run; in all but the first of these standard error has one line, `route_desk: ` and the fault. Memory that is
 //!    wanting while the arguments are fetched is such a fault.
-//! 7. It exits with 2 where the command line isn't read, with `clap`'s text on standard error, or one line if an argument
+//! 8. It exits with 2 where the command line isn't read, with `clap`'s text on standard error, or one line if an argument
 //!    isn't UTF-8, N is no number from 0 to 32, or nothing is called WHAT. Help and the version are printed on standard
 //!    output, with 0.
 //!
 //! Stands on `net_saving`, `console`, `beside`, `explanations`, `command_line`, `clap`. Nothing else changes with it.
 #![tactic(auto)]
+
+mod terminal;
 
 ghost use Rattle.std.specs.Prelude.{◌≤◌};
 ghost use Rattle.command_line.specs.Words.{IsWithin};
@@ -43,6 +46,7 @@ use std::process::ExitCode;
 use std::sync::Wait;
 use std::thread::Threads;
 use std::{env, fs, io};
+use terminal::{Prompting, greet, is_terminal};
 use worker_pool::Plain;
 
 /// The words of the command line, the program's name first. It fails with `InvalidData` where one isn't UTF-8, and with
@@ -99,11 +103,15 @@ fn run_from(
     requires { workers ≤ 32 }
 {
     let alloc = rt.alloc();
-    if workers == 0 {
-        return run_script(alloc, &mut rt.reader(), &mut io::writer(rt), net);
+    let wanted = is_terminal(rt);
+    if wanted {
+        greet(rt, &net);
     }
-    let (reader, writer) = (rt.reader(), io::writer(rt));
-    run_beside(threads, alloc, workers, &Plain, reader, writer, net).end
+    let mut reader = Prompting::new(rt, rt.reader(), wanted);
+    if workers == 0 {
+        return run_script(alloc, &mut reader, &mut io::writer(rt), net);
+    }
+    run_beside(threads, alloc, workers, &Plain, reader, io::writer(rt), net).end
 }
 
 /// Runs the network text and the script on standard input, in line or beside that many workers.
