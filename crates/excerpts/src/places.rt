@@ -120,6 +120,15 @@ fn place_near_code(codes: &[PointCode], point: PointCode, expected: usize) -> Op
     None
 }
 
+/// Whether a point's row stands where it is expected. Nothing rests on what this tells.
+pub fn is_expected(order: &PointOrder, rows: &Rows, point: PointCode) -> bool {
+    let rows = rows.as_slice();
+    match rows.get(order.expected(rows.len(), point)) {
+        Some(row) => row.point == point,
+        None => false,
+    }
+}
+
 /// The place of a point's row, or where it would go, by the codes of the rows: if it is where it is expected, no row is read.
 pub fn place_by_code(order: &PointOrder, rows: &Rows, point: PointCode) -> Result<usize, usize>
     requires { IsRising (λ r. r.point) rows.now }

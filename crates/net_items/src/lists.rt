@@ -125,12 +125,17 @@ pub struct Row {
     pub classes: Classes,
 }
 
-/// The rows of a plan.
+/// Rows, and the codes of their points side by side: a search among these reads no row.
+#[derive(Debug, Drop)]
+pub(crate) struct RowList {
+    list: Vec<Row>,
+    codes: Vec<PointCode>,
+}
+
+/// The rows of a plan. They stand in a box, so that an event is small.
 #[derive(Debug, Drop)]
 pub struct Rows {
-    list: Vec<Row>,
-    /// The codes of their points, side by side: a search among these reads no row.
-    codes: Vec<PointCode>,
+    held: Box<RowList>,
 }
 
 impl Model for Rows {
@@ -139,9 +144,9 @@ impl Model for Rows {
 
     ghost Value = { List Row };
 
-    ghost view = { λ l. l.list.items };
+    ghost view = { λ l. l.held.value.list.items };
 
-    ghost invariant = { λ l. l.codes.items ≡ map (λ (r : Row). r.point) l.list.items };
+    ghost invariant = { λ l. l.held.value.codes.items ≡ map (λ (r : Row). r.point) l.held.value.list.items };
 }
 
 /// The codes of the points of rows, in their places.
@@ -157,14 +162,17 @@ impl Rows {
         ensures { IfOk result (λ rows. rows ≡ list.items) }
     {
         let codes = codes_of(alloc, &list)?;
-        Ok(Rows { list, codes })
+        Ok(Rows {
+            held: Box::new(alloc, RowList { list, codes })?,
+        })
     }
 
     /// The rows in a vector.
     pub fn into_vec(self) -> Vec<Row>
         ensures { result.items ≡ self }
     {
-        let Rows { list, .. } = self;
+        let Rows { held } = self;
+        let RowList { list, .. } = Box::into_inner(held);
         list
     }
 
@@ -172,35 +180,37 @@ impl Rows {
     pub fn as_slice(&self) -> &[Row]
         ensures { result.now ≡ self.now }
     {
-        self.list.as_slice()
+        self.held.list.as_slice()
     }
 
     /// The codes of the points of the rows, in their places.
     pub fn codes(&self) -> &[PointCode]
         ensures { result.now ≡ map (λ r. r.point) self.now }
     {
-        self.codes.as_slice()
+        self.held.codes.as_slice()
     }
 }
 
-/// Link codes, in the order given.
+/// Link codes, in the order given. They stand in a box, so that an event is small.
 #[derive(Debug, Drop)]
 pub struct Slcs {
-    list: Vec<u8>,
+    list: Box<Vec<u8>>,
 }
 
 impl Model for Slcs {
     ghost Value = { List ℕ };
 
-    ghost view = { λ l. l.list.items };
+    ghost view = { λ l. l.list.value.items };
 }
 
 impl Slcs {
     /// These link codes.
-    pub fn from_vec(list: Vec<u8>) -> Slcs
-        ensures { result ≡ list.items }
+    pub fn from_vec(alloc: Global, list: Vec<u8>) -> Result<Slcs, AllocError>
+        ensures { IfOk result (λ slcs. slcs ≡ list.items) }
     {
-        Slcs { list }
+        Ok(Slcs {
+            list: Box::new(alloc, list)?,
+        })
     }
 
     /// The link codes as a slice.

@@ -104,7 +104,7 @@ fn addition_of(alloc: Global, set: &LinkSet) -> Result<Event, AllocError>
     ensures { IfOk result (λ event. event ≡ added_set set.now) }
 {
     let slcs = slcs_of(alloc, set.links.as_slice())?;
-    Ok(Event::AddSet(set.id, set.a, set.b, Slcs::from_vec(slcs)))
+    Ok(Event::AddSet(set.id, set.a, set.b, Slcs::from_vec(alloc, slcs)?))
 }
 
 /// Adds the changes that give the links of a new set their marks.

@@ -213,7 +213,7 @@ fn vias_hold_what_was_put_in(rt: HostRuntime) -> Result<(), Fail> {
 
 #[test]
 fn a_copy_of_link_codes_is_equal(rt: HostRuntime) -> Result<(), Fail> {
-    let slcs = Slcs::from_vec(vec![in rt.alloc(); 0, 5, 15]?);
+    let slcs = Slcs::from_vec(rt.alloc(), vec![in rt.alloc(); 0, 5, 15]?)?;
     let copy = copy_slcs(rt.alloc(), &slcs)?;
     assert!(rt; are_same_slcs(copy.as_slice(), &[0, 5, 15]));
     Ok(())

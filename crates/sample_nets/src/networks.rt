@@ -63,6 +63,6 @@ pub fn add_set(
     b: PointCode,
     slcs: &[u8],
 ) -> Result<Event, AllocError> {
-    let slcs = Slcs::from_vec(Vec::from_slice(alloc, slcs)?);
+    let slcs = Slcs::from_vec(alloc, Vec::from_slice(alloc, slcs)?)?;
     Ok(Event::AddSet(id, a, b, slcs))
 }

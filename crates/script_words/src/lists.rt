@@ -20,7 +20,7 @@ pub fn read_slcs(alloc: Global, words: &[&[u8]]) -> Result<Option<Slcs>, AllocEr
             None => return Ok(None),
         }
     }
-    Ok(Some(Slcs::from_vec(slcs)))
+    Ok(Some(Slcs::from_vec(alloc, slcs)?))
 }
 
 /// The rows of a plan. `None` if a word is no ROW.

@@ -276,6 +276,18 @@ fn followed(
     Ok(None)
 }
 
+/// How many rows at the ends of sets that turned stand where they are expected: about so many will be marked. They are read here
+/// in one pass, so that those which come from memory come at once.
+fn count_expected(e: &Excerpt, turned: &[Ends]) -> usize {
+    let mut count = 0usize;
+    for ends in turned {
+        if ends.transfers {
+            count = count.saturating_add(usize::from(e.is_expected(ends.point)));
+        }
+    }
+    count
+}
+
 /// The choices of all rows, if few have to be chosen anew: those before, shared, if none has to.
 pub(crate) fn choices_after(
     alloc: Global,
@@ -291,7 +303,7 @@ pub(crate) fn choices_after(
 {
     e.validity();
     before.validity();
-    let mut marks = Vec::with_capacity(alloc, turned.len())?;
+    let mut marks = Vec::with_capacity(alloc, count_expected(e, turned))?;
     mark_turned(e, &mut marks, turned)?;
     if marks.is_empty() {
         return Ok(Some(Arc::try_clone(choices)?));
