@@ -42,6 +42,12 @@ def at_pipe(command):
 
 
 def main():
+    try:
+        os.close(pty.openpty()[0])
+    except OSError as error:
+        print(f"no terminal is tried: this machine gives none ({error})")
+        print("0 passed, 0 failed")
+        return
     network = os.path.join(os.path.dirname(os.path.abspath(__file__)), "..", "examples", "small.toml")
     failed = 0
     for workers in ([], ["--workers", "2"]):
