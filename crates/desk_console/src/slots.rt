@@ -1,6 +1,7 @@
 //! The slots, and the commands that use them.
 
-ghost use Rattle.std.specs.Prelude.{◌≡◌, ◌<◌, IfOk, None, Some, length, slice_index_or, slice_set, string_bytes};
+ghost use Rattle.std.specs.Prelude.{◌≡◌, ◌<◌, IfOk, None, Ok, Some, length, slice_index_or, slice_set, string_bytes};
+ghost use Rattle.answers.specs.Replies.{job_text};
 ghost use Rattle.answers.specs.Text.{line_count};
 ghost use Rattle.desk_console.specs.Console.{slot_of};
 ghost use Rattle.desk_console.specs.Does.{AbandonsOf, GivesFrom, TakesTo};
@@ -38,6 +39,16 @@ fn result_of(alloc: Global, job: Job) -> Result<Settled, AllocError>
     }
 }
 
+/// What the taking of a job answers, and the result of the job.
+fn done(alloc: Global, job: Job) -> Result<(String, Settled), AllocError>
+    ensures text { IfOk result (λ r. string_bytes r.0 ≡ job_text (Ok job)) }
+    ensures plain { IfOk result (λ r. line_count (string_bytes r.0) ≡ 0) }
+    ensures settled { IfOk result (λ r. r.1 ≡ job) }
+{
+    let text = write_job(alloc, &job)?;
+    Ok((text, result_of(alloc, job)?))
+}
+
 impl Console {
     /// Takes a job, does it, and keeps its result in a slot.
     pub(crate) fn take(&mut self, alloc: Global, slot: u8) -> Result<String, AllocError>
@@ -51,8 +62,7 @@ impl Console {
         }
         match reply {
             Ok(job) => {
-                let text = write_job(alloc, &job)?;
-                let settled = result_of(alloc, job)?;
+                let (text, settled) = done(alloc, job)?;
                 put_in(&mut self.slots, usize::from(slot), settled);
                 Ok(text)
             }

@@ -103,8 +103,8 @@ fn follow(
             follow_link(latest, touched, event, *id, *slc, *change);
             Ok(())
         }
-        Event::SetPlan(plan) if latest.plan(plan.dest).is_some() => {
-            follow_plan(alloc, latest, touched, event, plan)
+        Event::SetPlan(plan) if latest.plan(plan.as_plan().dest).is_some() => {
+            follow_plan(alloc, latest, touched, event, plan.as_plan())
         }
         _ => follow_edit(alloc, latest, touched, event),
     }

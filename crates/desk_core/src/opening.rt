@@ -150,8 +150,8 @@ pub(crate) fn new_target(
     ensures { IfOk result (λ t. t ≡ record { number = number; network = latest.now; tasks = all_waiting (filter (is_marked touched.now) (map (λ p. p.dest) latest.now.plans)) }) }
 {
     let net = frozen_copy(alloc, latest, version.net())?;
-    let waiting = waiting_dests(alloc, latest, touched)?;
     let slots = all_slots(alloc, &net, touched, version)?;
     let difference = difference_from(alloc, &net, version, events)?;
-    Ok(Target::new(number, net, waiting, slots, difference))
+    let waiting = waiting_dests(alloc, latest, touched)?;
+    Target::new(alloc, number, net, waiting, slots, difference)
 }

@@ -30,9 +30,9 @@ pub(crate) struct Difference {
     pub(crate) turned: Arc<Vec<Ends>>,
 }
 
-/// An open target.
+/// What an open target holds.
 #[derive(Drop)]
-pub(crate) struct Target {
+struct Parts {
     number: u64,
     net: Frozen,
     waiting: Waiting,
@@ -41,14 +41,20 @@ pub(crate) struct Target {
     difference: Option<Difference>,
 }
 
+/// An open target. Its parts stand in a box, so that a desk is small.
+#[derive(Drop)]
+pub(crate) struct Target {
+    parts: Box<Parts>,
+}
+
 impl Model for Target {
     ghost use Rattle.desk_core.specs.Targets.{TargetValue, AreFilled, DiffersBy};
 
     ghost Value = { TargetValue };
 
-    ghost view = { λ t. record { number = t.number; network = t.net; tasks = t.waiting } };
+    ghost view = { λ t. record { number = t.parts.value.number; network = t.parts.value.net; tasks = t.parts.value.waiting } };
 
-    ghost invariant = { λ t. record { filled : AreFilled t.net t.waiting t.slots.items; differs : DiffersBy t.net t.difference } };
+    ghost invariant = { λ t. record { filled : AreFilled t.parts.value.net t.parts.value.waiting t.parts.value.slots.items; differs : DiffersBy t.parts.value.net t.parts.value.difference } };
 }
 
 /// The place of a destination, or where it would go. It is looked for first in a place.
@@ -87,86 +93,91 @@ fn all_routings(alloc: Global, slots: &[RoutingSlot]) -> Result<Vec<Routing>, Al
 }
 
 impl Target {
-    /// A target with its tasks, and a place for each planned destination.
+    /// A target with its tasks, and a place for each planned destination. It fails if memory is refused.
     pub(crate) fn new(
+        alloc: Global,
         number: u64,
         net: Frozen,
         waiting: Waiting,
         slots: Vec<RoutingSlot>,
         difference: Option<Difference>,
-    ) -> Target
+    ) -> Result<Target, AllocError>
         requires filled { AreFilled net waiting slots.items }
         requires differs { DiffersBy net difference }
-        ensures { result ≡ record { number = number; network = net; tasks = waiting } }
+        ensures { IfOk result (λ t. t ≡ record { number = number; network = net; tasks = waiting }) }
     {
-        Target {
+        let parts = Parts {
             number,
             net,
             waiting,
             slots,
             difference,
-        }
+        };
+        Ok(Target {
+            parts: Box::new(alloc, parts)?,
+        })
     }
 
     /// The number of the version that it becomes.
     pub(crate) fn number(&self) -> u64
         ensures { result ≡ self.now.number }
     {
-        self.number
+        self.parts.number
     }
 
     /// Its network.
     pub(crate) fn net(&self) -> &Frozen
         ensures { result.now ≡ self.now.network }
     {
-        &self.net
+        &self.parts.net
     }
 
     /// Whether a destination waits.
     pub(crate) fn has_waiting(&self) -> bool
         ensures { result ≡ is_some (first_waiting self.now.tasks) }
     {
-        self.waiting.first().is_some()
+        self.parts.waiting.first().is_some()
     }
 
     /// How many destinations wait.
     pub(crate) fn waiting(&self) -> usize
         ensures { result ≡ length (waiting self.now.tasks) }
     {
-        self.waiting.len()
+        self.parts.waiting.len()
     }
 
     /// How many destinations wait or are out.
     pub(crate) fn left(&self) -> usize
         ensures { result ≡ length self.now.tasks }
     {
-        self.waiting.left()
+        self.parts.waiting.left()
     }
 
     /// The least destination that is out.
     pub(crate) fn first_out(&self) -> Option<PointCode>
         ensures { result ≡ least (out self.now.tasks) }
     {
-        self.waiting.first_out()
+        self.parts.waiting.first_out()
     }
 
     /// Whether a destination is out.
     pub(crate) fn is_out(&self, dest: PointCode) -> bool
         ensures { result ≡ out_among self.now.tasks dest }
     {
-        self.waiting.is_out(dest)
+        self.parts.waiting.is_out(dest)
     }
 
     /// A job for a destination, followed from the version before if there is something to follow.
     fn job_for(&self, dest: PointCode) -> Result<Job, ExcerptFault>
         ensures { IsJob self.now.number (excerpt_at self.now.network dest) result }
     {
-        if let Some(difference) = &self.difference
+        let parts = &*self.parts;
+        if let Some(difference) = &parts.difference
             && let Some(routing) = difference.version.routing(dest)
         {
-            return Job::after(self.number, &self.net, routing, &difference.turned);
+            return Job::after(parts.number, &parts.net, routing, &difference.turned);
         }
-        Job::of(self.number, &self.net, dest)
+        Job::of(parts.number, &parts.net, dest)
     }
 
     /// A job for the first destination that waits, which is out from then on.
@@ -176,12 +187,12 @@ impl Target {
             (λ job. (job.version ≡ self.old.number) × (excerpt_at self.old.network x ≡ Some job.excerpt) × (self.new ≡ record self.old { tasks = taken self.old.tasks }))
             (λ refusal. (refusal ≡ Refusal.OutOfMemory) × (self.new ≡ self.old))) }
     {
-        let Some(dest) = self.waiting.first() else {
+        let Some(dest) = self.parts.waiting.first() else {
             return Err(Refusal::Nothing);
         };
         match self.job_for(dest) {
             Ok(job) => {
-                self.waiting.take_first();
+                self.parts.waiting.take_first();
                 Ok(job)
             }
             Err(ExcerptFault::NoPlan) => unreachable!(),
@@ -193,7 +204,9 @@ impl Target {
     pub(crate) fn is_of(&self, settled: &Settled) -> bool
         ensures { IsTrue result ↔ (content_at self.now.network settled.now.excerpt.plan.dest ≡ Some (content_of settled.now.excerpt)) }
     {
-        settled.excerpt().is_of(self.net.net(), settled.dest())
+        settled
+            .excerpt()
+            .is_of(self.parts.net.net(), settled.dest())
     }
 
     /// Takes in a result. It takes no memory.
@@ -202,14 +215,15 @@ impl Target {
         requires same { content_at self.old.network settled.excerpt.plan.dest ≡ Some (content_of settled.excerpt) }
         ensures { self.new ≡ record self.old { tasks = without_task settled.excerpt.plan.dest self.old.tasks } }
     {
-        self.net.validity();
+        let parts = &mut *self.parts;
+        parts.net.validity();
         let dest = settled.dest();
-        let first = self.net.expected(self.slots.len(), dest);
-        match position_of_slot(self.slots.as_slice(), first, dest) {
-            Ok(at) => self.slots[at].fill(settled.into_routing()),
+        let first = parts.net.expected(parts.slots.len(), dest);
+        match position_of_slot(parts.slots.as_slice(), first, dest) {
+            Ok(at) => parts.slots[at].fill(settled.into_routing()),
             Err(_) => unreachable!(),
         }
-        self.waiting.done(dest);
+        parts.waiting.done(dest);
     }
 
     /// A destination that is out waits again, last. It takes no memory.
@@ -217,7 +231,7 @@ impl Target {
         requires { out_among self.old.tasks dest ≡ true }
         ensures { self.new ≡ record self.old { tasks = put_last dest self.old.tasks } }
     {
-        self.waiting.put_last(dest);
+        self.parts.waiting.put_last(dest);
     }
 
     /// The settled routing of each planned destination, if all have come. It fails only if memory is refused.
@@ -225,6 +239,6 @@ impl Target {
         requires { self.now.tasks ≡ [] }
         ensures { IfOk result (λ v. v.items ≡ settled_routings self.now.network) }
     {
-        all_routings(alloc, self.slots.as_slice())
+        all_routings(alloc, self.parts.slots.as_slice())
     }
 }

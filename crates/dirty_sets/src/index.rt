@@ -180,7 +180,7 @@ impl TouchIndex {
         match event {
             Event::AddSet(id, a, b, _) => self.add_set(before, *id, *a, *b),
             Event::RemoveSet(id) => self.remove_set(before, *id),
-            Event::SetPlan(plan) => self.set_plan(before, plan),
+            Event::SetPlan(plan) => self.set_plan(before, plan.as_plan()),
             Event::DropPlan(dest) => self.drop_plan(before, *dest),
             Event::Link(_, _, _) => self.keep(before, event),
             Event::AddLink(_, _) => self.keep(before, event),
@@ -256,7 +256,7 @@ impl TouchIndex {
             Event::RemoveLink(id, _) => self.mark_set(before, event, *id, marks),
             Event::RemoveSet(id) => self.mark_set(before, event, *id, marks),
             Event::AddSet(id, a, b, slcs) => self.mark_new_set(before, *id, *a, *b, slcs, marks),
-            Event::SetPlan(plan) => marks.mark(plan.dest),
+            Event::SetPlan(plan) => marks.mark(plan.as_plan().dest),
             Event::DropPlan(dest) => marks.mark(*dest),
             Event::SetTfr(_) => self.mark_planned(before, marks),
             Event::AddPoint(_, _) => {}

@@ -10,7 +10,7 @@ ghost use Rattle.excerpts.specs.Around.{neighbours_left};
 ghost use Rattle.excerpts.specs.Excerpt.{ExcerptValue, content_at, content_in, content_of, excerpt_at, is_read_by, leads as row_leads, IsExcerptAnswer, IsRight};
 
 use crate::faults::ExcerptFault;
-use crate::places::{is_expected, place_by_code, place_of_row, point_by};
+use crate::places::{is_expected, is_near, place_by_code, place_of_row, point_by};
 use crate::reading::{are_same_reads, are_same_row_points, is_read};
 use crate::{Frozen, Neighbours};
 use net_data::Net;
@@ -146,10 +146,16 @@ impl Excerpt {
         place_by_code(self.net.order(), &self.plan.rows, point)
     }
 
-    /// Whether the row of a point stands where it is looked for first. Nothing rests on what this tells; who asks it of several
-    /// points, before he asks for their rows one by one, has them come from memory side by side.
+    /// Whether the row of a point stands where it is looked for first, by the codes of the rows. Nothing rests on what this tells; who
+    /// asks it of several points, before he asks for their places one by one, has their codes come from memory side by side.
     pub fn is_expected(&self, point: PointCode) -> bool {
         is_expected(self.net.order(), &self.plan.rows, point)
+    }
+
+    /// Whether the row of a point stands near there. Nothing rests on what this tells; who asks it of several points, before he asks
+    /// for their rows one by one, has these come from memory side by side.
+    pub fn is_near(&self, point: PointCode) -> bool {
+        is_near(self.net.order(), &self.plan.rows, point)
     }
 
     /// The row of a point, if it has one.
@@ -189,7 +195,7 @@ impl Excerpt {
                 return None;
             }
         }
-        let at = self.place_of_row(point).ok()?;
+        let at = self.place_by_code(point).ok()?;
         let leads = is_via(&self.plan.rows.as_slice()[at], other);
         leads.then_some(at)
     }

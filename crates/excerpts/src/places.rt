@@ -120,11 +120,23 @@ fn place_near_code(codes: &[PointCode], point: PointCode, expected: usize) -> Op
     None
 }
 
-/// Whether a point's row stands where it is expected. Nothing rests on what this tells.
+/// Whether a point's row stands where it is expected, by the codes of the rows. Nothing rests on what this tells.
 pub fn is_expected(order: &PointOrder, rows: &Rows, point: PointCode) -> bool {
-    let rows = rows.as_slice();
-    match rows.get(order.expected(rows.len(), point)) {
-        Some(row) => row.point == point,
+    let codes = rows.codes();
+    match codes.get(order.expected(codes.len(), point)) {
+        Some(code) => *code == point,
+        None => false,
+    }
+}
+
+/// Whether a point's row stands near where it is expected. It is found by its code, and read. Nothing rests on what this tells.
+pub fn is_near(order: &PointOrder, rows: &Rows, point: PointCode) -> bool {
+    let codes = rows.codes();
+    match place_near_code(codes, point, order.expected(codes.len(), point)) {
+        Some(at) => match rows.as_slice().get(at) {
+            Some(row) => row.point == point,
+            None => false,
+        },
         None => false,
     }
 }

@@ -4,9 +4,9 @@ ghost use Rattle.std.specs.Prelude.{◌≡◌, ◌↔◌, true, IsTrue, IfOk, Is
 ghost use Rattle.net_data.specs.Kinds.{is_link, is_of_links, is_of_points, is_of_sets, is_of_plans};
 
 use link_state::LinkChange;
-use net_items::copies::{copy_plan, copy_slcs};
+use net_items::copies::{copy_given, copy_slcs};
 use net_items::equals::{are_same_slcs, is_same_change, is_same_plan};
-use net_items::{Kind, Plan, Slcs};
+use net_items::{GivenPlan, Kind, Slcs};
 pub use plan_rows::causes::Cause;
 use point_codes::PointCode;
 use std::alloc::{AllocError, Global};
@@ -33,7 +33,7 @@ pub enum Event {
     /// A link of a set goes.
     RemoveLink(u16, u8),
     /// A plan, in the place of one of its destination.
-    SetPlan(Plan),
+    SetPlan(GivenPlan),
     /// The plan of a destination goes.
     DropPlan(PointCode),
     /// The option of transfer-restricted messages (Q.704 clause 13.4).
@@ -101,7 +101,7 @@ impl Event {
             Event::RemoveSet(id) => Event::RemoveSet(*id),
             Event::AddLink(id, slc) => Event::AddLink(*id, *slc),
             Event::RemoveLink(id, slc) => Event::RemoveLink(*id, *slc),
-            Event::SetPlan(plan) => Event::SetPlan(copy_plan(alloc, plan)?),
+            Event::SetPlan(plan) => Event::SetPlan(copy_given(alloc, plan)?),
             Event::DropPlan(dest) => Event::DropPlan(*dest),
             Event::SetTfr(tfr) => Event::SetTfr(*tfr),
         })
@@ -177,7 +177,9 @@ fn is_same_of_plans(one: &Event, other: &Event) -> bool
     ensures { IsTrue result ↔ (one.now ≡ other.now) }
 {
     match (one, other) {
-        (Event::SetPlan(plan), Event::SetPlan(plan2)) => is_same_plan(plan, plan2),
+        (Event::SetPlan(plan), Event::SetPlan(plan2)) => {
+            is_same_plan(plan.as_plan(), plan2.as_plan())
+        }
         (Event::DropPlan(dest), Event::DropPlan(dest2)) => dest == dest2,
         (Event::SetTfr(tfr), Event::SetTfr(tfr2)) => tfr == tfr2,
         _ => false,

@@ -166,7 +166,7 @@ impl Net {
             Event::RemoveSet(id) => self.refusal_of_remove_set(*id),
             Event::AddLink(id, slc) => self.refusal_of_add_link(*id, *slc),
             Event::RemoveLink(id, slc) => self.refusal_of_remove_link(*id, *slc),
-            Event::SetPlan(plan) => self.refusal_of_set_plan(plan),
+            Event::SetPlan(plan) => self.refusal_of_set_plan(plan.as_plan()),
             Event::DropPlan(dest) => self.refusal_of_drop_plan(*dest),
             Event::SetTfr(_) => None,
         }
@@ -327,7 +327,7 @@ impl Net {
             Event::RemoveSet(id) => self.remove_set(*id),
             Event::AddLink(id, slc) => return self.add_link(*id, *slc),
             Event::RemoveLink(id, slc) => self.remove_link(*id, *slc),
-            Event::SetPlan(plan) => return self.put_copy(alloc, plan),
+            Event::SetPlan(plan) => return self.put_copy(alloc, plan.as_plan()),
             Event::DropPlan(dest) => self.drop_plan(*dest),
             Event::SetTfr(tfr) => self.set_tfr(*tfr),
         }
@@ -366,7 +366,7 @@ impl Net {
         ensures no_memory { takes_none event ≡ true → result ≢ Err Refusal.OutOfMemory }
     {
         match event {
-            Event::SetPlan(plan) => self.set_plan(alloc, plan),
+            Event::SetPlan(plan) => self.set_plan(alloc, plan.into_plan()),
             other => self.apply(alloc, &other),
         }
     }

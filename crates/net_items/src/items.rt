@@ -1,7 +1,11 @@
 //! Points, link sets and plans.
 
+ghost use Rattle.std.specs.Prelude.{◌≡◌, IfOk};
+
 use crate::lists::{Links, Rows};
 use point_codes::PointCode;
+use std::alloc::{AllocError, Global};
+use std::marker::Model;
 
 /// The kind of a signalling point (Q.705).
 #[derive(Clone, Copy, Debug, PartialEq, Eq)]
@@ -43,4 +47,44 @@ pub struct Plan {
     pub dest: PointCode,
     /// The rows, one for each point that has routes.
     pub rows: Rows,
+}
+
+/// A plan as an event holds it: in a box, so that an event is small.
+#[derive(Debug, Drop)]
+pub struct GivenPlan {
+    held: Box<Plan>,
+}
+
+impl Model for GivenPlan {
+    ghost use Rattle.net_items.specs.declared.items.Plan.{Plan};
+
+    ghost Value = { Plan };
+
+    ghost view = { λ p. p.held.value };
+}
+
+impl GivenPlan {
+    /// This plan.
+    pub fn new(alloc: Global, plan: Plan) -> Result<GivenPlan, AllocError>
+        ensures { IfOk result (λ p. p ≡ plan) }
+    {
+        Ok(GivenPlan {
+            held: Box::new(alloc, plan)?,
+        })
+    }
+
+    /// The plan.
+    pub fn as_plan(&self) -> &Plan
+        ensures { result.now ≡ self.now }
+    {
+        &self.held
+    }
+
+    /// The plan, out of its box.
+    pub fn into_plan(self) -> Plan
+        ensures { result ≡ self }
+    {
+        let GivenPlan { held } = self;
+        Box::into_inner(held)
+    }
 }

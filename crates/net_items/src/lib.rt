@@ -23,7 +23,7 @@ pub mod lookups;
 pub mod vias;
 
 pub use classes::Classes;
-pub use items::{Kind, LinkSet, Plan, Point};
+pub use items::{GivenPlan, Kind, LinkSet, Plan, Point};
 pub use links::Link;
 pub use lists::{Links, Row, Rows, Slcs};
 pub use vias::Vias;

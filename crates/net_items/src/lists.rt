@@ -125,17 +125,11 @@ pub struct Row {
     pub classes: Classes,
 }
 
-/// Rows, and the codes of their points side by side: a search among these reads no row.
-#[derive(Debug, Drop)]
-pub(crate) struct RowList {
-    list: Vec<Row>,
-    codes: Vec<PointCode>,
-}
-
-/// The rows of a plan. They stand in a box, so that an event is small.
+/// The rows of a plan, and the codes of their points side by side: a search among these reads no row.
 #[derive(Debug, Drop)]
 pub struct Rows {
-    held: Box<RowList>,
+    list: Vec<Row>,
+    codes: Vec<PointCode>,
 }
 
 impl Model for Rows {
@@ -144,9 +138,9 @@ impl Model for Rows {
 
     ghost Value = { List Row };
 
-    ghost view = { λ l. l.held.value.list.items };
+    ghost view = { λ r. r.list.items };
 
-    ghost invariant = { λ l. l.held.value.codes.items ≡ map (λ (r : Row). r.point) l.held.value.list.items };
+    ghost invariant = { λ r. r.codes.items ≡ map (λ (row : Row). row.point) r.list.items };
 }
 
 /// The codes of the points of rows, in their places.
@@ -162,17 +156,14 @@ impl Rows {
         ensures { IfOk result (λ rows. rows ≡ list.items) }
     {
         let codes = codes_of(alloc, &list)?;
-        Ok(Rows {
-            held: Box::new(alloc, RowList { list, codes })?,
-        })
+        Ok(Rows { list, codes })
     }
 
     /// The rows in a vector.
     pub fn into_vec(self) -> Vec<Row>
         ensures { result.items ≡ self }
     {
-        let Rows { held } = self;
-        let RowList { list, .. } = Box::into_inner(held);
+        let Rows { list, .. } = self;
         list
     }
 
@@ -180,14 +171,14 @@ impl Rows {
     pub fn as_slice(&self) -> &[Row]
         ensures { result.now ≡ self.now }
     {
-        self.held.list.as_slice()
+        self.list.as_slice()
     }
 
     /// The codes of the points of the rows, in their places.
     pub fn codes(&self) -> &[PointCode]
         ensures { result.now ≡ map (λ r. r.point) self.now }
     {
-        self.held.codes.as_slice()
+        self.codes.as_slice()
     }
 }
 

@@ -63,18 +63,22 @@ fn leaves_the_first_class(rt: HostRuntime) -> Result<(), Fail> {
     Ok(())
 }
 
+/// The choice of the row where its mate alone offers something.
+fn chosen_of_mate(alloc: Global, mate: PointCode) -> Result<Choice, Fail> {
+    let row = new_row(alloc)?;
+    let fars = [[Far::Prohibited; 2]; 4];
+    Ok(choose(&row, &fars, Some((mate, Far::Restricted)), true))
+}
+
 #[test]
 fn uses_the_mate(rt: HostRuntime) -> Result<(), Fail> {
     let mate = code("0-1-1")?;
-    let row = new_row(rt.alloc())?;
-    let fars = [[Far::Prohibited; 2]; 4];
     let wanted = Choice {
         class: 5,
         members: [Some(mate), None],
         status: Far::Restricted,
     };
-    let chosen = choose(&row, &fars, Some((mate, Far::Restricted)), true);
-    assert_eq!(rt; chosen, wanted);
+    assert_eq!(rt; chosen_of_mate(rt.alloc(), mate)?, wanted);
     Ok(())
 }
 

@@ -31,10 +31,14 @@ fn sets_of(alloc: Global, parts: &[(u16, &str, &str, Marks)]) -> Result<Vec<Link
 
 /// Whether the copy of a set equals it, and another.
 fn equal_sets(alloc: Global) -> Result<(bool, bool), Fail> {
-    let one = set_between(alloc, 1, "2-1-1", "2-10-1", [CLEAR; 2])?;
-    let two = set_between(alloc, 2, "2-1-1", "2-10-2", [CLEAR; 2])?;
-    let copy = copy_set(alloc, &one)?;
-    Ok((is_same_set(&copy, &one), is_same_set(&copy, &two)))
+    let sets = sets_of(alloc, &SIX[..2])?;
+    match sets.as_slice() {
+        [one, two] => {
+            let copy = copy_set(alloc, one)?;
+            Ok((is_same_set(&copy, one), is_same_set(&copy, two)))
+        }
+        _ => Ok((false, false)),
+    }
 }
 
 #[test]

@@ -8,7 +8,7 @@ ghost use Rattle.script_words.specs.Events.{added_point_of, dropped_point_of, po
 use crate::lists::{read_rows, read_slcs};
 use crate::words::is_word;
 use net_data::Event;
-use net_items::{Plan, Slcs};
+use net_items::{GivenPlan, Plan, Slcs};
 use std::alloc::{AllocError, Global};
 use tokens::{read_code, read_id, read_kind, read_slc};
 
@@ -213,7 +213,7 @@ pub fn read_plan(alloc: Global, words: &[&[u8]]) -> Result<Option<Event>, AllocE
                 return Ok(None);
             };
             match read_rows(alloc, rows)? {
-                Some(rows) => Ok(Some(Event::SetPlan(Plan { dest, rows }))),
+                Some(rows) => Ok(Some(Event::SetPlan(GivenPlan::new(alloc, Plan { dest, rows })?))),
                 None => Ok(None),
             }
         }

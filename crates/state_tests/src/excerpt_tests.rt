@@ -74,12 +74,17 @@ fn an_excerpt_wants_a_plan(rt: HostRuntime) {
     assert_eq!(rt; none.err(), Some(ExcerptFault::NoPlan));
 }
 
+/// An excerpt tells the kinds of the points of a network.
+fn expect_kinds(rt: &impl Abort, excerpt: &Excerpt, net: &Frozen) {
+    for known in net.net().points() {
+        assert!(rt; excerpt.kind_of(known.code) == Some(known.kind));
+    }
+}
+
 #[test]
 fn an_excerpt_tells_the_kinds_of_points(rt: HostRuntime) {
     let net = frozen(&rt, rt.alloc(), worked_after(&rt, rt.alloc(), &[]));
     let excerpt = excerpt_of(&rt, &net, "2-1-2");
-    for known in net.net().points() {
-        assert!(rt; excerpt.kind_of(known.code) == Some(known.kind));
-    }
+    expect_kinds(&rt, &excerpt, &net);
     assert!(rt; excerpt.kind_of(point(&rt, "7-7-7")).is_none());
 }

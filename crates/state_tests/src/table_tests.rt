@@ -28,12 +28,17 @@ fn expect_same(rt: &impl Abort, new: &Table, old: &Table, point: PointCode) {
     expect_same_messages(rt, new, old);
 }
 
+/// A table of the two ends is the same as another.
+fn expect_same_table(rt: &impl Abort, new: &Table, old: &Table) {
+    let shapes = [new, old].map(|it| (it.dest, it.rows.as_slice().len()));
+    assert_eq!(rt; shapes[0], shapes[1]);
+    expect_same(rt, new, old, point(rt, "2-1-1"));
+    expect_same(rt, new, old, point(rt, "2-10-1"));
+}
+
 #[test]
 fn copies_a_table(rt: HostRuntime) {
     let table = two_ends_table(&rt, rt.alloc());
     let copy = table.copy(rt.alloc()).expect(&rt, "memory");
-    let shapes = [&table, &copy].map(|it| (it.dest, it.rows.as_slice().len()));
-    assert_eq!(rt; shapes[0], shapes[1]);
-    expect_same(&rt, &copy, &table, point(&rt, "2-1-1"));
-    expect_same(&rt, &copy, &table, point(&rt, "2-10-1"));
+    expect_same_table(&rt, &copy, &table);
 }

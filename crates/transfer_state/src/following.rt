@@ -276,8 +276,7 @@ fn followed(
     Ok(None)
 }
 
-/// How many rows at the ends of sets that turned stand where they are expected: about so many will be marked. They are read here
-/// in one pass, so that those which come from memory come at once.
+/// How many rows at the ends of sets that turned stand where they are expected, by their codes.
 fn count_expected(e: &Excerpt, turned: &[Ends]) -> usize {
     let mut count = 0usize;
     for ends in turned {
@@ -286,6 +285,24 @@ fn count_expected(e: &Excerpt, turned: &[Ends]) -> usize {
         }
     }
     count
+}
+
+/// How many of them stand near there.
+fn count_near(e: &Excerpt, turned: &[Ends]) -> usize {
+    let mut count = 0usize;
+    for ends in turned {
+        if ends.transfers {
+            count = count.saturating_add(usize::from(e.is_near(ends.point)));
+        }
+    }
+    count
+}
+
+/// About how many rows will be marked. One pass reads their codes and the next one the rows, so that what comes from memory comes at
+/// once, and not one row after the other while they are marked.
+fn expected_marks(e: &Excerpt, turned: &[Ends]) -> usize {
+    let expected = count_expected(e, turned);
+    expected.max(count_near(e, turned))
 }
 
 /// The choices of all rows, if few have to be chosen anew: those before, shared, if none has to.
@@ -303,7 +320,7 @@ pub(crate) fn choices_after(
 {
     e.validity();
     before.validity();
-    let mut marks = Vec::with_capacity(alloc, count_expected(e, turned))?;
+    let mut marks = Vec::with_capacity(alloc, expected_marks(e, turned))?;
     mark_turned(e, &mut marks, turned)?;
     if marks.is_empty() {
         return Ok(Some(Arc::try_clone(choices)?));

@@ -9,7 +9,7 @@ ghost use Rattle.net_versions.specs.Versions.{routing_at};
 ghost use Rattle.what_if.specs.Reports.{changes as the_changes, IsAlike, change_between, changes_between, status_of as the_status};
 
 use crate::changes::{Change, is_same};
-use crate::codes::{dests_of, merged, points_of};
+use crate::codes::{dests_of_both, merged, points_of};
 use excerpts::{Ends, Excerpt, ExcerptFault, Frozen};
 use net_versions::Version;
 use point_codes::PointCode;
@@ -234,8 +234,7 @@ pub(crate) fn changes_of(
     requires { IfSome turned (λ list. HasTurned version.now.network net.now list.now) }
     ensures { IfOk result (λ v. v.items ≡ the_changes version.now.network net.now) }
 {
-    let old_dests = dests_of(alloc, version.net().net())?;
-    let dests = merged(old_dests.as_slice(), dests_of(alloc, net.net())?)?;
+    let dests = dests_of_both(alloc, version.net().net(), net.net())?;
     let mut changes = Vec::new(alloc);
     for dest in dests.as_slice() {
         add_changes(alloc, version, net, turned, *dest, &mut changes)?;
