@@ -3,9 +3,11 @@
 ghost use Rattle.std.specs.Prelude.{◌≡◌, IfOk, IfSome, find as first_that, map, option_map, string_bytes};
 ghost use Rattle.answers.specs.Help.{forms as all_forms, is_of, other_answer, value_of};
 ghost use Rattle.answers.specs.Text.{line_count};
+ghost use Rattle.tokens.specs.Words.{words_of};
 
 use crate::plain::write_bad_line;
 use std::alloc::{AllocError, Global};
+use tokens::split_words;
 
 /// A word that begins a command, and what is told of it.
 struct Form {
@@ -170,9 +172,8 @@ fn form_of(word: &[u8]) -> Option<&'static str>
     find_among(forms(), word).map(|form| form.text)
 }
 
-/// What is answered to a line that is no command, by its words: `help` tells every word that begins one, `help WORD` the form of
-/// that word's commands, with an example; any other is refused as a bad line. It fails if memory is refused.
-pub fn answer_other(alloc: Global, words: &[&[u8]]) -> Result<String, AllocError>
+/// What is answered to the words of a line that is no command.
+fn answer_words(alloc: Global, words: &[&[u8]]) -> Result<String, AllocError>
     ensures text { IfOk result (λ text. string_bytes text ≡ other_answer (map (λ w. w.now) words.now)) }
     ensures plain { IfOk result (λ text. line_count (string_bytes text) ≡ 0) }
 {
@@ -190,4 +191,14 @@ pub fn answer_other(alloc: Global, words: &[&[u8]]) -> Result<String, AllocError
         },
         [_, _, ..] => write_bad_line(alloc),
     }
+}
+
+/// What is answered to a line that is no command: `help` tells every word that begins one, `help WORD` the form of that word's
+/// commands, with an example; any other is refused as a bad line. It fails if memory is refused.
+pub fn answer_other(alloc: Global, line: &[u8]) -> Result<String, AllocError>
+    ensures text { IfOk result (λ text. string_bytes text ≡ other_answer (words_of line.now)) }
+    ensures plain { IfOk result (λ text. line_count (string_bytes text) ≡ 0) }
+{
+    let words = split_words(alloc, line)?;
+    answer_words(alloc, words.as_slice())
 }

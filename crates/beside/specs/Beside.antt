@@ -1,5 +1,5 @@
 -- What the lines of a script do beside workers (own).
-use Rattle.std.specs.Prelude.{◌≡◌, ◌≤◌, ℕ, List, [], ◌∷◌, Option, Some, None, replicate}
+use Rattle.std.specs.Prelude.{◌≡◌, ◌≤◌, ℕ, Bool, true, false, List, [], ◌∷◌, Option, Some, None, replicate}
 use mathlib.Core.List.{IsPrefix}
 use Rattle.net_data.specs.Network.{Network}
 use Rattle.net_versions.specs.Versions.{VersionValue, settled_version}
@@ -66,6 +66,14 @@ pub record Looks (old : BesideValue) (version : VersionValue) (new : BesideValue
 -- a console at whose desk this version is published, and nothing is pending
 abbrev pub showing : VersionValue → ConsoleValue
 showing version = at_console (record { published = version; pending = []; lasts = []; target = None; spare = 0 })
+
+-- whether something is asked of the published version
+abbrev pub is_asked : Command → Bool
+is_asked (command.About asked y x) = true
+is_asked (command.Trace y x s) = true
+is_asked (command.WhatIf events) = true
+is_asked command.Audit = true
+is_asked _ = false
 
 -- what is asked is answered from the version of a look
 abbrev pub Asks : Command → BesideValue → List ℕ → BesideValue → Type 0

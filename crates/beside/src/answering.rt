@@ -1,45 +1,24 @@
 //! Who answers a script beside workers.
 
 ghost use Rattle.std.specs.Prelude.{◌≡◌, ◌≤◌, [], IfErr, IfOk, IfSome, string_bytes};
-ghost use Rattle.answers.specs.Help.{other_answer};
 ghost use Rattle.answers.specs.Text.{line_count};
 ghost use Rattle.desk_core.specs.Desk.{accepted};
 ghost use Rattle.desk_console.specs.Taken.{event_of};
 ghost use Rattle.net_versions.specs.Versions.{VersionValue};
-ghost use Rattle.script_words.specs.Commands.{IsWithin, command_of};
-ghost use Rattle.tokens.specs.Words.{words_of};
+ghost use Rattle.script_words.specs.Commands.{IsWithin};
 ghost use Rattle.sessions.specs.Run.{CutsOff};
 ghost use Rattle.beside.specs.Beside.{DoesBeside, Looks, SyncsBeside};
 
 use crate::visitor::Visitor;
 use answers::{Answer, answer_other, write_bad_line, write_synced};
 use net_data::{Event, Net};
-use script_words::{Command, read_command};
+use script_words::{Command, read_line};
 use sessions::{Answering, Fault};
 use std::alloc::{AllocError, Global};
 use std::marker::Model;
 use std::sync::{Condvar, Mutex, Wait};
-use tokens::split_words;
 use versions::{ByClient, Hub, Naming};
 use worker_pool::lend_a_hand;
-
-/// The command that a line is.
-fn read_line(alloc: Global, line: &[u8]) -> Result<Option<Command>, AllocError>
-    ensures value { IfOk result (λ command. command ≡ command_of (words_of line.now)) }
-    ensures within { IfOk result (λ command. IfSome command IsWithin) }
-{
-    let words = split_words(alloc, line)?;
-    read_command(alloc, words.as_slice())
-}
-
-/// What is answered to a line that is no command.
-fn answer_no_command(alloc: Global, line: &[u8]) -> Result<String, AllocError>
-    ensures text { IfOk result (λ text. string_bytes text ≡ other_answer (words_of line.now)) }
-    ensures plain { IfOk result (λ text. line_count (string_bytes text) ≡ 0) }
-{
-    let words = split_words(alloc, line)?;
-    answer_other(alloc, words.as_slice())
-}
 
 /// Who answers a script beside workers: it comes to their hub under its lock, and reads what is published without it. Contracts
 /// see how it left the hub, and what it has seen.
@@ -121,17 +100,29 @@ impl<'a, N: Naming, R: Wait> Beside<'a, N, R> {
         lend_a_hand(self.rt, alloc, self.hub, self.changed)
     }
 
+    /// Looks, and waits for a change if not all that was accepted is shown: the number of the version that shows it.
+    fn look_synced(&mut self, alloc: Global) -> Result<Option<u64>, Fault>
+        ensures looks { IfOk result (λ shown. (version : VersionValue) × Looks self.old version self.new
+            × IfSome shown (λ n. (accepted self.old.left.desk ≤ version.number) × (n ≡ version.number))) }
+        ensures fault { IfErr result (CutsOff (Unit {0})) }
+    {
+        let number = self.visitor.look_number()?;
+        if number >= self.visitor.accepted() {
+            return Ok(Some(number));
+        }
+        self.wait(alloc)?;
+        Ok(None)
+    }
+
     /// Waits for a look that shows all that was accepted: its number.
     fn wait_synced(&mut self, alloc: Global) -> Result<u64, Fault>
         ensures synced { IfOk result (λ n. (version : VersionValue) × Looks self.old version self.new × (accepted self.old.left.desk ≤ version.number) × (n ≡ version.number)) }
         ensures fault { IfErr result (CutsOff (Unit {0})) }
     {
         for _ in self.rt.forever() {
-            let number = self.visitor.look_number()?;
-            if number >= self.visitor.accepted() {
+            if let Some(number) = self.look_synced(alloc)? {
                 return Ok(number);
             }
-            self.wait(alloc)?;
         }
         unreachable!()
     }
@@ -158,18 +149,27 @@ impl<'a, N: Naming, R: Wait> Beside<'a, N, R> {
             Command::Event(_) | Command::Post(_, _, _) => unreachable!(),
             Command::Sync => self.sync(alloc),
             Command::Version => self.version(alloc),
-            Command::About(asked, point, dest) => {
-                self.visitor.ask_row(alloc, *asked, *point, *dest)
-            }
-            Command::Trace(point, dest, s) => self.visitor.ask_trace(alloc, *point, *dest, *s),
-            Command::WhatIf(events) => self.visitor.ask_what_if(alloc, events.as_slice()),
-            Command::Audit => self.visitor.ask_audit(alloc),
+            Command::About(_, _, _)
+            | Command::Trace(_, _, _)
+            | Command::WhatIf(_)
+            | Command::Audit => self.visitor.ask(alloc, command),
             Command::Open
             | Command::Take(_)
             | Command::Give(_)
             | Command::Abandon(_)
             | Command::Publish => Ok(write_bad_line(alloc)?),
         }
+    }
+
+    /// Does what a command says that posts nothing, and goes then.
+    fn obey_whole(&mut self, alloc: Global, command: Command) -> Result<Answer, Fault>
+        requires within { IsWithin command }
+        requires none { event_of command ≡ [] }
+        ensures does { IfOk result (λ answer. DoesBeside command self.old answer self.new) }
+        ensures plain { IfOk result (λ answer. line_count answer ≡ 0) }
+        ensures fault { IfErr result (CutsOff (Unit {0})) }
+    {
+        self.obey_silently(alloc, &command).map(Answer::of_text)
     }
 
     /// Does what a command says.
@@ -182,7 +182,7 @@ impl<'a, N: Naming, R: Wait> Beside<'a, N, R> {
         match command {
             Command::Event(event) => self.post_next(alloc, event),
             Command::Post(collector, seq, event) => self.post(alloc, collector, seq, event),
-            other => Ok(Answer::of_text(self.obey_silently(alloc, &other)?)),
+            other => self.obey_whole(alloc, other),
         }
     }
 }
@@ -199,7 +199,7 @@ impl<'a, N: Naming, R: Wait> Answering for Beside<'a, N, R> {
     fn answer(&mut self, alloc: Global, line: &[u8]) -> Result<Answer, Fault> {
         match read_line(alloc, line)? {
             Some(command) => self.obey(alloc, command),
-            None => Ok(Answer::of_text(answer_no_command(alloc, line)?)),
+            None => Ok(Answer::of_text(answer_other(alloc, line)?)),
         }
     }
 

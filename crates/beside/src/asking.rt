@@ -1,23 +1,41 @@
 //! What is asked of the published version: it is answered from a look, without the lock.
 
-ghost use Rattle.std.specs.Prelude.{◌≡◌, ◌<◌, IfErr, IfOk, string_bytes};
+ghost use Rattle.std.specs.Prelude.{◌≡◌, ◌<◌, true, IfErr, IfOk, string_bytes};
 ghost use Rattle.answers.specs.Text.{line_count};
 ghost use Rattle.sessions.specs.Run.{CutsOff};
-ghost use Rattle.beside.specs.Beside.{Asks};
+ghost use Rattle.script_words.specs.Commands.{IsWithin};
+ghost use Rattle.beside.specs.Beside.{Asks, is_asked};
 ghost use Rattle.script_words.specs.declared.commands.Command.TheVariants as command;
 
 use crate::visitor::Visitor;
 use answers::{answer_about, answer_audit, answer_trace, answer_what_if};
 use net_data::Event;
 use point_codes::PointCode;
-use script_words::Question;
+use script_words::{Command, Question};
 use sessions::Fault;
 use std::alloc::Global;
 use versions::Naming;
 
 impl<N: Naming> Visitor<N> {
+    /// What a command asks of the published version.
+    pub(crate) fn ask(&mut self, alloc: Global, command: &Command) -> Result<String, Fault>
+        requires within { IsWithin command.now }
+        requires asked { is_asked command.now ≡ true }
+        ensures text { IfOk result (λ text. Asks command.now self.old (string_bytes text) self.new) }
+        ensures plain { IfOk result (λ text. line_count (string_bytes text) ≡ 0) }
+        ensures fault { IfErr result (CutsOff (Unit {0})) }
+    {
+        match command {
+            Command::About(asked, point, dest) => self.ask_row(alloc, *asked, *point, *dest),
+            Command::Trace(point, dest, s) => self.ask_trace(alloc, *point, *dest, *s),
+            Command::WhatIf(events) => self.ask_what_if(alloc, events.as_slice()),
+            Command::Audit => self.ask_audit(alloc),
+            _ => unreachable!(),
+        }
+    }
+
     /// What is asked of the row of a point.
-    pub(crate) fn ask_row(
+    fn ask_row(
         &mut self,
         alloc: Global,
         asked: Question,
@@ -33,7 +51,7 @@ impl<N: Naming> Visitor<N> {
     }
 
     /// A trace.
-    pub(crate) fn ask_trace(
+    fn ask_trace(
         &mut self,
         alloc: Global,
         point: PointCode,
@@ -50,7 +68,7 @@ impl<N: Naming> Visitor<N> {
     }
 
     /// What events would change.
-    pub(crate) fn ask_what_if(&mut self, alloc: Global, events: &[Event]) -> Result<String, Fault>
+    fn ask_what_if(&mut self, alloc: Global, events: &[Event]) -> Result<String, Fault>
         ensures text { IfOk result (λ text. Asks (command.WhatIf events.now) self.old (string_bytes text) self.new) }
         ensures plain { IfOk result (λ text. line_count (string_bytes text) ≡ 0) }
         ensures fault { IfErr result (CutsOff (Unit {0})) }
@@ -60,7 +78,7 @@ impl<N: Naming> Visitor<N> {
     }
 
     /// A check of all tables.
-    pub(crate) fn ask_audit(&mut self, alloc: Global) -> Result<String, Fault>
+    fn ask_audit(&mut self, alloc: Global) -> Result<String, Fault>
         ensures text { IfOk result (λ text. Asks command.Audit self.old (string_bytes text) self.new) }
         ensures plain { IfOk result (λ text. line_count (string_bytes text) ≡ 0) }
         ensures fault { IfErr result (CutsOff (Unit {0})) }

@@ -2,18 +2,19 @@
 
 ghost use Rattle.std.specs.Prelude.{◌≡◌, ◌∷◌, [], Err, IfErr, IfOk, OnErr, OnOk, string_bytes};
 ghost use Rattle.std.specs.Arc.{arc_value};
+ghost use mathlib.Core.List.{IsPrefix};
 ghost use Rattle.answers.specs.Replies.{posted_text, refused_text};
 ghost use Rattle.answers.specs.Text.{line_count};
 ghost use Rattle.net_versions.specs.Versions.{VersionValue};
 ghost use Rattle.desk_core.specs.Desk.{accepted};
 ghost use Rattle.desk_core.specs.Steps.{Posts};
-ghost use Rattle.desk_console.specs.Does.{Calls, PostsNext, Tells, version_of};
+ghost use Rattle.desk_console.specs.Does.{Calls, HasMemory, PostsNext, Tells, version_of};
 ghost use Rattle.sessions.specs.Run.{CutsOff};
 ghost use Rattle.beside.specs.Beside.{DoesAt, DoesThere, Finds, LeavesBeside, Looks};
 
 use answers::{Answer, write_posted, write_refused, write_version};
 use desk_console::has_memory;
-use desk_core::Refusal;
+use desk_core::{Posted, Refusal};
 use net_data::{Event, Net};
 use sessions::Fault;
 use std::alloc::Global;
@@ -40,6 +41,29 @@ impl<N: Naming> Model for Visitor<N> {
     ghost view = { λ v. record { left = v.client; seen = v.reader.chain } };
 
     ghost invariant = { λ v. v.accepted ≡ accepted_by v.client.desk };
+}
+
+/// Tells a reader what is published at a hub.
+fn tell<N: Naming>(hub: &Hub<N, ByClient>, reader: &mut Reader<N>) -> Result<(), Fault>
+    ensures told { OnOk result ((reader.new.chain ≡ hub.now.state.shown.chain) × IsPrefix reader.old.chain reader.new.chain) }
+    ensures fault { OnErr result (result ≡ Err Fault.NoPlace) }
+{
+    match hub.tell(reader) {
+        Ok(()) => Ok(()),
+        Err(_) => Err(Fault::NoPlace),
+    }
+}
+
+/// The answer to a post, if memory sufficed for it.
+fn answer_post(alloc: Global, reply: Result<Posted, Refusal>) -> Result<Answer, Fault>
+    ensures text { IfOk result (λ answer. HasMemory reply × (answer ≡ posted_text reply)) }
+    ensures plain { IfOk result (λ answer. line_count answer ≡ 0) }
+    ensures fault { IfErr result (CutsOff (Unit {0})) }
+{
+    if !has_memory(&reply) {
+        return Err(Fault::OutOfMemory);
+    }
+    Ok(write_posted(alloc, reply)?)
 }
 
 impl<N: Naming> Visitor<N> {
@@ -73,10 +97,7 @@ impl<N: Naming> Visitor<N> {
     {
         self.client.visit(rt, hub);
         self.accepted = hub.desk().accepted();
-        match hub.tell(&mut self.reader) {
-            Ok(()) => Ok(()),
-            Err(_) => Err(Fault::NoPlace),
-        }
+        tell(hub, &mut self.reader)
     }
 
     /// A post, at the hub as it is found.
@@ -95,13 +116,10 @@ impl<N: Naming> Visitor<N> {
     {
         let reply = self.client.post(rt, alloc, hub, collector, seq, event);
         self.accepted = hub.desk().accepted();
-        let Ok(()) = hub.tell(&mut self.reader) else {
-            return Err(Fault::NoPlace);
-        };
-        if !has_memory(&reply) {
-            return Err(Fault::OutOfMemory);
+        if let Err(fault) = tell(hub, &mut self.reader) {
+            return Err(fault);
         }
-        Ok(write_posted(alloc, reply)?)
+        answer_post(alloc, reply)
     }
 
     /// A post.

@@ -8,7 +8,7 @@ use Rattle.std.proofs.lemmas.Result.{OkIff-at_ok}
 use Rattle.std.proofs.lemmas.Str.Parse.{IsNumeralModel, numerals_by_value, parse_plain, parse_plus, tells_digits}
 use Rattle.clap.specs.Words.{Row, Text}
 use Rattle.command_line.specs.declared.words.Order.{Order}
-use Rattle.command_line.specs.declared.words.Order.TheVariants.{Run, Play, Check, Explain}
+use Rattle.command_line.specs.declared.words.Order.TheVariants.{Run, Play, Check, Picture, Import, Export, Explain}
 use Rattle.command_line.specs.Words.{IsOrder, IsPadded, IsWithin, IsWorkers}
 
 own : IsNumeralModel (AllDigits 10) (digits_value 10)
@@ -56,4 +56,7 @@ pub order_within : (order : Order) (found : Option (Text × List Row)) → IsOrd
 order_within (Run net workers save) found is = count_within _ workers is.3
 order_within (Play net steps save) found is = tt
 order_within (Check net) found is = tt
+order_within (Picture net about svg) found is = tt
+order_within (Import dir) found is = tt
+order_within (Export net dir) found is = tt
 order_within (Explain what) found is = tt

@@ -1,5 +1,5 @@
 -- Where a walk over words has no fault, each row that it makes has a value.
-use Rattle.std.proofs.Common.{◌≡◌, ◌&&◌, ◌++◌, ℕ, Bool, true, false, cond, zero, suc, List, [], ◌∷◌, length, drop, Option, Some, None, is_some, refl, sym, subst}
+use Rattle.std.proofs.Common.{◌≡◌, ◌&&◌, ◌++◌, ℕ, Bool, true, false, cond, zero, suc, List, [], ◌∷◌, length, drop, Option, Some, None, is_some, refl, sym, subst, codes}
 use Rattle.std.specs.Prelude.{IfSome, encode_utf8, slice_get, find, fold}
 use Rattle.std.specs.Option.{option_and_then, option_map_or}
 use Rattle.std.specs.Str.{bytes_eq, chars}
@@ -10,9 +10,9 @@ use Rattle.clap.specs.Walk.{Held, Names, Outcome, done, waits, plain, refused, R
 use Rattle.clap.specs.Simple.{Shape}
 use Rattle.clap.specs.Takes.{is_given}
 use Rattle.clap.specs.Faults.{action_fault, bundle_fault, bundle_step_fault, check_fault, defaults_fault, flag_word_fault, flags_fault, level_fault, long_fault, option_fault, other_fault, positional_fault, react_fault, settle_fault, short_fault, step_fault, stray_fault, turn_fault, use_fault, walk_fault, word_fault}
-use Rattle.clap.specs.declared.builder.action.ArgAction.TheVariants.{Set, Help}
+use Rattle.clap.specs.declared.builder.action.ArgAction.TheVariants.{Set, SetTrue, Help}
 use Rattle.clap.specs.declared.error.kind.ErrorKind.TheVariants.{TooManyValues}
-use Rattle.clap.specs.declared.parser.matches.ValueSource.TheVariants.{CommandLine}
+use Rattle.clap.specs.declared.parser.matches.ValueSource.TheVariants.{CommandLine, DefaultValue}
 use Rattle.clap.specs.declared.builder.value_parser.Reading.{Reading}
 
 -- each row has a value
@@ -24,10 +24,10 @@ AllFilled (r ∷ rows) = (is_some (slice_get r.values 0) ≡ true) × AllFilled 
 abbrev pub Fills : Rule → Type 0
 Fills a = (again : Bool) (values : List Text) (rows : List Row) → use_fault again a values rows ≡ [] → AllFilled rows → AllFilled (used a values rows)
 
--- each argument does so, and has no default
+-- each argument does so
 abbrev pub AllFill : List Rule → Type 0
 AllFill [] = Unit {0}
-AllFill (a ∷ rest) = Fills a × (a.defaults ≡ []) × AllFill rest
+AllFill (a ∷ rest) = Fills a × AllFill rest
 
 -- where two steps in turn have no fault, neither has one
 pub none_of_both : (a b : Kinds) → or_else a b ≡ [] → (a ≡ []) × (b ≡ [])
@@ -66,6 +66,14 @@ pub set_fills : (a : Rule) → action_of a ≡ Set → (unwrap_or_range a.range)
 set_fills a set one again [] rows e h = absurd (some_wanted _ (most_values a) one (none_of_both _ _ e).0)
 set_fills a set one again (v ∷ vs) rows e h = subst (λ x. AllFilled (used_as x a.id (reading_by a) (v ∷ vs) rows)) (sym set) (set_filled a.id (reading_by a) v vs rows h)
 
+-- a flag that is set to true, which has its value from no word
+pub set_true_fills : (a : Rule) → action_of a ≡ SetTrue → a.missing ≡ codes "true" ∷ [] → Fills a
+set_true_fills a set missing again [] rows e h =
+    subst (λ x. AllFilled (used_as x a.id (reading_by a) a.missing rows)) (sym set)
+    (subst (λ values. AllFilled (used_as SetTrue a.id (reading_by a) values rows)) (sym missing) (set_filled a.id (reading_by a) (codes "true") [] rows h))
+set_true_fills a set missing again (v ∷ vs) rows e h =
+    subst (λ x. AllFilled (used_as x a.id (reading_by a) (v ∷ vs) rows)) (sym set) (set_filled a.id (reading_by a) v vs rows h)
+
 -- a flag that asks for help always has a fault
 pub help_fills : (a : Rule) → action_of a ≡ Help → Fills a
 help_fills a help again values rows e h =
@@ -77,7 +85,7 @@ help_fills a help again values rows e h =
 
 found_fills : (p : Rule → Bool) (rules : List Rule) → AllFill rules → IfSome (find p rules) Fills
 found_fills p [] fill = tt
-found_fills p (a ∷ rest) fill = go (p a) (found_fills p rest fill.2)
+found_fills p (a ∷ rest) fill = go (p a) (found_fills p rest fill.1)
   where
     go : (b : Bool) → IfSome (find p rest) Fills → IfSome (cond b (Some a) (find p rest)) Fills
     go true later = fill.0
@@ -237,16 +245,17 @@ module _ (s : Shape) (fill : AllFill s.rules) where
 
 -- ---- after the walk
 
-default_filled : (a : Rule) (rows : List Row) → a.defaults ≡ [] → AllFilled rows → AllFilled (with_default rows a)
-default_filled a rows none f = go (has_row a.id rows)
+default_filled : (a : Rule) (rows : List Row) → AllFilled rows → AllFilled (with_default rows a)
+default_filled a rows f = go (has_row a.id rows) a.defaults
   where
-    go : (b : Bool) → AllFilled (cond b rows (default_rows a.id (reading_by a) a.defaults rows))
-    go true = f
-    go false = subst (λ values. AllFilled (default_rows a.id (reading_by a) values rows)) (sym none) f
+    go : (b : Bool) (values : List Text) → AllFilled (cond b rows (default_rows a.id (reading_by a) values rows))
+    go true values = f
+    go false [] = f
+    go false (v ∷ vs) = at_row_filled a.id (more_values DefaultValue (v ∷ vs)) _ rows (λ r e. (first_more r.values (v ∷ vs) e, tt)) (refl, tt) f
 
-defaults_filled : (rules : List Rule) (rows : List Row) → AllFill rules → AllFilled rows → AllFilled (fold with_default rows rules)
-defaults_filled [] rows fill f = f
-defaults_filled (a ∷ rest) rows fill f = defaults_filled rest (with_default rows a) fill.2 (default_filled a rows fill.1 f)
+defaults_filled : (rules : List Rule) (rows : List Row) → AllFilled rows → AllFilled (fold with_default rows rules)
+defaults_filled [] rows f = f
+defaults_filled (a ∷ rest) rows f = defaults_filled rest (with_default rows a) (default_filled a rows f)
 
 -- a level without a fault has a value in each row, and passes the last checks
 pub level_filled : (s : Shape) (words : List Text) → AllFill s.rules → level_fault s [] nothing_held words false [] ≡ []
@@ -257,7 +266,7 @@ level_filled s words fill e =
     let ended = none_of_both (settle_fault s.rules s.args_override_self end) _ walked_on.1 in
     let checked = none_of_both (defaults_fault (settled s.rules end).rows s.rules) _ ended.1 in
     let held = walk_filled s fill [] words (walk_from nothing_held) walked_on.0 tt in
-    (defaults_filled s.rules (settled s.rules end).rows fill (settle_filled s.rules s.args_override_self fill end ended.0 held), checked.1)
+    (defaults_filled s.rules (settled s.rules end).rows (settle_filled s.rules s.args_override_self fill end ended.0 held), checked.1)
 
 -- an argument that is given has a first value
 pub given_value : (id : Text) (rows : List Row) → AllFilled rows → is_given id rows ≡ true → is_some (first_of id rows) ≡ true

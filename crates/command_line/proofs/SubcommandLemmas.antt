@@ -1,20 +1,20 @@
--- Words without a fault that name a subcommand name one of the desk's, and each file that it needs.
-use Rattle.std.proofs.Common.{◌≡◌, ℕ, ◌&&◌, ◌||◌, Bool, true, false, not, cond, List, [], ◌∷◌, Option, Some, None, is_some, refl, codes, option_map, subst, sym, inl, inr}
+-- Words without a fault that name a subcommand name one of the desk's, and each file or folder that it needs.
+use Rattle.std.proofs.Common.{◌≡◌, ◌∙◌, ℕ, ◌&&◌, ◌||◌, Bool, true, false, not, cond, List, [], ◌∷◌, Option, Some, None, is_some, refl, codes, option_map, subst, sym, inl, inr}
 use Rattle.std.specs.Prelude.{IfSome, fold}
 use Rattle.std.specs.Option.{option_map_or}
 use Rattle.std.specs.Str.{bytes_eq}
 use Rattle.std.proofs.lemmas.Slice.Eq.{bytes_eq-Decides}
 use Rattle.clap.specs.Kinds.{HasKind, check_kinds, or_else}
 use Rattle.clap.specs.Lexer.{long_of, short_of}
-use Rattle.clap.specs.Walk.{Held, Names, Outcome, done, waits, plain, refused, Row, Rule, Step, next, trailing, subcommand, value, Text, Waiting, idle, option, positional, Walk, after_flag, after_step, answers_to, arg_by_index, long_or_other, nothing_held, plain_word, rows_after, short_or_plain, subcommand_met, subcommand_or_other, to_positional, walk, walk_from, walked, walked_from, word_met}
+use Rattle.clap.specs.Walk.{Held, Names, Outcome, done, waits, plain, refused, Row, Rule, Step, next, trailing, subcommand, value, Text, Waiting, idle, option, positional, Walk, after_flag, after_step, answers_to, arg_by_index, first_of, long_or_other, nothing_held, plain_word, rows_after, short_or_plain, subcommand_met, subcommand_or_other, to_positional, walk, walk_from, walked, walked_from, word_met}
 use Rattle.clap.specs.Simple.{App, Shape, argument_words, built, built_leaf, entered, filled, help_rule, help_shape, inherited, label_of, names_of, rows_at, subcommand_of, with_index}
 use Rattle.clap.specs.Takes.{is_given}
 use Rattle.clap.specs.Faults.{built_fault, check_fault, entered_fault, fault_of, level_fault, other_fault, step_fault, turn_fault, walk_fault, word_fault}
 use Rattle.clap.specs.declared.error.Error.{Error}
 use Rattle.clap.specs.declared.error.kind.ErrorKind.TheVariants.{DisplayHelp, InvalidSubcommand, MissingSubcommand}
-use Rattle.command_line.specs.Words.{net_rule, steps_rule, workers_rule, save_rule, what_rule, check_app, desk_app, explain_app, play_app, run_app, is_whole, IsWordFault}
+use Rattle.command_line.specs.Words.{net_rule, steps_rule, dir_rule, workers_rule, save_rule, about_rule, svg_rule, check_app, desk_app, explain_app, export_app, import_app, picture_app, play_app, run_app, is_whole, IsWordFault}
 use Rattle.command_line.specs.declared.words.WordFault.TheVariants.{Clap}
-use Rattle.command_line.proofs.RowLemmas.{AllFill, Fills, none_of_both, set_fills, help_fills, level_filled, given_value}
+use Rattle.command_line.proofs.RowLemmas.{AllFill, Fills, none_of_both, set_fills, set_true_fills, help_fills, level_filled, given_value}
 
 -- ---- a walk without a fault doesn't stop at `help`
 
@@ -120,6 +120,15 @@ play_built = built_leaf (inherited desk_app.top play_app.top)
 abbrev check_built : Shape
 check_built = built_leaf (inherited desk_app.top check_app.top)
 
+abbrev picture_built : Shape
+picture_built = built_leaf (inherited desk_app.top picture_app.top)
+
+abbrev import_built : Shape
+import_built = built_leaf (inherited desk_app.top import_app.top)
+
+abbrev export_built : Shape
+export_built = built_leaf (inherited desk_app.top export_app.top)
+
 abbrev explain_built : Shape
 explain_built = built_leaf (inherited desk_app.top explain_app.top)
 
@@ -136,79 +145,99 @@ net_fills = set_fills (rule_at 1 net_rule) refl refl
 steps_fills : Fills (rule_at 2 steps_rule)
 steps_fills = set_fills (rule_at 2 steps_rule) refl refl
 
+dir_fills : Fills (rule_at 1 dir_rule)
+dir_fills = set_fills (rule_at 1 dir_rule) refl refl
+
+second_dir_fills : Fills (rule_at 2 dir_rule)
+second_dir_fills = set_fills (rule_at 2 dir_rule) refl refl
+
 workers_fills : Fills (rule_at 2 workers_rule)
 workers_fills = set_fills (rule_at 2 workers_rule) refl refl
 
 save_fills : Fills (rule_at 2 save_rule)
 save_fills = set_fills (rule_at 2 save_rule) refl refl
 
-what_fills : Fills (rule_at 1 what_rule)
-what_fills = set_fills (rule_at 1 what_rule) refl refl
+about_fills : Fills (rule_at 2 about_rule)
+about_fills = set_fills (rule_at 2 about_rule) refl refl
+
+svg_fills : Fills (rule_at 2 svg_rule)
+svg_fills = set_true_fills (rule_at 2 svg_rule) refl refl
 
 asks_fills : Fills (rule_at 2 help_rule)
 asks_fills = help_fills (rule_at 2 help_rule) refl
 
 run_fills : AllFill run_built.rules
-run_fills = (net_fills, refl, (workers_fills, refl, (save_fills, refl, (asks_fills, refl, tt))))
+run_fills = (net_fills, (workers_fills, (save_fills, (asks_fills, tt))))
 
 play_fills : AllFill play_built.rules
-play_fills = (net_fills, refl, (steps_fills, refl, (save_fills, refl, (asks_fills, refl, tt))))
+play_fills = (net_fills, (steps_fills, (save_fills, (asks_fills, tt))))
 
 check_fills : AllFill check_built.rules
-check_fills = (net_fills, refl, (asks_fills, refl, tt))
+check_fills = (net_fills, (asks_fills, tt))
 
-explain_fills : AllFill explain_built.rules
-explain_fills = (what_fills, refl, (asks_fills, refl, tt))
+picture_fills : AllFill picture_built.rules
+picture_fills = (net_fills, (about_fills, (svg_fills, (asks_fills, tt))))
 
-abbrev has_net : List Row → Bool
-has_net rows = is_given (codes "net") rows
+import_fills : AllFill import_built.rules
+import_fills = (dir_fills, (asks_fills, tt))
 
-run_given : (rows : List Row) → check_fault run_built rows false ≡ [] → has_net rows ≡ true
-run_given rows e = go (has_net rows) e
-  where
-    go : (net : Bool) → check_kinds false false (not net || false) ≡ [] → net ≡ true
-    go true e = refl
-    go false e = cc
+export_fills : AllFill export_built.rules
+export_fills = (net_fills, (second_dir_fills, (asks_fills, tt)))
 
-check_given : (rows : List Row) → check_fault check_built rows false ≡ [] → has_net rows ≡ true
-check_given rows e = go (has_net rows) e
-  where
-    go : (net : Bool) → check_kinds false false (not net || false) ≡ [] → net ≡ true
-    go true e = refl
-    go false e = cc
+-- the last check of a command has no fault only if each of its required arguments is given
+one_given : (given : Bool) → check_kinds false false (not given || false) ≡ [] → given ≡ true
+one_given true e = refl
+one_given false e = cc
 
-play_given : (rows : List Row) → check_fault play_built rows false ≡ [] → (has_net rows ≡ true) × (is_given (codes "steps") rows ≡ true)
-play_given rows e = go (has_net rows) (is_given (codes "steps") rows) e
-  where
-    go : (net steps : Bool) → check_kinds false false (not net || (not steps || false)) ≡ [] → (net ≡ true) × (steps ≡ true)
-    go true true e = (refl, refl)
-    go true false e = cc
-    go false steps e = cc
+both_given : (first second : Bool) → check_kinds false false (not first || (not second || false)) ≡ [] → (first ≡ true) × (second ≡ true)
+both_given true true e = (refl, refl)
+both_given true false e = cc
+both_given false second e = cc
 
-run_whole : (words : List Text) → level_fault run_built [] nothing_held words false [] ≡ [] → is_whole (rows_at run_built words) ≡ true
-run_whole words e =
-    let filled = level_filled run_built words run_fills e in
-    let net = given_value (codes "net") (rows_after run_built.rules [] words) filled.0 (run_given (rows_after run_built.rules [] words) filled.1) in
-    rw net refl
+abbrev HasNoFault : Shape → List Text → Type 0
+HasNoFault s words = level_fault s [] nothing_held words false [] ≡ []
 
-check_whole : (words : List Text) → level_fault check_built [] nothing_held words false [] ≡ [] → is_whole (rows_at check_built words) ≡ true
-check_whole words e =
-    let filled = level_filled check_built words check_fills e in
-    let net = given_value (codes "net") (rows_after check_built.rules [] words) filled.0 (check_given (rows_after check_built.rules [] words) filled.1) in
-    rw net refl
+-- a command without a fault has a value for its one required argument, or for both
+module _ (s : Shape) (words : List Text) (fill : AllFill s.rules) (e : HasNoFault s words) where
+  abbrev end_rows : List Row
+  end_rows = rows_after s.rules [] words
 
-play_whole : (words : List Text) → level_fault play_built [] nothing_held words false [] ≡ [] → is_whole (rows_at play_built words) ≡ true
-play_whole words e =
-    let filled = level_filled play_built words play_fills e in
-    let given = play_given (rows_after play_built.rules [] words) filled.1 in
-    let net = given_value (codes "net") (rows_after play_built.rules [] words) filled.0 given.0 in
-    let steps = given_value (codes "steps") (rows_after play_built.rules [] words) filled.0 given.1 in
-    rw (net, steps) refl
+  one_value : (id : Text) → check_fault s end_rows false ≡ check_kinds false false (not (is_given id end_rows) || false)
+      → is_some (first_of id end_rows) ≡ true
+  one_value id checks =
+      let filled = level_filled s words fill e in
+      given_value id end_rows filled.0 (one_given (is_given id end_rows) (sym checks ∙ filled.1))
+
+  both_values : (id other : Text) → check_fault s end_rows false ≡ check_kinds false false (not (is_given id end_rows) || (not (is_given other end_rows) || false))
+      → (is_some (first_of id end_rows) ≡ true) × (is_some (first_of other end_rows) ≡ true)
+  both_values id other checks =
+      let filled = level_filled s words fill e in
+      let given = both_given (is_given id end_rows) (is_given other end_rows) (sym checks ∙ filled.1) in
+      (given_value id end_rows filled.0 given.0, given_value other end_rows filled.0 given.1)
+
+run_whole : (words : List Text) → HasNoFault run_built words → is_whole (rows_at run_built words) ≡ true
+run_whole words e = let net = one_value run_built words run_fills e (codes "net") refl in rw net refl
+
+check_whole : (words : List Text) → HasNoFault check_built words → is_whole (rows_at check_built words) ≡ true
+check_whole words e = let net = one_value check_built words check_fills e (codes "net") refl in rw net refl
+
+picture_whole : (words : List Text) → HasNoFault picture_built words → is_whole (rows_at picture_built words) ≡ true
+picture_whole words e = let net = one_value picture_built words picture_fills e (codes "net") refl in rw net refl
+
+import_whole : (words : List Text) → HasNoFault import_built words → is_whole (rows_at import_built words) ≡ true
+import_whole words e = let dir = one_value import_built words import_fills e (codes "dir") refl in rw dir refl
+
+play_whole : (words : List Text) → HasNoFault play_built words → is_whole (rows_at play_built words) ≡ true
+play_whole words e = let both = both_values play_built words play_fills e (codes "net") (codes "steps") refl in rw (both.0, both.1) refl
+
+export_whole : (words : List Text) → HasNoFault export_built words → is_whole (rows_at export_built words) ≡ true
+export_whole words e = let both = both_values export_built words export_fills e (codes "net") (codes "dir") refl in rw (both.0, both.1) refl
 
 entered_whole : (p : Text × List Text) (found : Text × List Row) → IsNotHelp p.0 → entered_fault (built desk_app) (Some p) ≡ []
     → entered (built desk_app) (Some p) ≡ Some found → is_whole found ≡ true
 entered_whole p found right e is =
     go (answers_to p.0 (label_of run_built)) (answers_to p.0 (label_of play_built)) (answers_to p.0 (label_of check_built))
+    (answers_to p.0 (label_of picture_built)) (answers_to p.0 (label_of import_built)) (answers_to p.0 (label_of export_built))
     (answers_to p.0 (label_of explain_built)) (bytes_eq (codes "help") p.0) not_help e is
   where
     not_help : bytes_eq (codes "help") p.0 ≡ true → ⊥
@@ -219,18 +248,32 @@ entered_whole p found right e is =
     is_found : (s : Shape) → is_whole (rows_at s p.1) ≡ true → Some (rows_at s p.1) ≡ Some found → is_whole found ≡ true
     is_found s whole is = let same : rows_at s p.1 ≡ found = cc in subst (λ x. is_whole x ≡ true) same whole
 
-    first : (a b c d f : Bool) → Option Shape
-    first a b c d f =
-        cond a (Some run_built) (cond b (Some play_built) (cond c (Some check_built) (cond d (Some explain_built) (cond (f || false) (Some help_built) None))))
+    last : (picture import export explain help : Bool) → Option Shape
+    last picture import export explain help =
+        cond picture (Some picture_built) (cond import (Some import_built) (cond export (Some export_built)
+        (cond explain (Some explain_built) (cond (help || false) (Some help_built) None))))
 
-    go : (a b c d f : Bool) → (f ≡ true → ⊥) → option_map_or (λ s. level_fault s [] nothing_held p.1 false []) (first a b c d f) [] ≡ []
-        → option_map (λ s. rows_at s p.1) (first a b c d f) ≡ Some found → is_whole found ≡ true
-    go true b c d f help e is = is_found run_built (run_whole p.1 e) is
-    go false true c d f help e is = is_found play_built (play_whole p.1 e) is
-    go false false true d f help e is = is_found check_built (check_whole p.1 e) is
-    go false false false true f help e is = is_found explain_built refl is
-    go false false false false true help e is = absurd (help refl)
-    go false false false false false help e is = cc
+    first : (run play check picture import export explain help : Bool) → Option Shape
+    first run play check picture import export explain help =
+        cond run (Some run_built) (cond play (Some play_built) (cond check (Some check_built) (last picture import export explain help)))
+
+    IsFit : Option Shape → Type 0
+    IsFit shape = option_map_or (λ s. level_fault s [] nothing_held p.1 false []) shape [] ≡ [] → option_map (λ s. rows_at s p.1) shape ≡ Some found
+        → is_whole found ≡ true
+
+    go_on : (picture import export explain help : Bool) → (help ≡ true → ⊥) → IsFit (last picture import export explain help)
+    go_on true import export explain help not e is = is_found picture_built (picture_whole p.1 e) is
+    go_on false true export explain help not e is = is_found import_built (import_whole p.1 e) is
+    go_on false false true explain help not e is = is_found export_built (export_whole p.1 e) is
+    go_on false false false true help not e is = is_found explain_built refl is
+    go_on false false false false true not e is = absurd (not refl)
+    go_on false false false false false not e is = cc
+
+    go : (run play check picture import export explain help : Bool) → (help ≡ true → ⊥) → IsFit (first run play check picture import export explain help)
+    go true play check picture import export explain help not e is = is_found run_built (run_whole p.1 e) is
+    go false true check picture import export explain help not e is = is_found play_built (play_whole p.1 e) is
+    go false false true picture import export explain help not e is = is_found check_built (check_whole p.1 e) is
+    go false false false picture import export explain help not e is = go_on picture import export explain help not e is
 
 whole_found : (words : List Text) (found : Text × List Row) → fault_of desk_app words ≡ [] → subcommand_of desk_app words ≡ Some found → is_whole found ≡ true
 whole_found words found e is =

@@ -1,12 +1,13 @@
 -- The command line of the desk.
-use Rattle.std.specs.Prelude.{◌≡◌, ◌≢◌, ◌<◌, ◌≤◌, ◌⊎◌, ◌&&◌, ◌||◌, ℕ, [], List, Bool, Option, Some, None, true, is_some, codes, option_map, length, slice_index}
+use Rattle.std.specs.Prelude.{◌≡◌, ◌≢◌, ◌<◌, ◌≤◌, ◌↔◌, ◌⊎◌, IsTrue, ◌&&◌, ◌||◌, ℕ, [], List, Bool, Option, Some, None, true, is_some, codes, option_map, length, slice_index}
 use Rattle.std.specs.Fmt.{decimal}
 use Rattle.std.specs.Str.{bytes_eq}
 use Rattle.clap.specs.Words.{App, Rule, Row, Text, new_app, new_rule, with_rule, with_subcommand, first_of, Kinds, HasKind, kind_of}
 use Rattle.clap.specs.Simple.{on_top}
+use Rattle.clap.specs.declared.builder.action.ArgAction.TheVariants.{SetTrue}
 use Rattle.clap.specs.declared.error.kind.ErrorKind.TheVariants.{MissingSubcommand}
 use Rattle.command_line.specs.declared.words.Order.{Order}
-use Rattle.command_line.specs.declared.words.Order.TheVariants.{Run, Play, Check, Explain}
+use Rattle.command_line.specs.declared.words.Order.TheVariants.{Run, Play, Check, Picture, Import, Export, Explain}
 use Rattle.command_line.specs.declared.words.WordFault.{WordFault}
 use Rattle.command_line.specs.declared.words.WordFault.TheVariants.{Clap, Workers}
 
@@ -50,6 +51,34 @@ play_app = with_rule files_app save_rule
 abbrev pub check_app : App
 check_app = net_app (codes "check")
 
+-- `--about X`
+abbrev pub about_rule : Rule
+about_rule = record (new_rule (codes "about")) { long = Some (codes "about"); value_names = 1 }
+
+-- `--svg`, which has no value
+abbrev pub svg_rule : Rule
+svg_rule = record (new_rule (codes "svg")) { long = Some (codes "svg"); action = Some SetTrue }
+
+-- `picture NET --about X`
+abbrev pub about_app : App
+about_app = with_rule (net_app (codes "picture")) about_rule
+
+-- `picture NET --about X --svg`
+abbrev pub picture_app : App
+picture_app = with_rule about_app svg_rule
+
+-- DIR is required
+abbrev pub dir_rule : Rule
+dir_rule = record (new_rule (codes "dir")) { required = true; value_names = 1 }
+
+-- `import DIR`
+abbrev pub import_app : App
+import_app = with_rule (new_app (codes "import")) dir_rule
+
+-- `export NET DIR`
+abbrev pub export_app : App
+export_app = with_rule (net_app (codes "export")) dir_rule
+
 -- WHAT may be left out
 abbrev pub what_rule : Rule
 what_rule = record (new_rule (codes "what")) { value_names = 1 }
@@ -63,25 +92,41 @@ abbrev pub bare_app : App
 bare_app = on_top (λ s. record s { has_version = true }) (new_app (codes "route_desk"))
 
 -- `route_desk` with `run` alone
-abbrev pub desk_app_of_run : App
-desk_app_of_run = with_subcommand bare_app run_app.top
+abbrev pub desk_app_up_to_run : App
+desk_app_up_to_run = with_subcommand bare_app run_app.top
 
--- `route_desk` with the commands that answer a script
-abbrev pub desk_app_of_scripts : App
-desk_app_of_scripts = with_subcommand desk_app_of_run play_app.top
+-- `route_desk` with its commands as far as `play`
+abbrev pub desk_app_up_to_play : App
+desk_app_up_to_play = with_subcommand desk_app_up_to_run play_app.top
 
--- `route_desk` with the commands that take a network
-abbrev pub desk_app_of_nets : App
-desk_app_of_nets = with_subcommand desk_app_of_scripts check_app.top
+-- `route_desk` with its commands as far as `check`
+abbrev pub desk_app_up_to_check : App
+desk_app_up_to_check = with_subcommand desk_app_up_to_play check_app.top
+
+-- `route_desk` with its commands as far as `picture`
+abbrev pub desk_app_up_to_picture : App
+desk_app_up_to_picture = with_subcommand desk_app_up_to_check picture_app.top
+
+-- `route_desk` with its commands as far as `import`
+abbrev pub desk_app_up_to_import : App
+desk_app_up_to_import = with_subcommand desk_app_up_to_picture import_app.top
+
+-- `route_desk` with its commands as far as `export`
+abbrev pub desk_app_up_to_export : App
+desk_app_up_to_export = with_subcommand desk_app_up_to_import export_app.top
 
 -- `route_desk`
 abbrev pub desk_app : App
-desk_app = with_subcommand desk_app_of_nets explain_app.top
+desk_app = with_subcommand desk_app_up_to_export explain_app.top
 
 -- what is given for N says this many workers; it says none if nothing is given
 abbrev pub IsWorkers : Option Text → ℕ → Type 0
 IsWorkers None n = n ≡ 0
 IsWorkers (Some text) n = (text ≡ decimal n) × (n ≤ 32)
+
+-- the matches have this flag: its value is `true`
+abbrev pub HasFlag : Text → List Row → Type 0
+HasFlag id rows = first_of id rows ≡ Some (codes "true")
 
 -- the order is what the subcommand's matches say
 abbrev pub IsOrder : Order → Option (Text × List Row) → Type 0
@@ -92,6 +137,14 @@ IsOrder (Play net steps save) found =
     (rows : List Row) × (found ≡ Some (codes "play", rows)) × (first_of (codes "net") rows ≡ Some net.now)
     × (first_of (codes "steps") rows ≡ Some steps.now) × (first_of (codes "save") rows ≡ option_map (λ s. s.now) save)
 IsOrder (Check net) found = (rows : List Row) × (found ≡ Some (codes "check", rows)) × (first_of (codes "net") rows ≡ Some net.now)
+IsOrder (Picture net about svg) found =
+    (rows : List Row) × (found ≡ Some (codes "picture", rows)) × (first_of (codes "net") rows ≡ Some net.now)
+    × (first_of (codes "about") rows ≡ option_map (λ s. s.now) about)
+    × (IsTrue svg ↔ HasFlag (codes "svg") rows)
+IsOrder (Import dir) found = (rows : List Row) × (found ≡ Some (codes "import", rows)) × (first_of (codes "dir") rows ≡ Some dir.now)
+IsOrder (Export net dir) found =
+    (rows : List Row) × (found ≡ Some (codes "export", rows)) × (first_of (codes "net") rows ≡ Some net.now)
+    × (first_of (codes "dir") rows ≡ Some dir.now)
 IsOrder (Explain what) found =
     (rows : List Row) × (found ≡ Some (codes "explain", rows)) × (first_of (codes "what") rows ≡ option_map (λ s. s.now) what)
 
@@ -100,17 +153,22 @@ abbrev pub IsWithin : Order → Type 0
 IsWithin (Run net workers save) = workers ≤ 32
 IsWithin (Play net steps save) = Unit {0}
 IsWithin (Check net) = Unit {0}
+IsWithin (Picture net about svg) = Unit {0}
+IsWithin (Import dir) = Unit {0}
+IsWithin (Export net dir) = Unit {0}
 IsWithin (Explain what) = Unit {0}
 
 -- whether the argument has a value
 abbrev pub has_value : Text → List Row → Bool
 has_value id rows = is_some (first_of id rows)
 
--- whether the subcommand is one of the desk's, with each file that it needs
+-- whether the subcommand is one of the desk's, with each file or folder that it needs
 abbrev pub is_whole : Text × List Row → Bool
 is_whole (name, rows) =
-    ((bytes_eq name (codes "run") || bytes_eq name (codes "check")) && has_value (codes "net") rows)
+    ((bytes_eq name (codes "run") || (bytes_eq name (codes "check") || bytes_eq name (codes "picture"))) && has_value (codes "net") rows)
     || (bytes_eq name (codes "play") && (has_value (codes "net") rows && has_value (codes "steps") rows))
+    || (bytes_eq name (codes "import") && has_value (codes "dir") rows)
+    || (bytes_eq name (codes "export") && (has_value (codes "net") rows && has_value (codes "dir") rows))
     || bytes_eq name (codes "explain")
 
 -- the text begins with a plus or a zero, and goes on

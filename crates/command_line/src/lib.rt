@@ -3,15 +3,22 @@
 //! 1. `route_desk run NET` answers a script from the network NET; `--save FILE` says if the network is written then.
 //!    `--workers N` says how many threads settle jobs beside the script: N is a number 0 to 32, written without sign or
 //!    leading zeros, and 0 if it isn't given.
-//! 2. `route_desk check NET` works out and checks the tables of all destinations of the network NET.
-//! 3. `route_desk explain WHAT` tells what the number or name WHAT means; WHAT may be left out, and is any word here.
-//! 4. NET is a file, or in `run` alone `-` for standard input. An N that is no such number is refused by a fault of its own.
+//! 2. `route_desk play NET STEPS` answers the script of the file STEPS; `--save FILE` as above.
+//! 3. `route_desk check NET` works out and checks the tables of all destinations of the network NET.
+//! 4. `route_desk picture NET` draws the network NET: as an SVG text with the flag `--svg`, else as a Graphviz DOT text.
+//!    `--about X` says for which destination X the way of the traffic is drawn; X is any word here.
+//! 5. `route_desk import DIR` makes a network text from the three tables of the folder DIR.
+//! 6. `route_desk export NET DIR` writes the network NET as three tables in the folder DIR.
+//! 7. `route_desk explain WHAT` tells what the number or name WHAT means; WHAT may be left out, and is any word here.
+//! 8. NET is a file, or in `run` alone `-` for standard input. An N that is no such number is refused by a fault of its own.
 //!    Any other words are told by `clap`, as are `--help` and `--version`.
 //!
 //! Stands on `clap`. A change here also changes specs/ (Words), proofs/ and must-fail/.
 #![tactic(auto)]
 
+mod commands;
 pub mod laws;
+mod orders;
 pub mod words;
 
 pub use laws::version_law;

@@ -8,10 +8,9 @@ ghost use Rattle.desk_console.specs.Console.{net_of, opening};
 use answers::{Answer, answer_other};
 use desk_core::Desk;
 use net_data::Net;
-use script_words::read_command;
+use script_words::read_line;
 use std::alloc::{AllocError, Global};
 use std::marker::Model;
-use tokens::split_words;
 use work_units::Settled;
 
 /// How many slots there are.
@@ -75,10 +74,9 @@ impl Console {
         ensures command { IfOk result (λ answer. Commands line.now self.old answer self.new) }
         ensures plain { IfOk result (λ answer. line_count answer ≡ 0) }
     {
-        let words = split_words(alloc, line)?;
-        match read_command(alloc, words.as_slice())? {
+        match read_line(alloc, line)? {
             Some(command) => self.obey(alloc, command),
-            None => Ok(Answer::of_text(answer_other(alloc, words.as_slice())?)),
+            None => Ok(Answer::of_text(answer_other(alloc, line)?)),
         }
     }
 }

@@ -102,24 +102,29 @@ fn look_number<N: Naming>(reader: &mut Reader<N>) -> Option<u64> {
     }
 }
 
-/// A reader looks until all is published.
-fn watch<N: Naming, R: Wait>(rt: &R, mut reader: Reader<N>, tally: &Tally) {
+/// Looks until all is published: how many looks there were, and how many of them were refused or went back behind one before.
+fn count_looks<N: Naming, R: Wait>(rt: &R, reader: &mut Reader<N>, tally: &Tally) -> (u64, u64) {
     let mut last = 0u64;
     let mut looks = 0u64;
     let mut back = 0u64;
     for _ in rt.forever() {
-        match look_number(&mut reader) {
+        match look_number(reader) {
             Some(number) if number >= last => last = number,
             _ => back = back.saturating_add(1),
         }
         looks = looks.saturating_add(1);
         if tally.done.load(Ordering::SeqCst) {
-            tally.looks.fetch_add(looks, Ordering::SeqCst);
-            tally.back.fetch_add(back, Ordering::SeqCst);
-            return;
+            return (looks, back);
         }
     }
     unreachable!()
+}
+
+/// A reader looks until all is published, and its looks are counted.
+fn watch<N: Naming, R: Wait>(rt: &R, mut reader: Reader<N>, tally: &Tally) {
+    let (looks, back) = count_looks(rt, &mut reader, tally);
+    tally.looks.fetch_add(looks, Ordering::SeqCst);
+    tally.back.fetch_add(back, Ordering::SeqCst);
 }
 
 /// A reader of the hub, if there is a place.

@@ -7,7 +7,7 @@ use Rattle.net_text.specs.declared.faults.LoadFault.{LoadFault}
 use Rattle.net_text.specs.declared.faults.LoadFault.TheVariants.{BadKey}
 use Rattle.net_text.specs.Faults.{Answer, chain}
 use Rattle.net_text.specs.Keys.{at, unsigned_of, keys_format, has_known_keys, texts_from, options_in, Held, held_by}
-use Rattle.net_text.specs.Reading.{apply_entries, start, build, network_of}
+use Rattle.net_text.specs.Reading.{apply_entries, apply_parts, start, build, network_of}
 
 chain_ok : {A B : Type 0} (r : Answer A) (f : A → Answer B) (P : B → Type 0) → ((x : A) → r ≡ Ok x → IfOk (f x) P) → IfOk (chain r f) P
 chain_ok (Ok x) f P k = k x refl
@@ -33,14 +33,8 @@ chain_thrice : {A B C D : Type 0} (r : Answer A) (f : A → Answer B) (g : B →
 chain_thrice (Ok x) f g k = chain_twice (f x) g k
 chain_thrice (Err e) f g k = refl
 
--- the entries before the plans
-abbrev pub parts : Held → Answer Network
-parts h =
-    chain (apply_entries Points h.format 1 (start h) h.points) (λ a.
-    chain (apply_entries Pairs h.format 1 a h.pairs) (λ b. apply_entries Sets h.format 1 b h.sets))
-
 -- what a document says is its plans applied to what its other entries make
-pub plans_last : (doc : Members) (h : Held) (net : Network) (texts : List (List ℕ)) → held_by doc ≡ Ok h → parts h ≡ Ok net
+pub plans_last : (doc : Members) (h : Held) (net : Network) (texts : List (List ℕ)) → held_by doc ≡ Ok h → apply_parts h (start h) ≡ Ok net
     → IfOk (texts_from Plans (at (codes "plans") doc)) (λ ts. texts ≡ ts) → network_of doc ≡ apply_entries Plans h.format 1 net texts
 plans_last doc h net texts read made taken =
     let found : texts_from Plans (at (codes "plans") doc) ≡ Ok h.plans = subst (λ r. IfOk r (λ k. texts_from Plans (at (codes "plans") doc) ≡ Ok k.plans)) read (held_plans doc) in

@@ -35,7 +35,14 @@ apply_entries key format place net (text ∷ texts) = chain (apply_entry key pla
 abbrev pub start : Held → Network
 start h = changed (record { ni = h.ni; tfr = true; points = []; sets = []; plans = [] }) (SetTfr h.tfr)
 
--- the entries of all arrays in their order, or their first fault; places count from 1
+-- the entries of the arrays before the plans, in their order, or their first fault; places count from 1
+abbrev pub apply_parts : Held → Network → Answer Network
+apply_parts h net =
+    chain (apply_entries Points h.format 1 net h.points) (λ net.
+    chain (apply_entries Pairs h.format 1 net h.pairs) (λ net.
+    apply_entries Sets h.format 1 net h.sets))
+
+-- the entries of all arrays in their order, or their first fault
 abbrev pub apply_fields : Held → Network → Answer Network
 apply_fields h net =
     chain (apply_entries Points h.format 1 net h.points) (λ net.

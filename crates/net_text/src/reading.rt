@@ -4,10 +4,9 @@ ghost use Rattle.std.specs.Prelude.{◌≡◌, ◌≢◌, ◌≤◌, map, Some, 
 ghost use Rattle.toml.specs.Data.{no_items, get_member, as_array};
 ghost use Rattle.toml.specs.View.{view, table_view, items_view};
 ghost use Rattle.net_data.specs.Edits.{apply_all};
-ghost use Rattle.net_text.specs.Faults.{chain};
-ghost use Rattle.net_text.specs.Keys.{held, text_of, texts_from};
+ghost use Rattle.net_text.specs.Keys.{Held, held, held_by, text_of, texts_from};
 ghost use Rattle.net_text.specs.Entries.{entry_of};
-ghost use Rattle.net_text.specs.Reading.{IsDocument, Says, network_of, apply_entry as entry_applied, apply_entries as entries_applied, start as started};
+ghost use Rattle.net_text.specs.Reading.{IsDocument, Says, network_of, apply_entry as entry_applied, apply_entries as entries_applied, apply_parts as parts_applied, start as started};
 
 use crate::entries::read_entry;
 use crate::faults::{Key, LoadFault};
@@ -86,8 +85,8 @@ fn start(alloc: Global, fields: &Fields) -> Result<Net, LoadFault>
 
 /// Applies the entries of the arrays before the plans, in their order, up to the first fault.
 fn apply_parts(alloc: Global, net: &mut Net, fields: &Fields) -> Result<(), LoadFault>
-    ensures ok { OnOk result (chain (entries_applied Key.Points fields.now.format 1 net.old (held fields.now).points) (λ a. chain (entries_applied Key.Pairs fields.now.format 1 a (held fields.now).pairs) (λ b. entries_applied Key.Sets fields.now.format 1 b (held fields.now).sets)) ≡ Ok net.new) }
-    ensures err { IfErr result (λ e. e ≢ LoadFault.OutOfMemory → chain (entries_applied Key.Points fields.now.format 1 net.old (held fields.now).points) (λ a. chain (entries_applied Key.Pairs fields.now.format 1 a (held fields.now).pairs) (λ b. entries_applied Key.Sets fields.now.format 1 b (held fields.now).sets)) ≡ Err e) }
+    ensures ok { OnOk result (parts_applied (held fields.now) net.old ≡ Ok net.new) }
+    ensures err { IfErr result (λ e. e ≢ LoadFault.OutOfMemory → parts_applied (held fields.now) net.old ≡ Err e) }
 {
     if let Err(fault) = apply_entries(alloc, net, Key::Points, fields.format, fields.points) {
         return Err(fault);
@@ -140,16 +139,23 @@ fn apply_owned_entries(
     Ok(())
 }
 
-/// What a document says: all keys are read before the first entry. Each plan is given back once it is applied, and the
-/// rest of the document before the first plan.
+/// What a document says without its plans, and its format: all keys are read before the first entry.
+fn read_parts(alloc: Global, table: &Table) -> Result<(Net, Format), LoadFault>
+    ensures ok { IfOk result (λ r. (h : Held) × (held_by (table_view table.now) ≡ Ok h) × (h.format ≡ r.1) × (parts_applied h (started h) ≡ Ok r.0)) }
+    ensures err { IfErr result (λ e. e ≢ LoadFault.OutOfMemory → network_of (table_view table.now) ≡ Err e) }
+{
+    let fields = read_fields(table)?;
+    let mut net = start(alloc, &fields)?;
+    apply_parts(alloc, &mut net, &fields)?;
+    Ok((net, fields.format))
+}
+
+/// What a document says. Each plan is given back once it is applied, and the rest of the document before the first plan.
 fn read_table(alloc: Global, table: Table) -> Result<Net, LoadFault>
     ensures ok { IfOk result (λ net. network_of (table_view table) ≡ Ok net) }
     ensures err { IfErr result (λ e. e ≢ LoadFault.OutOfMemory → network_of (table_view table) ≡ Err e) }
 {
-    let fields = read_fields(&table)?;
-    let format = fields.format;
-    let mut net = start(alloc, &fields)?;
-    apply_parts(alloc, &mut net, &fields)?;
+    let (mut net, format) = read_parts(alloc, &table)?;
     let plans = take_plans(alloc, table);
     apply_owned_entries(alloc, &mut net, Key::Plans, format, plans)?;
     Ok(net)

@@ -10,21 +10,28 @@
 //! 3. `route_desk check NET` works out the tables of all planned destinations of that network, by as many threads as
 //!    there are processors, checks each by the local rule, and writes `ok P` for P plans, or `bad X Y c` for the first
 //!    wrong one.
-//! 4. If standard input is a terminal, `run NET` says on standard error how large the network is, and prompts for each line there.
-//! 5. `route_desk explain WHAT` writes what the refusal, fault, cause or complaint of that number or name means and what
+//! 4. `route_desk picture NET` writes the network as a Graphviz DOT text, or with `--svg` as an SVG document; with `--about X`
+//!    it shows how traffic goes to the destination X.
+//! 5. `route_desk import DIR` writes the network text that the tables points.csv, sets.csv and routes.csv of a folder say;
+//!    `route_desk export NET DIR` writes these tables.
+//! 6. If standard input is a terminal, `run NET` says on standard error how large the network is, and prompts for each line there.
+//! 7. `route_desk explain WHAT` writes what the refusal, fault, cause or complaint of that number or name means and what
 //!    to do; without WHAT the title and the meaning of each, a line each.
-//! 6. It exits with 0 if the script was answered to its end: a refused line is no fault of a run; or if all
-//!    tables are right, or if what was asked for is explained.
-//! 7. It exits with 1 if a table is wrong, if the network isn't loaded, or where memory, reading, writing or the want of a
-//!    place for a reader ended the run; in all but the first of these standard error has one line, `route_desk: ` and the fault. Memory that is
-//!    wanting while the arguments are fetched is such a fault.
-//! 8. It exits with 2 where the command line isn't read, with `clap`'s text on standard error, or one line if an argument
-//!    isn't UTF-8, N is no number from 0 to 32, or nothing is called WHAT. Help and the version are printed on standard
-//!    output, with 0.
+//! 8. It exits with 0 if the script was answered to its end: a refused line is no fault of a run; or if all
+//!    tables are right, or if what was asked for is explained, drawn or written.
+//! 9. It exits with 1 if a table is wrong, if the network isn't loaded, if there is no picture, or where memory, reading, writing or
+//!    the want of a place for a reader ended the run; in all but the first of these standard error has one line, `route_desk: ` and
+//!    the fault. Memory that is wanting while the arguments are fetched is such a fault.
+//! 10. It exits with 2 where the command line isn't read, with `clap`'s text on standard error, or one line if an argument
+//!    isn't UTF-8, N is no number from 0 to 32, X is no signalling point code, or nothing is called WHAT. Help and the version are
+//!    printed on standard output, with 0.
 //!
-//! Stands on `net_saving`, `console`, `beside`, `explanations`, `command_line`, `clap`. Nothing else changes with it.
+//! Stands on `net_saving`, `net_sheets`, `pictures`, `console`, `beside`, `explanations`, `command_line`, `clap`. Nothing else changes with it.
 #![tactic(auto)]
 
+mod drawing;
+mod files;
+mod sheets;
 mod terminal;
 
 ghost use Rattle.std.specs.Prelude.{◌≤◌};
@@ -36,10 +43,13 @@ use command_line::{Order, WordFault, read_words};
 use console::{
     CheckEnd, Fault, ScriptEnd, check_net, read_net, run_input, run_script, write_fault,
 };
+use drawing::{NoPicture, picture_of, read_about};
 use excerpts::Frozen;
 use explanations::{explanations, find, write_explanation, write_titles};
+use files::save_text;
 use net_data::Net;
 use net_saving::save;
+use sheets::{FolderFault, describe, read_folder, write_folder};
 use std::alloc::{AllocError, Global};
 use std::io::ErrorKind;
 use std::process::ExitCode;
@@ -151,72 +161,6 @@ fn run_net(
     Ok(run_from(rt, threads, net, workers))
 }
 
-/// Whether a name is that of something else than a file, or leads to it, as to a device.
-fn is_no_file(rt: &HostRuntime, name: &str) -> bool {
-    match fs::metadata(rt, name) {
-        Ok(found) => !found.is_file(),
-        Err(_) => false,
-    }
-}
-
-/// Whether a name is that of a symbolic link.
-fn is_link(rt: &HostRuntime, name: &str) -> bool {
-    match fs::symlink_metadata(rt, name) {
-        Ok(found) => found.is_symlink(),
-        Err(_) => false,
-    }
-}
-
-/// Writes a text as a file.
-fn write_file(rt: &HostRuntime, name: &str, text: &str) -> Result<(), Fault> {
-    match fs::write(rt, name, text) {
-        Ok(()) => Ok(()),
-        Err(_) => Err(Fault::Write),
-    }
-}
-
-/// Puts a text in the place of a file. It is written beside the file first, so that a file that was there stays as it was
-/// where writing fails.
-fn replace_file(rt: &HostRuntime, name: &str, text: &str) -> Result<(), Fault> {
-    let beside = match format!(in rt.alloc(); "{name}.new") {
-        Ok(beside) => beside,
-        Err(_) => return Err(Fault::OutOfMemory),
-    };
-    if let Err(fault) = write_file(rt, beside.as_str(), text) {
-        let _ = fs::remove_file(rt, beside.as_str());
-        return Err(fault);
-    }
-    if fs::rename(rt, beside.as_str(), name).is_err() {
-        let _ = fs::remove_file(rt, beside.as_str());
-        return Err(Fault::Write);
-    }
-    Ok(())
-}
-
-/// Puts a text in the place of the file that a link leads to. One that leads to none makes it.
-fn replace_linked(rt: &HostRuntime, link: &str, text: &str) -> Result<(), Fault> {
-    match fs::canonicalize(rt, link) {
-        Ok(file) => replace_file(rt, file.as_str(), text),
-        Err(error) => match error.kind() {
-            ErrorKind::NotFound => write_file(rt, link, text),
-            ErrorKind::OutOfMemory => Err(Fault::OutOfMemory),
-            _ => Err(Fault::Write),
-        },
-    }
-}
-
-/// Puts a text in the place of a file, or of the file that a link leads to. What is no file, as a device, is written
-/// straight away.
-fn save_text(rt: &HostRuntime, name: &str, text: &str) -> Result<(), Fault> {
-    if is_no_file(rt, name) {
-        return write_file(rt, name, text);
-    }
-    if is_link(rt, name) {
-        return replace_linked(rt, name, text);
-    }
-    replace_file(rt, name, text)
-}
-
 /// Writes the network to a file.
 fn save_net(rt: &HostRuntime, net: &Net, name: &str) -> Result<(), Fault> {
     match save(rt.alloc(), net) {
@@ -299,6 +243,47 @@ fn explain(rt: &HostRuntime, what: Option<&str>) -> io::Result<ExitCode> {
     }
 }
 
+/// Draws the network of a file, about a destination if one is named.
+fn draw(rt: &HostRuntime, net: &str, about: Option<&str>, svg: bool) -> io::Result<ExitCode> {
+    let Ok(about) = read_about(about) else {
+        eprintln!(rt; "route_desk: X is no signalling point code")?;
+        return Ok(ExitCode::from(2));
+    };
+    match picture_of(rt.alloc(), load_file(rt, net), about, svg) {
+        Ok(text) => tell(rt, Ok(text)),
+        Err(NoPicture::Fault(fault)) => report(rt, Some(fault)),
+        Err(NoPicture::NoPlan) => {
+            eprintln!(rt; "route_desk: 26 NoPlan")?;
+            Ok(ExitCode::from(1))
+        }
+    }
+}
+
+/// Says why the tables of a folder say no network.
+fn report_folder(rt: &HostRuntime, fault: &FolderFault) -> io::Result<ExitCode> {
+    match describe(rt.alloc(), fault) {
+        Ok(text) => eprintln!(rt; "route_desk: {text}")?,
+        Err(_) => eprintln!(rt; "route_desk: 1 OutOfMemory")?,
+    }
+    Ok(ExitCode::from(1))
+}
+
+/// Writes the text of the network that the tables of a folder say, or what is wrong with them.
+fn import(rt: &HostRuntime, dir: &str) -> io::Result<ExitCode> {
+    match read_folder(rt, dir) {
+        Ok(net) => tell(rt, save(rt.alloc(), &net)),
+        Err(fault) => report_folder(rt, &fault),
+    }
+}
+
+/// Writes the network of a file as three tables in a folder.
+fn export(rt: &HostRuntime, net: &str, dir: &str) -> io::Result<ExitCode> {
+    match load_file(rt, net) {
+        Ok(net) => report(rt, write_folder(rt, &net, dir).err()),
+        Err(fault) => report(rt, Some(fault)),
+    }
+}
+
 /// Runs the script on standard input, saves the network if a file is named, and says how the run ended.
 fn run(
     rt: &HostRuntime,
@@ -331,6 +316,9 @@ fn obey(
         Order::Check { net } => {
             report_end(rt, check_tables(threads, rt.alloc(), load_file(rt, net)))
         }
+        Order::Picture { net, about, svg } => draw(rt, net, about, svg),
+        Order::Import { dir } => import(rt, dir),
+        Order::Export { net, dir } => export(rt, net, dir),
         Order::Explain { what } => explain(rt, what),
     }
 }

@@ -49,5 +49,5 @@ pub use commands::{Command, Events};
 pub use edits::{read_added_point, read_pair, read_plan};
 pub use events::read_event;
 pub use laws::{event_law, sequence_law};
-pub use lines::read_command;
+pub use lines::read_line;
 pub use questions::Question;

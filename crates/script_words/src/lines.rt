@@ -1,6 +1,7 @@
 //! The command of a line.
 
-ghost use Rattle.std.specs.Prelude.{◌≡◌, ◌<◌, map, IfOk, IfSome};
+ghost use Rattle.std.specs.Prelude.{◌≡◌, ◌≢◌, ◌<◌, map, IfOk, IfSome};
+ghost use Rattle.tokens.specs.Words.{words_of};
 ghost use Rattle.script_words.specs.Commands.{IsWithin, alone, slot_alone, post_of, command_by, command_of};
 
 use crate::command_words::{CommandWord, read_command_word};
@@ -13,6 +14,7 @@ use crate::read_event;
 use crate::verbs::read_verb;
 use crate::what_ifs::read_events;
 use std::alloc::{AllocError, Global};
+use tokens::split_words;
 
 /// A command of one word, if no other word comes after it.
 fn only(command: Command, rest: &[&[u8]]) -> Option<Command>
@@ -61,33 +63,45 @@ fn read_post(alloc: Global, words: &[&[u8]]) -> Result<Option<Command>, AllocErr
     }
 }
 
+/// The command of a first word that no event follows, and the words after it.
+fn read_without_events(word: CommandWord, rest: &[&[u8]]) -> Option<Command>
+    requires { (word ≢ CommandWord.WhatIf) × (word ≢ CommandWord.Post) }
+    ensures value { result ≡ command_by word (map (λ w. w.now) rest.now) }
+    ensures within { IfSome result IsWithin }
+{
+    match word {
+        CommandWord::Status => read_about(Question::Status, rest),
+        CommandWord::Sls => read_about(Question::Links, rest),
+        CommandWord::Messages => read_about(Question::Messages, rest),
+        CommandWord::Octets => read_octets(rest),
+        CommandWord::Why => read_about(Question::Why, rest),
+        CommandWord::Trace => read_trace(rest),
+        CommandWord::Sync => only(Command::Sync, rest),
+        CommandWord::Open => only(Command::Open, rest),
+        CommandWord::Take => read_only_slot(rest).map(Command::Take),
+        CommandWord::Give => read_only_slot(rest).map(Command::Give),
+        CommandWord::Abandon => read_only_slot(rest).map(Command::Abandon),
+        CommandWord::Publish => only(Command::Publish, rest),
+        CommandWord::Version => only(Command::Version, rest),
+        CommandWord::Audit => only(Command::Audit, rest),
+        CommandWord::WhatIf | CommandWord::Post => unreachable!(),
+    }
+}
+
 /// The command of a first word and the words after it.
 fn read_by(alloc: Global, word: CommandWord, rest: &[&[u8]]) -> Result<Option<Command>, AllocError>
     ensures value { IfOk result (λ command. command ≡ command_by word (map (λ w. w.now) rest.now)) }
     ensures within { IfOk result (λ command. IfSome command IsWithin) }
 {
     match word {
-        CommandWord::Status => Ok(read_about(Question::Status, rest)),
-        CommandWord::Sls => Ok(read_about(Question::Links, rest)),
-        CommandWord::Messages => Ok(read_about(Question::Messages, rest)),
-        CommandWord::Octets => Ok(read_octets(rest)),
-        CommandWord::Why => Ok(read_about(Question::Why, rest)),
-        CommandWord::Trace => Ok(read_trace(rest)),
-        CommandWord::Sync => Ok(only(Command::Sync, rest)),
         CommandWord::WhatIf => Ok(read_events(alloc, rest)?.map(Command::WhatIf)),
         CommandWord::Post => read_post(alloc, rest),
-        CommandWord::Open => Ok(only(Command::Open, rest)),
-        CommandWord::Take => Ok(read_only_slot(rest).map(Command::Take)),
-        CommandWord::Give => Ok(read_only_slot(rest).map(Command::Give)),
-        CommandWord::Abandon => Ok(read_only_slot(rest).map(Command::Abandon)),
-        CommandWord::Publish => Ok(only(Command::Publish, rest)),
-        CommandWord::Version => Ok(only(Command::Version, rest)),
-        CommandWord::Audit => Ok(only(Command::Audit, rest)),
+        _ => Ok(read_without_events(word, rest)),
     }
 }
 
-/// The command that the words of a line say. `None` if they are none. It fails if memory is refused.
-pub fn read_command(alloc: Global, words: &[&[u8]]) -> Result<Option<Command>, AllocError>
+/// The command that the words of a line say, if they say one.
+fn read_command(alloc: Global, words: &[&[u8]]) -> Result<Option<Command>, AllocError>
     ensures value { IfOk result (λ command. command ≡ command_of (map (λ w. w.now) words.now)) }
     ensures within { IfOk result (λ command. IfSome command IsWithin) }
 {
@@ -102,4 +116,13 @@ pub fn read_command(alloc: Global, words: &[&[u8]]) -> Result<Option<Command>, A
         Some(word) => read_by(alloc, word, rest),
         None => Ok(None),
     }
+}
+
+/// The command that a line says. `None` if it says none. It fails if memory is refused.
+pub fn read_line(alloc: Global, line: &[u8]) -> Result<Option<Command>, AllocError>
+    ensures value { IfOk result (λ command. command ≡ command_of (words_of line.now)) }
+    ensures within { IfOk result (λ command. IfSome command IsWithin) }
+{
+    let words = split_words(alloc, line)?;
+    read_command(alloc, words.as_slice())
 }

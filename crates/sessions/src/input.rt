@@ -2,6 +2,7 @@
 
 ghost use Rattle.std.specs.Prelude.{◌≡◌, ◌≢◌, ℕ, ◌-◌, ◌*◌, ◌≤◌, min, ◌++◌, List, length, take, [], IfErr, IfOk, OnOk, MatchResult, IfSome, Option, None, Some, Ok, Err};
 ghost use Rattle.std.specs.Io.KnownBytes.{Consumes, IsAtEnd};
+ghost use Rattle.std.specs.IoError.{error_kind};
 ghost use Rattle.net_text.specs.Reading.{Says};
 ghost use Rattle.sessions.specs.Input.{is_mark, IsOpenAt, IsMarkAt, IsOpening, IsUnopened, IsLoadFault, RanAfter, text_part, script_part};
 
@@ -13,7 +14,7 @@ use crate::session::Session;
 use net_data::Net;
 use net_text::{LoadFault, load};
 use std::alloc::{AllocError, Global};
-use std::io::{ErrorKind, Read, Write};
+use std::io::{Error, ErrorKind, Read, Write};
 
 /// A limit on the bytes of a network text.
 pub const TEXT_LIMIT: usize = 134217728;
@@ -77,6 +78,17 @@ struct Head {
 }
 
 impl Head {
+    /// Nothing that was read.
+    fn new(alloc: Global) -> Head
+        ensures bytes { result.bytes.items ≡ [] }
+        ensures line { result.line ≡ 0 }
+    {
+        Head {
+            bytes: Vec::new(alloc),
+            line: 0,
+        }
+    }
+
     /// Takes the bytes of one read, and tells where the line feed of the first mark stands if it is among them.
     fn take(&mut self, chunk: &[u8]) -> Result<Option<usize>, AllocError>
         requires { IsOpenAt self.old.bytes.items self.old.line (length self.old.bytes.items) }
@@ -148,15 +160,19 @@ fn room_after(read: usize) -> usize
     (TEXT_LIMIT + MARK_LEN - read).min(CHUNK)
 }
 
+/// What an error of a read is; it goes here.
+fn kind_of(error: Error) -> ErrorKind
+    ensures { result ≡ error_kind error }
+{
+    error.kind()
+}
+
 /// Reads the network text, up to the mark or the end of the input.
 pub fn read_text<R: Read>(alloc: Global, reader: &mut R) -> Result<Opening, Fault>
     ensures { MatchResult result (IsOpening (R.remaining reader.old) (R.remaining reader.new))
         (IsUnopened (R.remaining reader.old) (R.remaining reader.new)) }
 {
-    let mut head = Head {
-        bytes: Vec::new(alloc),
-        line: 0,
-    };
+    let mut head = Head::new(alloc);
     let mut chunk = [0u8; CHUNK];
     for turn in 0..READ_LIMIT {
         let room = room_after(head.bytes.len());
@@ -172,7 +188,7 @@ pub fn read_text<R: Read>(alloc: Global, reader: &mut R) -> Result<Opening, Faul
                 Err(_) => return Err(Fault::OutOfMemory),
             },
             Err(e) => {
-                if e.kind() != ErrorKind::Interrupted {
+                if kind_of(e) != ErrorKind::Interrupted {
                     return Err(Fault::Read);
                 }
             }

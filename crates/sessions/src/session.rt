@@ -68,6 +68,22 @@ fn count_lines(text: &[u8]) -> usize
     count
 }
 
+/// Adds the answer to a line, which is neither too long nor silent, and a line feed.
+fn put_answer<A: Answering>(
+    alloc: Global,
+    state: &mut A,
+    line: &[u8],
+    text: &mut String,
+) -> Result<(), Fault>
+    ensures text { OnOk result ((answer : List ℕ) × A.commands line.now state.old answer state.new × (line_count answer ≡ 0)
+        × (string_bytes text.new ≡ string_bytes text.old ++ (answer ++ 10 ∷ []))) }
+    ensures fault { IfErr result (CutsOff A.needs_place) }
+{
+    state.answer(alloc, line)?.put(text)?;
+    text.push('\n')?;
+    Ok(())
+}
+
 /// Writes what a line is answered with, and a line feed, in the place of a text.
 fn reply<A: Answering>(
     alloc: Global,
@@ -88,9 +104,7 @@ fn reply<A: Answering>(
     if is_quiet(line) {
         return Ok(());
     }
-    state.answer(alloc, line)?.put(text)?;
-    text.push('\n')?;
-    Ok(())
+    put_answer(alloc, state, line, text)
 }
 
 /// Writes what a line that was read in pieces is answered with, as `reply` does.

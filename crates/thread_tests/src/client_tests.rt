@@ -2,7 +2,7 @@
 
 ghost use Rattle.std.specs.Prelude.{◌≡◌};
 
-use crate::samples::{ended, fail, restore, wait_for, worked_desk};
+use crate::samples::{expect_ended, fail, restore, wait_for, worked_desk};
 use desk_core::{Posted, Refusal};
 use std::alloc::Global;
 use std::marker::Brand;
@@ -28,6 +28,20 @@ fn post<N: Naming, R: Wait>(
     client.post(rt, alloc, &mut *hub.lock(rt), 0, seq, event)
 }
 
+/// The client's post is taken, and the workers are told.
+fn expect_taken<N: Naming, R: Wait + Abort>(
+    rt: &R,
+    alloc: Global,
+    hub: &Mutex<Hub<N, ByClient>>,
+    changed: &Condvar,
+    client: &mut Client<N>,
+    seq: u64,
+) {
+    let posted = post(rt, alloc, hub, client, seq);
+    changed.notify_all();
+    assert_eq!(rt; posted, Ok(Posted::Taken(seq)));
+}
+
 /// The client posts changes in turn, waits for each to be published, and comes back.
 fn drive<N: Naming, R: Wait + Abort>(
     rt: &R,
@@ -37,9 +51,7 @@ fn drive<N: Naming, R: Wait + Abort>(
     client: &mut Client<N>,
 ) {
     for seq in 1..21u64 {
-        let posted = post(rt, alloc, hub, client, seq);
-        changed.notify_all();
-        assert_eq!(rt; posted, Ok(Posted::Taken(seq)));
+        expect_taken(rt, alloc, hub, changed, client, seq);
         wait_for(rt, hub, changed, seq);
         client.visit(rt, &mut *hub.lock(rt));
     }
@@ -58,6 +70,23 @@ fn run_client<N: Naming + Send + Sync, R: Threads + Wait + Abort + Sync>(
     });
 }
 
+/// So much of the room for posts is left.
+fn expect_spare<N: Naming, R: Wait + Abort>(rt: &R, hub: &Mutex<Hub<N, ByClient>>, spare: u32) {
+    assert_eq!(rt; hub.lock(rt).desk().spare(), spare);
+}
+
+/// The client makes room for its posts, and uses it up.
+fn expect_room_used<N: Naming + Send + Sync, R: Threads + Wait + Abort + Sync>(
+    rt: &R,
+    alloc: Global,
+    hub: &Mutex<Hub<N, ByClient>>,
+    client: &mut Client<N>,
+) {
+    let _ = client.reserve(rt, &mut *hub.lock(rt), 20);
+    run_client(rt, alloc, hub, client);
+    expect_spare(rt, hub, 0);
+}
+
 /// A client at a new hub, with room for its posts.
 fn alone<N: Naming + Send + Sync, R: Threads + Wait + Abort + Sync>(
     rt: &R,
@@ -66,12 +95,10 @@ fn alone<N: Naming + Send + Sync, R: Threads + Wait + Abort + Sync>(
 )
     requires { (unnamed.state.shown.book ≡ N.book) × (unnamed.table ≡ N.table) }
 {
-    let (mut hub, mut client) = unnamed.named::<N>(alloc).expect(rt, "places");
-    let _ = client.reserve(rt, &mut hub, 20);
+    let (hub, mut client) = unnamed.named::<N>(alloc).expect(rt, "places");
     let hub = Mutex::new(hub);
-    run_client(rt, alloc, &hub, &mut client);
-    let spare = hub.lock(rt).desk().spare();
-    assert_eq!(rt; (spare, ended(rt, hub)), (0, (20, 20)));
+    expect_room_used(rt, alloc, &hub, &mut client);
+    expect_ended(rt, hub, (20, 20));
 }
 
 #[test]

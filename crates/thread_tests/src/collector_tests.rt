@@ -2,7 +2,7 @@
 
 ghost use Rattle.std.specs.Prelude.{◌≡◌};
 
-use crate::samples::{ended, fail, restore, wait_for, worked_desk};
+use crate::samples::{expect_ended, fail, restore, wait_for, worked_desk};
 use profile::Table;
 use route_choice::Far;
 use sample_nets::code;
@@ -83,13 +83,18 @@ fn look<N: Naming, R: Abort>(rt: &R, alloc: Global, reader: &mut Reader<N>) -> u
     seen.number()
 }
 
+/// A reader that asks anew sees the version of a number.
+fn expect_newest<N: Naming, R: Abort>(rt: &R, reader: &mut Reader<N>, number: u64) {
+    let refreshed = reader.refresh();
+    assert_eq!(rt; (refreshed, reader.newest().number()), (Ok(()), number));
+}
+
 /// A reader in another thread learns a note and looks, both ways.
 fn look_after<N: Naming, R: Abort>(rt: &R, alloc: Global, mut reader: Reader<N>, note: Note<N>) {
     reader.learn(note);
     let seen = look(rt, alloc, &mut reader);
-    let refreshed = reader.refresh();
     assert!(rt; seen >= 4001);
-    assert_eq!(rt; (refreshed, reader.newest().number()), (Ok(()), seen));
+    expect_newest(rt, &mut reader, seen);
 }
 
 /// The collectors beside two workers.
@@ -117,6 +122,19 @@ fn last_seqs<N: Naming>(hub: &Hub<N>) -> [u64; 5] {
     ]
 }
 
+/// The collectors post, a reader looks after them, and the last post of each is as it should be.
+fn expect_collected<N: Naming + Send + Sync, R: Threads + Wait + Abort + Sync>(
+    rt: &R,
+    alloc: Global,
+    hub: &Mutex<Hub<N>>,
+    reader: Reader<N>,
+) {
+    let note = run_collectors(rt, alloc, hub);
+    join(rt, move || look_after(rt, alloc, reader, note), || ());
+    let seqs = last_seqs(&*hub.lock(rt));
+    assert_eq!(rt; seqs, [1000, 1000, 1000, 1000, 1]);
+}
+
 /// Collectors and workers at a new hub.
 fn collected<N: Naming + Send + Sync, R: Threads + Wait + Abort + Sync>(
     rt: &R,
@@ -128,13 +146,8 @@ fn collected<N: Naming + Send + Sync, R: Threads + Wait + Abort + Sync>(
     let hub = unnamed.named::<N>(alloc).expect(rt, "places");
     let reader = hub.reader().expect(rt, "a place");
     let hub = Mutex::new(hub);
-    let note = run_collectors(rt, alloc, &hub);
-    join(rt, move || look_after(rt, alloc, reader, note), || ());
-    let seqs = last_seqs(&*hub.lock(rt));
-    assert_eq!(rt;
-        (seqs, ended(rt, hub)),
-        ([1000, 1000, 1000, 1000, 1], (4001, 4001))
-    );
+    expect_collected(rt, alloc, &hub, reader);
+    expect_ended(rt, hub, (4001, 4001));
 }
 
 #[test]

@@ -2,7 +2,7 @@
 
 ghost use Rattle.std.specs.Prelude.{◌≡◌};
 
-use crate::samples::{ended, fail, posted, restore, worked_desk};
+use crate::samples::{expect_ended, fail, posted, restore, worked_desk};
 use desk_core::{Opened, Posted, Refusal};
 use std::alloc::Global;
 use std::marker::Brand;
@@ -56,12 +56,27 @@ fn publish<N: Naming, R: Wait>(rt: &R, alloc: Global, hub: &Mutex<Hub<N>>) -> Re
     hub.lock(rt).publish(rt, alloc)
 }
 
-/// What a second thread does with the result of the first: it gives it, publishes, and opens the next target.
-fn go_on<N: Naming, R: Wait + Abort>(rt: &R, alloc: Global, hub: &Mutex<Hub<N>>, settled: Settled) {
+/// A result is taken in, and version 1 published.
+fn expect_published<N: Naming, R: Wait + Abort>(
+    rt: &R,
+    alloc: Global,
+    hub: &Mutex<Hub<N>>,
+    settled: Settled,
+) {
     let given = give(rt, hub, settled);
     assert_eq!(rt; (given, publish(rt, alloc, hub)), (Ok(()), Ok(1)));
-    let again = hub.lock(rt).post(alloc, 0, 2, restore(4, 0));
-    assert_eq!(rt; again, Ok(Posted::Taken(2)));
+}
+
+/// A second event is taken.
+fn expect_taken<N: Naming, R: Wait + Abort>(rt: &R, alloc: Global, hub: &Mutex<Hub<N>>) {
+    let posted = hub.lock(rt).post(alloc, 0, 2, restore(4, 0));
+    assert_eq!(rt; posted, Ok(Posted::Taken(2)));
+}
+
+/// What a second thread does with the result of the first: it gives it, publishes, and opens the next target.
+fn go_on<N: Naming, R: Wait + Abort>(rt: &R, alloc: Global, hub: &Mutex<Hub<N>>, settled: Settled) {
+    expect_published(rt, alloc, hub, settled);
+    expect_taken(rt, alloc, hub);
     expect_opened(rt, open_twice(rt, alloc, hub), 2);
 }
 
@@ -112,7 +127,7 @@ fn stepped<N: Naming + Send + Sync, R: Threads + Wait + Abort + Sync>(
 {
     let hub = posted::<N>(rt, alloc, unnamed, fail(4, 0));
     step(rt, alloc, &hub);
-    assert_eq!(rt; ended(rt, hub), (2, 2));
+    expect_ended(rt, hub, (2, 2));
 }
 
 #[test]
@@ -136,7 +151,8 @@ fn reserved<N: Naming, R: Wait + Abort>(rt: &R, alloc: Global, unnamed: Unnamed)
 {
     let hub = posted::<N>(rt, alloc, unnamed, fail(4, 0));
     let room = reserve_and_post(alloc, &mut *hub.lock(rt));
-    assert_eq!(rt; (room, ended(rt, hub)), ((1, 0), (0, 2)));
+    assert_eq!(rt; room, (1, 0));
+    expect_ended(rt, hub, (0, 2));
 }
 
 #[test]

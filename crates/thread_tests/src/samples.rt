@@ -62,10 +62,23 @@ pub(crate) fn posted<N: Naming>(
     Mutex::new(hub)
 }
 
-/// Ends a hub, and tells which version is published and how many events are accepted.
-pub(crate) fn ended<N: Naming, P: Posters, R: Wait>(rt: &R, hub: Mutex<Hub<N, P>>) -> (u64, u64) {
-    let desk = hub.into_inner().close(rt);
+/// Which version of a desk is published, and how many events are accepted; the desk goes.
+fn numbers_of(desk: Desk) -> (u64, u64) {
     (desk.published().number(), desk.accepted())
+}
+
+/// Ends a hub, and tells which version is published and how many events are accepted.
+fn ended<N: Naming, P: Posters, R: Wait>(rt: &R, hub: Mutex<Hub<N, P>>) -> (u64, u64) {
+    numbers_of(hub.into_inner().close(rt))
+}
+
+/// Ends a hub, of which this version is published and so many events are accepted.
+pub(crate) fn expect_ended<N: Naming, P: Posters, R: Wait + Abort>(
+    rt: &R,
+    hub: Mutex<Hub<N, P>>,
+    numbers: (u64, u64),
+) {
+    assert_eq!(rt; ended(rt, hub), numbers);
 }
 
 /// Waits until the version of a number, or a later one, is published.

@@ -13,6 +13,26 @@ use std::sync::Wait;
 use std::thread::Threads;
 use worker_pool::Gate;
 
+/// What a script writes beside that many workers, from a network, and whether it has no fault.
+fn written_by<R: Threads + Wait + Sync, G: Gate + Sync>(
+    rt: &R,
+    alloc: Global,
+    n: u32,
+    gate: &G,
+    net: Net,
+    script: &[u8],
+) -> (Vec<u8>, bool)
+    requires { (0 < n) × (n ≤ 32) }
+{
+    let out: Vec<u8> = Vec::new(alloc);
+    let BesideEnd {
+        end,
+        reader: _,
+        writer,
+    } = run_beside(rt, alloc, n, gate, script, out, net);
+    (writer, end.fault.is_none())
+}
+
 /// Checks what a script writes beside that many workers, from a network.
 fn expect_written<R: Threads + Wait + Abort + Sync, G: Gate + Sync>(
     rt: &R,
@@ -25,13 +45,8 @@ fn expect_written<R: Threads + Wait + Abort + Sync, G: Gate + Sync>(
 )
     requires { (0 < n) × (n ≤ 32) }
 {
-    let out: Vec<u8> = Vec::new(alloc);
-    let BesideEnd {
-        end,
-        reader: _,
-        writer,
-    } = run_beside(rt, alloc, n, gate, script, out, net);
-    assert_eq!(rt; (end.fault, writer.as_slice()), (None, answers));
+    let (written, is_whole) = written_by(rt, alloc, n, gate, net, script);
+    assert_eq!(rt; (is_whole, written.as_slice()), (true, answers));
 }
 
 const MATE_USED: (&[u8], &[u8]) = (

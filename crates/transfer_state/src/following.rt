@@ -305,6 +305,17 @@ fn expected_marks(e: &Excerpt, turned: &[Ends]) -> usize {
     expected.max(count_near(e, turned))
 }
 
+/// The places of the rows that rest on a set between the two points of any of these pairs.
+fn marks_of(alloc: Global, e: &Excerpt, turned: &[Ends]) -> Result<Vec<usize>, AllocError>
+    requires { AllByRecursion (IsTold e.now.network.points) turned.now }
+    ensures within { IfOk result (λ marks. AreMarks e.now marks.items) }
+    ensures marked { IfOk result (λ marks. (y z : ℕ) → has_ends turned.now y z ≡ true → HasMarksOf e.now marks.items y z) }
+{
+    let mut marks = Vec::with_capacity(alloc, expected_marks(e, turned))?;
+    mark_turned(e, &mut marks, turned)?;
+    Ok(marks)
+}
+
 /// The choices of all rows, if few have to be chosen anew: those before, shared, if none has to.
 pub(crate) fn choices_after(
     alloc: Global,
@@ -320,8 +331,7 @@ pub(crate) fn choices_after(
 {
     e.validity();
     before.validity();
-    let mut marks = Vec::with_capacity(alloc, expected_marks(e, turned))?;
-    mark_turned(e, &mut marks, turned)?;
+    let marks = marks_of(alloc, e, turned)?;
     if marks.is_empty() {
         return Ok(Some(Arc::try_clone(choices)?));
     }

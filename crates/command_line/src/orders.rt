@@ -1,0 +1,170 @@
+//! The order that matches say.
+
+ghost use Rattle.std.specs.Prelude.{◌≡◌, ◌≤◌, ◌↔◌, IsTrue, Some, codes, IfOk, IfSome, option_map, false};
+ghost use Rattle.std.specs.Fmt.{decimal};
+ghost use Rattle.clap.specs.Words.{first_of, found_of, rows_of, subcommand_rows_of};
+ghost use Rattle.command_line.specs.Words.{HasFlag, IsOrder, IsWorkers, IsPadded, IsNoCount, HasBadCount, HasBadWorkers, is_whole};
+
+use crate::words::Order;
+use clap::ArgMatches;
+
+/// Why matches are no order.
+#[derive(Clone, Copy)]
+pub(crate) enum NoOrder {
+    /// They name no subcommand of the desk's, or not each file or folder that it needs.
+    NotWhole,
+    /// A text is given that says no number of workers.
+    Workers,
+}
+
+/// The subcommand that the words name, with its own matches.
+fn entered<'m, 'a>(matches: &'m ArgMatches<'a>) -> Option<(&'a str, &'m ArgMatches<'a>)>
+    ensures { option_map (λ p. (p.0.now, rows_of (found_of p.1.now))) result ≡ subcommand_rows_of matches.entry.now }
+{
+    matches.subcommand()
+}
+
+/// The first value of an argument.
+fn value_at<'a>(matches: &ArgMatches<'a>, id: &str) -> Option<&'a str>
+    ensures { option_map (λ s. s.now) result ≡ first_of id.now (rows_of (found_of matches.now)) }
+{
+    matches.get_str(id)
+}
+
+/// Whether a text begins with a plus or a zero, and goes on. `parse` takes such texts of numbers too.
+fn is_padded(text: &str) -> bool
+    ensures { IsTrue result ↔ IsPadded text.now }
+{
+    match text.as_bytes() {
+        [first, _, ..] => *first == b'+' || *first == b'0',
+        _ => false,
+    }
+}
+
+/// The number of workers that a text says.
+fn worker_count(text: &str) -> Option<u32>
+    ensures some { IfSome result (λ n. (text.now ≡ decimal n) × (n ≤ 32)) }
+    ensures none { result ≡ None → IsNoCount text.now }
+{
+    if is_padded(text) {
+        return None;
+    }
+    match text.parse::<u32>() {
+        Ok(count) if count <= 32 => Some(count),
+        _ => None,
+    }
+}
+
+/// The number of workers that the matches of `run` say.
+fn workers_at(matches: &ArgMatches) -> Option<u32>
+    ensures some { IfSome result (IsWorkers (first_of (codes "workers") (rows_of (found_of matches.now)))) }
+    ensures none { result ≡ None → HasBadCount (rows_of (found_of matches.now)) }
+{
+    match value_at(matches, "workers") {
+        Some(text) => worker_count(text),
+        None => Some(0),
+    }
+}
+
+/// What the matches of `run` order.
+fn run_order<'a>(matches: &ArgMatches<'a>) -> Result<Order<'a>, NoOrder>
+    ensures order { IfOk result (λ order. IsOrder order (Some (codes "run", rows_of (found_of matches.now)))) }
+    ensures not_whole { result ≡ Err NoOrder.NotWhole → is_whole (codes "run", rows_of (found_of matches.now)) ≡ false }
+    ensures workers { result ≡ Err NoOrder.Workers → HasBadWorkers (Some (codes "run", rows_of (found_of matches.now))) }
+{
+    let Some(net) = value_at(matches, "net") else {
+        return Err(NoOrder::NotWhole);
+    };
+    let Some(workers) = workers_at(matches) else {
+        return Err(NoOrder::Workers);
+    };
+    let save = value_at(matches, "save");
+    Ok(Order::Run { net, workers, save })
+}
+
+/// What the matches of `play` order.
+fn play_order<'a>(matches: &ArgMatches<'a>) -> Option<Order<'a>>
+    ensures some { IfSome result (λ order. IsOrder order (Some (codes "play", rows_of (found_of matches.now)))) }
+    ensures none { result ≡ None → is_whole (codes "play", rows_of (found_of matches.now)) ≡ false }
+{
+    let net = value_at(matches, "net")?;
+    let steps = value_at(matches, "steps")?;
+    let save = value_at(matches, "save");
+    Some(Order::Play { net, steps, save })
+}
+
+/// What the matches of `check` order.
+fn check_order<'a>(matches: &ArgMatches<'a>) -> Option<Order<'a>>
+    ensures some { IfSome result (λ order. IsOrder order (Some (codes "check", rows_of (found_of matches.now)))) }
+    ensures none { result ≡ None → is_whole (codes "check", rows_of (found_of matches.now)) ≡ false }
+{
+    let net = value_at(matches, "net")?;
+    Some(Order::Check { net })
+}
+
+/// Whether the matches have a flag.
+fn flag_at(matches: &ArgMatches, id: &str) -> bool
+    ensures { IsTrue result ↔ HasFlag id.now (rows_of (found_of matches.now)) }
+{
+    // `get_flag` doesn't say what it makes of a value that is neither `true` nor `false`.
+    value_at(matches, id) == Some("true")
+}
+
+/// What the matches of `picture` order.
+fn picture_order<'a>(matches: &ArgMatches<'a>) -> Option<Order<'a>>
+    ensures some { IfSome result (λ order. IsOrder order (Some (codes "picture", rows_of (found_of matches.now)))) }
+    ensures none { result ≡ None → is_whole (codes "picture", rows_of (found_of matches.now)) ≡ false }
+{
+    let net = value_at(matches, "net")?;
+    let about = value_at(matches, "about");
+    let svg = flag_at(matches, "svg");
+    Some(Order::Picture { net, about, svg })
+}
+
+/// What the matches of `import` order.
+fn import_order<'a>(matches: &ArgMatches<'a>) -> Option<Order<'a>>
+    ensures some { IfSome result (λ order. IsOrder order (Some (codes "import", rows_of (found_of matches.now)))) }
+    ensures none { result ≡ None → is_whole (codes "import", rows_of (found_of matches.now)) ≡ false }
+{
+    let dir = value_at(matches, "dir")?;
+    Some(Order::Import { dir })
+}
+
+/// What the matches of `export` order.
+fn export_order<'a>(matches: &ArgMatches<'a>) -> Option<Order<'a>>
+    ensures some { IfSome result (λ order. IsOrder order (Some (codes "export", rows_of (found_of matches.now)))) }
+    ensures none { result ≡ None → is_whole (codes "export", rows_of (found_of matches.now)) ≡ false }
+{
+    let net = value_at(matches, "net")?;
+    let dir = value_at(matches, "dir")?;
+    Some(Order::Export { net, dir })
+}
+
+/// What the matches of `explain` order.
+fn explain_order<'a>(matches: &ArgMatches<'a>) -> Order<'a>
+    ensures { IsOrder result (Some (codes "explain", rows_of (found_of matches.now))) }
+{
+    let what = value_at(matches, "what");
+    Order::Explain { what }
+}
+
+/// What the matches order.
+pub(crate) fn order_of<'a>(matches: &ArgMatches<'a>) -> Result<Order<'a>, NoOrder>
+    ensures order { IfOk result (λ order. IsOrder order (subcommand_rows_of matches.now)) }
+    ensures not_whole { result ≡ Err NoOrder.NotWhole → IfSome (subcommand_rows_of matches.now) (λ found. is_whole found ≡ false) }
+    ensures workers { result ≡ Err NoOrder.Workers → HasBadWorkers (subcommand_rows_of matches.now) }
+{
+    let Some((name, inner)) = entered(matches) else {
+        return Err(NoOrder::NotWhole);
+    };
+    match name {
+        "run" => run_order(inner),
+        "play" => play_order(inner).ok_or(NoOrder::NotWhole),
+        "check" => check_order(inner).ok_or(NoOrder::NotWhole),
+        "picture" => picture_order(inner).ok_or(NoOrder::NotWhole),
+        "import" => import_order(inner).ok_or(NoOrder::NotWhole),
+        "export" => export_order(inner).ok_or(NoOrder::NotWhole),
+        "explain" => Ok(explain_order(inner)),
+        _ => Err(NoOrder::NotWhole),
+    }
+}

@@ -1,0 +1,11 @@
+pub mod CsvLemmas
+pub mod LawLemmas
+pub mod ValueLemmas
+pub mod NeedLemmas
+pub mod WritingLemmas
+pub mod RecordLemmas
+pub mod BuildingLemmas
+pub mod PlanLemmas
+pub mod AddingLemmas
+pub mod ReadingLemmas
+pub mod FaultLemmas

@@ -1,0 +1,68 @@
+-- What the texts of tables say, put together.
+use Rattle.std.proofs.Common.{◌≡◌, ℕ, ◌-◌, List, [], ◌++◌, length, map, take, drop, Result, Ok, Err, ap, sym, ◌∙◌, subst, append_assoc}
+use Rattle.std.specs.List.{All, flat_map}
+use Rattle.std.specs.Result.{OnOk}
+use Rattle.csv.specs.Records.{Row, fields_of}
+use Rattle.net_items.specs.declared.items.Point.{Point}
+use Rattle.net_items.specs.declared.items.LinkSet.{LinkSet}
+use Rattle.net_data.specs.Network.{Network}
+use Rattle.net_data.specs.Edits.{apply_all}
+use Rattle.net_building.specs.Building.{point_event, set_events, plan_event}
+use Rattle.net_sheets.specs.declared.routes.Route.{Route}
+use Rattle.net_sheets.specs.Tables.{Fields, points_header, sets_header, routes_header}
+use Rattle.net_sheets.specs.Records.{IsTable}
+use Rattle.net_sheets.specs.Values.{Read, point_of, set_of, route_of, all_read, Holds}
+use Rattle.net_sheets.specs.Events.{IsRankedPlan, pair_events, empty_net, AddsPoints, AddsSets, AddsPlans, AddsRoutes, Says}
+use Rattle.net_sheets.proofs.BuildingLemmas.{apply_append}
+use Rattle.net_sheets.proofs.PlanLemmas.{rest_from}
+
+pub where_ok : {A B : Type 0} (r : Result A B) (P Q : Type 0) → (P → Q) → OnOk r P → OnOk r Q
+where_ok (Ok x) P Q f p = f p
+where_ok (Err e) P Q f p = tt
+
+-- what is read of the records after the header
+pub values_told : {A : Type 0} (of : Fields → Read A) (names header : Fields) (text : List ℕ) (rows told : List Row) (answer : Read (List A)) → told ≡ rows → names ≡ header → IsTable names text (map fields_of (drop 1 rows))
+    → all_read of (map fields_of (take (length told - 1) (drop 1 told))) ≡ answer → Holds of header text answer
+values_told of names header text rows told answer e h table read =
+    record {
+      records = map fields_of (drop 1 rows);
+      table = subst (λ fs. IsTable fs text (map fields_of (drop 1 rows))) h table;
+      answered = ap (λ rs. all_read of (map fields_of (drop 1 rs))) (sym e) ∙ ap (λ rs. all_read of (map fields_of rs)) (sym (rest_from 1 told)) ∙ read;
+    }
+
+-- points and then their pairs
+pub points_added : (old mid new : Network) (text : List ℕ) (points added paired : List Point) → Holds point_of points_header text (Ok points) → added ≡ points → paired ≡ points
+    → apply_all old (map point_event added) ≡ Ok mid → apply_all mid (pair_events [] paired) ≡ Ok new → AddsPoints old text new
+points_added old mid new text points added paired told e1 e2 first second =
+    record {
+      points = points;
+      told = told;
+      built = record { all = apply_append old mid (map point_event points) (pair_events [] points) (ap (λ ps. apply_all old (map point_event ps)) (sym e1) ∙ first) ∙ ap (λ ps. apply_all mid (pair_events [] ps)) (sym e2) ∙ second };
+    }
+
+pub sets_added : (old new : Network) (text : List ℕ) (sets added : List LinkSet) → Holds set_of sets_header text (Ok sets) → added ≡ sets → apply_all old (flat_map set_events added) ≡ Ok new → AddsSets old text new
+sets_added old new text sets added told e all = record { sets = sets; told = told; built = record { all = ap (λ ss. apply_all old (flat_map set_events ss)) (sym e) ∙ all } }
+
+pub routes_added : (old new : Network) (text : List ℕ) (routes added : List Route) → Holds route_of routes_header text (Ok routes) → added ≡ routes → AddsPlans old added new → AddsRoutes old text new
+routes_added old new text routes added told e all = record { routes = routes; told = told; built = subst (λ rs. AddsPlans old rs new) e all }
+
+-- the three tables one after the other
+pub says_all : (points sets routes : List ℕ) (ni : ℕ) (start one two net : Network) → start ≡ empty_net ni → AddsPoints start points one → AddsSets one sets two → AddsRoutes two routes net → Says points sets routes ni net
+says_all points sets routes ni start one two net e a b c =
+    let plans = c.built.plans in
+    let last : apply_all two (map plan_event plans) ≡ Ok net = c.built.built.all in
+    let later : apply_all one (flat_map set_events b.sets ++ map plan_event plans) ≡ Ok net = apply_append one two (flat_map set_events b.sets) (map plan_event plans) b.built.all ∙ last in
+    let pairs : apply_all start ((map point_event a.points ++ pair_events [] a.points) ++ (flat_map set_events b.sets ++ map plan_event plans)) ≡ Ok net =
+    apply_append start one (map point_event a.points ++ pair_events [] a.points) (flat_map set_events b.sets ++ map plan_event plans) a.built.all ∙ later in
+    record {
+      points = a.points;
+      sets = b.sets;
+      plans = plans;
+      points_told = a.told;
+      sets_told = b.told;
+      routes_told = subst (λ rs. Holds route_of routes_header routes (Ok rs)) (sym c.built.told) c.told;
+      plans_apart = c.built.apart;
+      plans_ranked = subst (λ ps. All (IsRankedPlan ps) plans) (sym c.built.kept) c.built.ranked;
+      built = ap (apply_all (empty_net ni)) (sym (append_assoc (map point_event a.points) (pair_events [] a.points) (flat_map set_events b.sets ++ map plan_event plans)))
+          ∙ ap (λ n. apply_all n ((map point_event a.points ++ pair_events [] a.points) ++ (flat_map set_events b.sets ++ map plan_event plans))) (sym e) ∙ pairs;
+    }

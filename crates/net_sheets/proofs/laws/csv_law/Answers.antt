@@ -1,0 +1,6 @@
+use Rattle.net_sheets.specs.Tables.{routes_of}
+use Rattle.net_sheets.proofs.CsvLemmas.{points_read, sets_read, routes_read}
+use Rattle.net_sheets.proofs.laws.csv_law.Goals as goal
+
+pub returns : goal.returns
+returns c = record { points = λ net. points_read net.points; sets = λ net. sets_read net.sets; routes = λ net. routes_read (routes_of net.plans) }

@@ -1,0 +1,104 @@
+-- The events that three tables say.
+use Rattle.std.specs.Prelude.{◌≡◌, ℕ, ◌<◌, ◌==◌, ◌&&◌, Bool, true, false, if◌then◌else◌, List, [], ◌∷◌, ◌++◌, length, map, Ok}
+use Rattle.std.specs.List.{All, flat_map, list_any}
+use Rattle.std.specs.Option.{option_map_or}
+use Rattle.net_items.specs.declared.items.Point.{Point}
+use Rattle.net_items.specs.declared.items.LinkSet.{LinkSet}
+use Rattle.net_items.specs.declared.items.Plan.{Plan}
+use Rattle.net_items.specs.declared.lists.Row.{Row}
+use Rattle.net_items.specs.declared.links.Link.{Link}
+use Rattle.link_state.specs.declared.marks.End.TheVariants.{First, Second}
+use Rattle.link_state.specs.declared.marks.LinkChange.TheVariants.{Restore, Block, Inhibit}
+use Rattle.net_sets.specs.Sets.{is_distinct}
+use Rattle.net_data.specs.declared.events.Event.{Event}
+use Rattle.net_data.specs.declared.events.Event.TheVariants as on
+use Rattle.net_data.specs.Network.{Network}
+use Rattle.net_data.specs.Edits.{apply_all}
+use Rattle.net_building.specs.Building.{point_event, changes_of, set_events, plan_event}
+use Rattle.net_sheets.specs.Ranks.{IsLeast, with_ranks}
+use Rattle.net_sheets.specs.declared.routes.Route.{Route}
+use Rattle.net_sheets.specs.Tables.{points_header, sets_header, routes_header, routes_of}
+use Rattle.net_sheets.specs.Values.{point_of, set_of, route_of, Holds}
+
+-- one of those points names m as the mate of p
+abbrev pub is_named : List Point → ℕ → ℕ → Bool
+is_named points p m = list_any (λ (q : Point). q.code == p && option_map_or (λ x. x == m) q.mate false) points
+
+-- a point is paired with the mate that it names, unless one of the earlier points is that mate and names it
+abbrev pub pair_event : List Point → Point → List Event
+pair_event earlier p = option_map_or (λ m. if is_named earlier m p.code then [] else on.Pair p.code m ∷ []) p.mate []
+
+-- the mated pairs of points that come after those
+abbrev pub pair_events : List Point → List Point → List Event
+pair_events earlier [] = []
+pair_events earlier (p ∷ ps) = pair_event earlier p ++ pair_events (earlier ++ p ∷ []) ps
+
+-- the event that adds a set, whose links are failed alone
+abbrev pub added_set : LinkSet → Event
+added_set s = on.AddSet s.id s.a s.b (map (λ (l : Link). l.slc) s.links)
+
+-- the changes that give the links of a new set their marks
+abbrev pub mark_events : LinkSet → List Event
+mark_events s = flat_map (changes_of s.id s.links) (Restore ∷ Block First ∷ Block Second ∷ Inhibit First ∷ Inhibit Second ∷ [])
+
+-- the events of three tables: each point, each mated pair, each set with its links' marks, each plan
+abbrev pub events_of_sheets : List Point → List LinkSet → List Plan → List Event
+events_of_sheets points sets plans = map point_event points ++ (pair_events [] points ++ (flat_map set_events sets ++ map plan_event plans))
+
+-- the empty network of a network indicator
+abbrev pub empty_net : ℕ → Network
+empty_net ni = record { ni = ni; tfr = true; points = []; sets = []; plans = [] }
+
+-- a plan with a row, whose rows have the least ranks
+pub record IsRankedPlan (points : List Point) (p : Plan) : Type 0 where
+  pub some_row : 0 < length p.rows
+  pub least : IsLeast points p.dest p.rows (map (λ (r : Row). r.rank) p.rows)
+
+-- what the texts of three tables say: a network
+pub record Says (points_file sets_file routes_file : List ℕ) (ni : ℕ) (net : Network) : Type 0 where
+  pub points : List Point
+  pub sets : List LinkSet
+  pub plans : List Plan
+  pub points_told : Holds point_of points_header points_file (Ok points)
+  pub sets_told : Holds set_of sets_header sets_file (Ok sets)
+  pub routes_told : Holds route_of routes_header routes_file (Ok (routes_of plans))
+  pub plans_apart : is_distinct (map (λ (p : Plan). p.dest) plans) ≡ true
+  pub plans_ranked : All (IsRankedPlan net.points) plans
+  pub built : apply_all (empty_net ni) (events_of_sheets points sets plans) ≡ Ok net
+
+-- the events lead from one network to another
+pub record Leads (old : Network) (events : List Event) (new : Network) : Type 0 where
+  pub all : apply_all old events ≡ Ok new
+
+-- a plan of those rows, with the least ranks, leads from one network to another
+pub record AddsPlan (old : Network) (dest : ℕ) (rows : List Row) (new : Network) : Type 0 where
+  pub ranks : List ℕ
+  pub least : IsLeast old.points dest rows ranks
+  pub built : Leads old (plan_event (record { dest = dest; rows = with_ranks rows ranks }) ∷ []) new
+
+-- the plans of those routes, with the least ranks, lead from one network to another
+pub record AddsPlans (old : Network) (routes : List Route) (new : Network) : Type 0 where
+  pub plans : List Plan
+  pub told : routes_of plans ≡ routes
+  pub apart : is_distinct (map (λ (p : Plan). p.dest) plans) ≡ true
+  pub ranked : All (IsRankedPlan old.points) plans
+  pub built : Leads old (map plan_event plans) new
+  pub kept : new.points ≡ old.points
+
+-- the points of a text and their mated pairs lead from one network to another
+pub record AddsPoints (old : Network) (text : List ℕ) (new : Network) : Type 0 where
+  pub points : List Point
+  pub told : Holds point_of points_header text (Ok points)
+  pub built : Leads old (map point_event points ++ pair_events [] points) new
+
+-- the sets of a text lead from one network to another
+pub record AddsSets (old : Network) (text : List ℕ) (new : Network) : Type 0 where
+  pub sets : List LinkSet
+  pub told : Holds set_of sets_header text (Ok sets)
+  pub built : Leads old (flat_map set_events sets) new
+
+-- the routes of a text lead from one network to another
+pub record AddsRoutes (old : Network) (text : List ℕ) (new : Network) : Type 0 where
+  pub routes : List Route
+  pub told : Holds route_of routes_header text (Ok routes)
+  pub built : AddsPlans old routes new

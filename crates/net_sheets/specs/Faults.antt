@@ -1,0 +1,106 @@
+-- What a fault of three tables tells.
+use Rattle.std.specs.Prelude.{◌≡◌, ℕ, true, List, [], ◌++◌, map, Some, Result, Ok, Err}
+use Rattle.std.specs.List.{flat_map}
+use Rattle.net_items.specs.declared.items.Point.{Point}
+use Rattle.net_items.specs.declared.lists.Row.{Row}
+use Rattle.net_data.specs.declared.events.Refusal.{Refusal}
+use Rattle.net_data.specs.declared.events.Event.{Event}
+use Rattle.net_data.specs.Network.{Network}
+use Rattle.net_data.specs.Edits.{refusal_of, apply_all}
+use Rattle.net_building.specs.Building.{point_event, set_events, plan_event}
+use Rattle.net_sheets.specs.declared.routes.Route.{Route}
+use Rattle.net_sheets.specs.declared.faults.Reason.{Reason}
+use Rattle.net_sheets.specs.declared.faults.Reason.TheVariants.{Csv, Columns, Field, Order, Refused, Loop, TooDeep, OutOfMemory}
+use Rattle.net_sheets.specs.declared.faults.Sheet.{Sheet}
+use Rattle.net_sheets.specs.declared.faults.Sheet.TheVariants.{Points, Sets, Routes}
+use Rattle.net_sheets.specs.Ranks.{HasNoRanks, IsLeast, with_ranks}
+use Rattle.net_sheets.specs.Loops.{is_loop}
+use Rattle.net_sheets.specs.Tables.{Fields, points_header, sets_header, routes_header, row_routes}
+use Rattle.net_sheets.specs.Values.{Read, point_of, set_of, route_of, Holds}
+use Rattle.net_sheets.specs.Events.{pair_events, empty_net, AddsPoints, AddsSets, AddsPlans}
+
+-- a column is the one that is wrong in the first record that has no value
+abbrev pub IsFieldFault : {A : Type 0} → Read (List A) → Reason → Type 0
+IsFieldFault answer (Field n) = answer ≡ Err n
+IsFieldFault answer OutOfMemory = Unit {0}
+IsFieldFault answer _ = ⊥
+
+-- a refusal is that of the first event that the network's rules refuse
+abbrev pub IsRefusal : Result Network Refusal → Reason → Type 0
+IsRefusal applied (Refused refusal) = applied ≡ Err refusal
+IsRefusal applied OutOfMemory = Unit {0}
+IsRefusal applied _ = ⊥
+
+-- an event is refused
+pub record Refuses (net : Network) (event : Event) (refusal : Refusal) : Type 0 where
+  pub first : refusal_of net event ≡ Some refusal
+
+-- routes that are out of order
+abbrev pub IsOrderFault : Reason → Type 0
+IsOrderFault Order = Unit {0}
+IsOrderFault OutOfMemory = Unit {0}
+IsOrderFault _ = ⊥
+
+-- rows have no ranks, and a loop is told if one was found
+abbrev pub IsUnranked : List Point → ℕ → List Row → Reason → Type 0
+IsUnranked points dest rows (Loop codes) = HasNoRanks points dest rows × (is_loop points dest rows codes.items ≡ true)
+IsUnranked points dest rows TooDeep = HasNoRanks points dest rows
+IsUnranked points dest rows OutOfMemory = Unit {0}
+IsUnranked points dest rows _ = ⊥
+
+-- a plan of those rows is refused with the least ranks, or has none
+abbrev pub IsPlanFault : Network → ℕ → List Row → Reason → Type 0
+IsPlanFault net dest rows (Refused refusal) =
+    (ranks : List ℕ) × IsLeast net.points dest rows ranks × Refuses net (plan_event (record { dest = dest; rows = with_ranks rows ranks })) refusal
+IsPlanFault net dest rows reason = IsUnranked net.points dest rows reason
+
+-- the plan after those that the first routes make has that fault
+pub record StopsAt (old : Network) (routes : List Route) (reason : Reason) : Type 0 where
+  pub done : List Route
+  pub dest : ℕ
+  pub rows : List Row
+  pub rest : List Route
+  pub mid : Network
+  pub split : routes ≡ done ++ (flat_map (row_routes dest) rows ++ rest)
+  pub before : AddsPlans old done mid
+  pub fault : IsPlanFault mid dest rows reason
+
+-- routes are out of order, or a plan of them has a fault
+abbrev pub IsRoutesFault : Network → List Route → Reason → Type 0
+IsRoutesFault old routes Order = Unit {0}
+IsRoutesFault old routes OutOfMemory = Unit {0}
+IsRoutesFault old routes (Refused refusal) = StopsAt old routes (Refused refusal)
+IsRoutesFault old routes (Loop codes) = StopsAt old routes (Loop codes)
+IsRoutesFault old routes TooDeep = StopsAt old routes TooDeep
+IsRoutesFault old routes _ = ⊥
+
+-- a fault before any record is read: no CSV, or another header
+abbrev pub IsTableFault : Reason → Type 0
+IsTableFault Csv = Unit {0}
+IsTableFault Columns = Unit {0}
+IsTableFault OutOfMemory = Unit {0}
+IsTableFault _ = ⊥
+
+-- a fault of the text of a table, whose values make events
+abbrev pub IsTextFault : {A : Type 0} → (Fields → Read A) → Fields → (List A → Reason → Type 0) → List ℕ → Reason → Type 0
+IsTextFault of header fault text Csv = Unit {0}
+IsTextFault of header fault text Columns = Unit {0}
+IsTextFault of header fault text OutOfMemory = Unit {0}
+IsTextFault of header fault text (Field n) = Holds of header text (Err n)
+IsTextFault {A} of header fault text reason = (values : List A) × Holds of header text (Ok values) × fault values reason
+
+-- a fault of the table of points, of the table of sets, and of the table of routes, each with what is there before
+abbrev pub IsPointsFault : Network → List ℕ → Reason → Type 0
+IsPointsFault old text reason = IsTextFault point_of points_header (λ points. IsRefusal (apply_all old (map point_event points ++ pair_events [] points))) text reason
+
+abbrev pub IsSetsFault : Network → List ℕ → Reason → Type 0
+IsSetsFault old text reason = IsTextFault set_of sets_header (λ sets. IsRefusal (apply_all old (flat_map set_events sets))) text reason
+
+abbrev pub IsRoutesTextFault : Network → List ℕ → Reason → Type 0
+IsRoutesTextFault old text reason = IsTextFault route_of routes_header (IsRoutesFault old) text reason
+
+-- a fault of three tables
+abbrev pub IsFaultOf : List ℕ → List ℕ → List ℕ → ℕ → Sheet → Reason → Type 0
+IsFaultOf points sets routes ni Points reason = IsPointsFault (empty_net ni) points reason
+IsFaultOf points sets routes ni Sets reason = (one : Network) × AddsPoints (empty_net ni) points one × IsSetsFault one sets reason
+IsFaultOf points sets routes ni Routes reason = (one : Network) × (two : Network) × AddsPoints (empty_net ni) points one × AddsSets one sets two × IsRoutesTextFault two routes reason

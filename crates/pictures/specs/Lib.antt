@@ -1,0 +1,4 @@
+pub mod Dot
+pub mod Layout
+pub mod Shown
+pub mod Svg

@@ -1,0 +1,90 @@
+-- What a picture shows (own): how link sets stand (after Q.704 clause 3.2), and how each point leads its traffic to a destination (after clauses 2.3 and 13.2 to 13.4).
+use Rattle.std.specs.Prelude.{ℕ, ◌==◌, ◌||◌, not, Bool, false, List, [], ◌++◌, Option, map, is_some, if◌then◌else◌, codes}
+use Rattle.std.specs.List.{list_all, count_by, range_with_len}
+use Rattle.std.specs.Option.{option_map_or, option_and_then}
+use Rattle.std.specs.Fmt.{decimal}
+use Rattle.point_codes.specs.Codes.{code_text}
+use Rattle.net_items.specs.declared.items.LinkSet.{LinkSet}
+use Rattle.net_items.specs.declared.lists.Row.{Row}
+use Rattle.net_data.specs.Network.{Network}
+use Rattle.link_sets.specs.Availability.{link_available, set_available}
+use Rattle.route_choice.specs.declared.choices.Far.{Far}
+use Rattle.route_choice.specs.declared.choices.Far.TheVariants as far
+use Rattle.route_choice.specs.declared.choices.Choice.{Choice}
+use Rattle.profile.specs.Local.{is_at, is_member}
+use Rattle.profile.specs.Status.{Source, source_row, status, choice}
+use Rattle.profile.specs.Whole.{carrier}
+use Rattle.excerpts.specs.Excerpt.{ExcerptValue, excerpt_at, source_of}
+use Rattle.pictures.specs.declared.faults.PictureFault.{PictureFault}
+use Rattle.pictures.specs.declared.faults.PictureFault.TheVariants as fault
+use Rattle.pictures.specs.declared.styles.Style.{Style}
+use Rattle.pictures.specs.declared.styles.Style.TheVariants as style
+use Rattle.pictures.specs.declared.styles.Colour.{Colour}
+use Rattle.pictures.specs.declared.styles.Colour.TheVariants as colour
+
+-- how a set is drawn: plain if all its links are available, dashed if some are, grey if none is
+abbrev pub style_of : LinkSet → Style
+style_of set = if list_all link_available set.links then style.Plain else (if set_available set then style.Dashed else style.Grey)
+
+-- the colour of a status
+abbrev pub far_colour : Far → Colour
+far_colour far.Allowed = colour.Allowed
+far_colour far.Restricted = colour.Restricted
+far_colour far.Prohibited = colour.Prohibited
+
+-- the colour of a point towards a destination, which has one of its own: that of the point's status, white if it has no row
+abbrev pub colour_towards : Source → ℕ → Colour
+colour_towards src y =
+    if y == src.dest then colour.Destination else (if is_some (source_row src y) then far_colour (status src y) else colour.White)
+
+-- the same in a picture, which may be asked about no destination
+abbrev pub colour_of : Option ExcerptValue → ℕ → Colour
+colour_of about y = option_map_or (λ x. colour_towards (source_of x) y) about colour.White
+
+-- a colour in red, green and blue
+unfoldable pub hex_text : Colour → List ℕ
+hex_text colour.Destination = codes "#56b4e9"
+hex_text colour.Allowed = codes "#b5e3cb"
+hex_text colour.Restricted = codes "#eda93b"
+hex_text colour.Prohibited = codes "#d55e00"
+hex_text colour.White = codes "#ffffff"
+
+-- y has a row, and z is a member of its choice: y leads traffic to the destination over z
+abbrev pub leads : Source → ℕ → ℕ → Bool
+leads src y z = option_map_or (λ row. is_member z (choice src row)) (source_row src y) false
+
+-- how many of the vias that carry the sixteen signalling link selections of a row by a choice are z
+unfoldable pub row_share : Row → Choice → ℕ → ℕ
+row_share row c z = count_by (is_at z) (map (carrier row c) (range_with_len 0 16))
+
+-- how many of them y leads over z, towards the destination
+abbrev pub share_of : Source → ℕ → ℕ → ℕ
+share_of src y z = option_map_or (λ row. row_share row (choice src row) z) (source_row src y) 0
+
+-- `: CODE N/16`: y leads so many signalling link selections over z; nothing if it leads none
+abbrev pub part_text : Source → ℕ → ℕ → List ℕ
+part_text src y z = if leads src y z then codes ": " ++ (code_text y ++ (codes " " ++ (decimal (share_of src y z) ++ codes "/16"))) else []
+
+-- how the ends of a set lead traffic over it to a destination
+abbrev pub parts_text : Source → LinkSet → List ℕ
+parts_text src set = part_text src set.a set.b ++ part_text src set.b set.a
+
+-- the label of a set: `ID`, and how its ends lead traffic over it, as `36: 2-1-1 8/16`
+abbrev pub label_text : Option ExcerptValue → LinkSet → List ℕ
+label_text about set = decimal set.id ++ option_map_or (λ x. parts_text (source_of x) set) about []
+
+-- a set is bold if an end leads traffic over it
+abbrev pub is_bold : Option ExcerptValue → LinkSet → Bool
+is_bold about set = option_map_or (λ x. leads (source_of x) set.a set.b || leads (source_of x) set.b set.a) about false
+
+-- what a picture is asked about: the excerpt of the destination, if one is given
+abbrev pub shown_of : Network → Option ℕ → Option ExcerptValue
+shown_of net about = option_and_then (excerpt_at net) about
+
+-- the picture is asked about a destination that has no plan
+abbrev pub lacks_plan : Network → Option ℕ → Bool
+lacks_plan net about = option_map_or (λ x. not (is_some (excerpt_at net x))) about false
+
+-- why there is no picture: that plan, or else memory
+abbrev pub fault_of : Network → Option ℕ → PictureFault
+fault_of net about = if lacks_plan net about then fault.NoPlan else fault.OutOfMemory

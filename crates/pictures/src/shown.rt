@@ -1,0 +1,179 @@
+//! What is shown about a destination: colours, and which sets carry traffic there.
+
+ghost use Rattle.std.specs.Prelude.{◌≡◌, ◌++◌, Some, false, is_some, IfOk, IfErr, OnOk, string_bytes};
+ghost use Rattle.excerpts.specs.Excerpt.{excerpt_at, source_of};
+ghost use Rattle.pictures.specs.Shown.{colour_of as the_colour, colour_towards, fault_of, is_bold as is_bold_of, lacks_plan, label_text, leads as leads_of, part_text, parts_text, share_of, shown_of};
+
+use crate::faults::PictureFault;
+use crate::shares::share_over;
+use crate::styles::{Colour, colour_of};
+use crate::words::put_number;
+use excerpts::{Excerpt, ExcerptFault, Frozen};
+use net_items::LinkSet;
+use point_codes::PointCode;
+use std::alloc::{AllocError, Global};
+use std::marker::Model;
+use transfer_state::{Routing, is_member};
+
+/// The excerpt of a destination, with the faults of a picture.
+fn excerpt_of(net: &Frozen, dest: PointCode) -> Result<Excerpt, PictureFault>
+    ensures ok { IfOk result (λ e. excerpt_at net.now dest ≡ Some e) }
+    ensures err { IfErr result (λ fault. fault ≡ fault_of net.now (Some dest)) }
+    ensures there { IfOk result (λ e. lacks_plan net.now (Some dest) ≡ false) }
+{
+    match Excerpt::of(net, dest) {
+        Ok(excerpt) => Ok(excerpt),
+        Err(ExcerptFault::NoPlan) => Err(PictureFault::NoPlan),
+        Err(ExcerptFault::OutOfMemory) => Err(PictureFault::OutOfMemory),
+    }
+}
+
+/// What a picture shows about a destination, if it is asked about one: the settled routing. Contracts see its
+/// excerpt.
+#[derive(Drop)]
+pub(crate) struct Shown {
+    routing: Option<Routing>,
+}
+
+impl Model for Shown {
+    ghost use Rattle.std.specs.Prelude.{Option};
+    ghost use Rattle.std.specs.Option.{option_map};
+    ghost use Rattle.excerpts.specs.Excerpt.{ExcerptValue};
+
+    ghost Value = { Option ExcerptValue };
+
+    ghost view = { λ s. option_map (λ r. r.excerpt) s.routing };
+}
+
+impl Shown {
+    /// What is shown about a destination, if one is asked about: its routing is settled from scratch.
+    pub(crate) fn of(
+        alloc: Global,
+        net: &Frozen,
+        about: Option<PointCode>,
+    ) -> Result<Shown, PictureFault>
+        ensures ok { IfOk result (λ shown. shown ≡ shown_of net.now about) }
+        ensures planned { IfOk result (λ _. lacks_plan net.now about ≡ false) }
+        ensures err { IfErr result (λ fault. fault ≡ fault_of net.now about) }
+    {
+        let Some(dest) = about else {
+            return Ok(Shown { routing: None });
+        };
+        let excerpt = excerpt_of(net, dest)?;
+        match Routing::of(alloc, excerpt) {
+            Ok(routing) => Ok(Shown {
+                routing: Some(routing),
+            }),
+            Err(_) => Err(PictureFault::OutOfMemory),
+        }
+    }
+
+    /// Whether a destination is asked about.
+    pub(crate) fn is_about(&self) -> bool
+        ensures { result ≡ is_some self.now }
+    {
+        self.routing.is_some()
+    }
+
+    /// The colour of a point.
+    pub(crate) fn colour(&self, point: PointCode) -> Colour
+        ensures { result ≡ the_colour self.now point }
+    {
+        match &self.routing {
+            Some(routing) => colour_by(routing, point),
+            None => Colour::White,
+        }
+    }
+
+    /// Whether an end of a set leads traffic over it.
+    pub(crate) fn is_bold(&self, set: &LinkSet) -> bool
+        ensures { result ≡ is_bold_of self.now set.now }
+    {
+        match &self.routing {
+            Some(routing) => leads(routing, set.a, set.b) || leads(routing, set.b, set.a),
+            None => false,
+        }
+    }
+
+    /// Adds the label of a set.
+    pub(crate) fn put_label(
+        &self,
+        alloc: Global,
+        text: &mut String,
+        set: &LinkSet,
+    ) -> Result<(), AllocError>
+        ensures { OnOk result (string_bytes text.new ≡ string_bytes text.old ++ label_text self.now set.now) }
+    {
+        put_number(alloc, text, u64::from(set.id))?;
+        match &self.routing {
+            Some(routing) => put_parts(alloc, text, routing, set),
+            None => Ok(()),
+        }
+    }
+}
+
+/// The colour of a point by a routing.
+fn colour_by(routing: &Routing, point: PointCode) -> Colour
+    ensures { result ≡ colour_towards (source_of routing.now.excerpt) point }
+{
+    if point == routing.dest() {
+        Colour::Destination
+    } else if routing.excerpt().row(point).is_some() {
+        colour_of(routing.status(point))
+    } else {
+        Colour::White
+    }
+}
+
+/// Whether a point leads traffic over another.
+#[tactic(auto, using(transfer_state::proofs::RouteLemmas::row_none))]
+fn leads(routing: &Routing, point: PointCode, other: PointCode) -> bool
+    ensures { result ≡ leads_of (source_of routing.now.excerpt) point other }
+{
+    match routing.row(point) {
+        Some((_, choice)) => is_member(other, &choice),
+        None => false,
+    }
+}
+
+/// How many of the sixteen signalling link selections a point leads over another.
+#[tactic(auto, using(transfer_state::proofs::RouteLemmas::row_none))]
+fn share(routing: &Routing, point: PointCode, other: PointCode) -> u64
+    ensures { result ≡ share_of (source_of routing.now.excerpt) point other }
+{
+    match routing.row(point) {
+        Some((row, choice)) => share_over(row, &choice, other),
+        None => 0,
+    }
+}
+
+/// Adds how many signalling link selections a point leads over another, if it leads traffic there.
+fn put_part(
+    alloc: Global,
+    text: &mut String,
+    routing: &Routing,
+    point: PointCode,
+    other: PointCode,
+) -> Result<(), AllocError>
+    ensures { OnOk result (string_bytes text.new ≡ string_bytes text.old ++ part_text (source_of routing.now.excerpt) point other) }
+{
+    if !leads(routing, point, other) {
+        return Ok(());
+    }
+    let count = share(routing, point, other);
+    let part = format!(in alloc; ": {point} {count}/16")?;
+    text.push_str(part.as_str())
+}
+
+/// Adds how the ends of a set lead traffic over it.
+fn put_parts(
+    alloc: Global,
+    text: &mut String,
+    routing: &Routing,
+    set: &LinkSet,
+) -> Result<(), AllocError>
+    ensures { OnOk result (string_bytes text.new ≡ string_bytes text.old ++ parts_text (source_of routing.now.excerpt) set.now) }
+{
+    put_part(alloc, text, routing, set.a, set.b)?;
+    put_part(alloc, text, routing, set.b, set.a)
+}
