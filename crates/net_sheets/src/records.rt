@@ -145,12 +145,13 @@ fn read_all(alloc: Global, text: &[u8], rows: &mut Vec<ByteRecord>) -> Result<()
     requires { rows.old.items ≡ [] }
     ensures { OnOk result (AreRecords default_config st.StartRecord (strip_bom text.now) (map fields_of rows.new.items)) }
 {
+    let mut read = Ok(());
     for row in records_of(alloc, text) {
-        if let Err(misread) = keep(rows, row) {
-            return Err(misread);
+        if read.is_ok() {
+            read = keep(rows, row);
         }
     }
-    Ok(())
+    read
 }
 
 /// The records of a text, the header among them. The error is `Csv` or `OutOfMemory`.
