@@ -31,10 +31,10 @@ use Rattle.answers.specs.Traces.{hop_text}
 use Rattle.answers.specs.WhatIfs.{change_text, status_word}
 use Rattle.answers.specs.Links.{link_text}
 use Rattle.answers.specs.Messages.{message_kind_text, message_text, octet_text}
-use Rattle.answers.specs.Why.{far_reason, marked_word}
+use Rattle.answers.specs.Why.{marked_word}
 use Rattle.link_state.specs.declared.marks.Marks.{Marks}
 use Rattle.net_items.specs.declared.links.Link.{Link}
-use Rattle.tokens.specs.Marked.{marks_text, marked_text}
+use Rattle.tokens.specs.Marked.{marks_text}
 use Rattle.tokens.specs.Words.{word_if}
 use Rattle.tokens.specs.declared.marked.Format.TheVariants.{Two}
 

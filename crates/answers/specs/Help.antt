@@ -44,6 +44,7 @@ forms =
     record { word = codes "messages"; text = codes "help messages Y X, as messages 2-10-1 2-1-2" } ∷
     record { word = codes "octets"; text = codes "help octets Y Z X, as octets 2-10-1 2-1-1 2-1-2" } ∷
     record { word = codes "why"; text = codes "help why Y X, as why 2-1-1 2-1-2" } ∷
+    record { word = codes "mend"; text = codes "help mend Y X, as mend 2-1-1 2-1-2" } ∷
     record { word = codes "trace"; text = codes "help trace Y X S, as trace 2-1-1 2-1-2 0" } ∷
     record { word = codes "whatif"; text = codes "help whatif EVENT ; EVENT .., as whatif fail 2 0 ; inhibit 1 0 a" } ∷
     record { word = codes "audit"; text = codes "help audit, as audit" } ∷

@@ -5,6 +5,7 @@ pub mod Status
 pub mod Links
 pub mod Messages
 pub mod Why
+pub mod Mend
 pub mod Rows
 pub mod Traces
 pub mod WhatIfs

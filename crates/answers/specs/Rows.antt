@@ -7,13 +7,15 @@ use Rattle.profile.specs.declared.tables.RowState.{RowState}
 use Rattle.profile.specs.declared.tables.Table.{Table}
 use Rattle.profile.specs.Status.{Source, source_in}
 use Rattle.profile.specs.Whole.{scratch}
+use Rattle.what_if.specs.Mending.{mend}
 use Rattle.script_words.specs.declared.questions.Question.{Question}
-use Rattle.script_words.specs.declared.questions.Question.TheVariants.{Status, Links, Messages, Octets, Why}
+use Rattle.script_words.specs.declared.questions.Question.TheVariants.{Status, Links, Messages, Octets, Why, Mend}
 use Rattle.answers.specs.Plain.{no_plan, no_row}
 use Rattle.answers.specs.Status.{status_text}
 use Rattle.answers.specs.Links.{links_text}
 use Rattle.answers.specs.Messages.{messages_text, octets_to, octets_text}
 use Rattle.answers.specs.Why.{why_of}
+use Rattle.answers.specs.Mend.{mend_text}
 
 -- the row of a point in a table
 abbrev pub row_in : Table → ℕ → Option RowState
@@ -26,6 +28,7 @@ asked_text Links ni src state = links_text state
 asked_text Messages ni src state = messages_text state.messages
 asked_text (Octets z) ni src state = octets_text (octets_to ni src.dest state z)
 asked_text Why ni src state = why_of src state
+asked_text Mend ni src state = mend_text (mend src state.point)
 
 -- the answer from a row
 abbrev pub row_answer : Question → ℕ → Source → Option RowState → List ℕ

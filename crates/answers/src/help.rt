@@ -123,6 +123,10 @@ const FORMS: &[Form] = &[
         text: "help why Y X, as why 2-1-1 2-1-2",
     },
     Form {
+        word: "mend",
+        text: "help mend Y X, as mend 2-1-1 2-1-2",
+    },
+    Form {
         word: "trace",
         text: "help trace Y X S, as trace 2-1-1 2-1-2 0",
     },
@@ -142,7 +146,7 @@ const FORMS: &[Form] = &[
 
 /// All these words, each after a space.
 const ALL_WORDS: &str =
-    "help fail restore block unblock inhibit uninhibit point pair unpair set link plan tfr post open take give abandon publish sync version status sls messages octets why trace whatif audit help";
+    "help fail restore block unblock inhibit uninhibit point pair unpair set link plan tfr post open take give abandon publish sync version status sls messages octets why mend trace whatif audit help";
 
 fn forms() -> &'static [Form]
     ensures { map value_of result.now ≡ all_forms }

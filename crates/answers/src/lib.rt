@@ -10,21 +10,23 @@
 //!    CODE REASON` if the row may use its mate; ` used` follows if Y leads its traffic over it. REASON is `ok`, `far restricted` or
 //!    `far prohibited`, the status of the via, or the direct status of the mate; or `down ID` with the set's links and their
 //!    marks, if no link of it is available.
-//! 7. The trace of a signalling link selection from Y to X: `trace reached` and `ID:SLC>CODE` for each hop, or `trace
+//! 7. The fewest links whose restoring makes the status of Y not prohibited: `mend` and `ID:MARKED` for each, `mend ok` if none has
+//!    to be restored, or `mend none` if no restoring does it.
+//! 8. The trace of a signalling link selection from Y to X: `trace reached` and `ID:SLC>CODE` for each hop, or `trace
 //!    stopped`. It is refused as a question about a row is.
-//! 8. What events would change: `whatif granted` or `whatif denied`, and `Y/X BEFORE>AFTER` for each change, where
+//! 9. What events would change: `whatif granted` or `whatif denied`, and `Y/X BEFORE>AFTER` for each change, where
 //!    `none` stands for no row; or `refused`, the refusal of the first event that is refused, and `at PLACE`.
-//! 9. A check of every table by the local rule: `audit ok P` for P tables, or `audit bad X Y c` for the first wrong
+//! 10. A check of every table by the local rule: `audit ok P` for P tables, or `audit bad X Y c` for the first wrong
 //!    one: its destination, and the point and the letter of the first complaint.
-//! 10. Replies of the desk: a post is answered `taken N`, or `again N` if it was accepted before; an opening `opened T
+//! 11. Replies of the desk: a post is answered `taken N`, or `again N` if it was accepted before; an opening `opened T
 //!    waiting W`; the taking of a job `job V CODE`; a result `given`; an abandonment `abandoned`; a publication `published
 //!    N`; `synced N` and `version P accepted N` tell what is published and accepted.
-//! 11. A refusal is `refused`, its number, its name and its values. No answer has a line feed.
-//! 12. A line that is no command is refused 62 BadLine, but for `help`: it tells every word that begins a command, and `help
+//! 12. A refusal is `refused`, its number, its name and its values. No answer has a line feed.
+//! 13. A line that is no command is refused 62 BadLine, but for `help`: it tells every word that begins a command, and `help
 //!     WORD` the form of that word's commands, with an example: `help FORM, as EXAMPLE`.
 //!
 //! Stands on `work_units`, `path_trace`, `what_if`, `tokens`, `script_words`, `itoa`. A change here also changes specs/ (Answer, Audits, DeskRefusals,
-//! Help, Links, Messages, Plain, Refusals, Replies, Rows, Status, Text, Traces, WhatIfs, Why), proofs/ and must-fail/.
+//! Help, Links, Mend, Messages, Plain, Refusals, Replies, Rows, Status, Text, Traces, WhatIfs, Why), proofs/ and must-fail/.
 #![tactic(auto)]
 
 pub mod answer;
@@ -33,6 +35,7 @@ mod codes;
 mod desk_refusals;
 pub mod help;
 mod links;
+mod mend;
 mod messages;
 pub mod plain;
 pub mod refusals;

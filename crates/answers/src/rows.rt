@@ -11,8 +11,11 @@ ghost use Rattle.excerpts.specs.Excerpt.{source_of};
 ghost use Rattle.transfer_state.specs.Routing.{state_at};
 ghost use Rattle.answers.specs.Text.{line_count};
 ghost use Rattle.answers.specs.Why.{why_of};
+ghost use Rattle.answers.specs.Mend.{mend_text};
+ghost use Rattle.what_if.specs.Mending.{mend as the_mend};
 
 use crate::links::write_links;
+use crate::mend::write_mend;
 use crate::messages::{write_messages, write_octets};
 use crate::plain::{write_no_plan, write_no_row};
 use crate::status::write_status;
@@ -22,6 +25,7 @@ use point_codes::PointCode;
 use script_words::Question;
 use std::alloc::{AllocError, Global};
 use transfer_state::Routing;
+use what_if::find_mend;
 
 /// What a point uses by a routing.
 fn answer_status(alloc: Global, routing: &Routing, point: PointCode) -> Result<String, AllocError>
@@ -91,6 +95,21 @@ fn answer_why(alloc: Global, routing: &Routing, point: PointCode) -> Result<Stri
     }
 }
 
+/// Which links have to be restored for a point to reach the destination of a routing.
+fn answer_mend(alloc: Global, routing: &Routing, point: PointCode) -> Result<String, AllocError>
+    ensures text { IfOk result (λ text. string_bytes text ≡
+        option_map_or (λ state. mend_text (the_mend (source_of routing.now.excerpt) state.point)) (state_at routing.now.excerpt point) no_row) }
+    ensures plain { IfOk result (λ text. line_count (string_bytes text) ≡ 0) }
+{
+    match routing.row(point) {
+        Some((row, _choice)) => {
+            let mend = find_mend(alloc, routing, row.point)?;
+            write_mend(alloc, mend.as_ref())
+        }
+        None => write_no_row(alloc),
+    }
+}
+
 /// The answer about the row of a point by a routing.
 fn answer_row(
     alloc: Global,
@@ -110,6 +129,7 @@ fn answer_row(
         Question::Messages => answer_messages(alloc, routing, point),
         Question::Octets(z) => answer_octets(alloc, ni, routing, point, z),
         Question::Why => answer_why(alloc, routing, point),
+        Question::Mend => answer_mend(alloc, routing, point),
     }
 }
 

@@ -2,9 +2,7 @@
 
 ghost use Rattle.std.specs.Prelude.{◌≡◌, ◌==◌, ◌++◌, ◌&&◌, IfOk, OnOk, string_bytes};
 ghost use Rattle.std.specs.List.{flat_map};
-ghost use Rattle.std.specs.Option.{option_copied};
 ghost use Rattle.profile.specs.Local.{is_member as is_member_of};
-ghost use Rattle.profile.specs.Status.{mate_row};
 ghost use Rattle.profile.specs.Valid.{IsSmall};
 ghost use Rattle.excerpts.specs.Excerpt.{source_of};
 ghost use Rattle.answers.specs.Text.{line_count};
@@ -19,6 +17,7 @@ use route_choice::{Choice, Far};
 use std::alloc::{AllocError, Global};
 use tokens::{put_if, write_marked};
 use transfer_state::{Routing, is_member};
+use what_if::mate_row;
 
 /// What is told of a point that an available set reaches.
 fn reason_word(far: Far) -> &'static str
@@ -174,16 +173,6 @@ fn put_classes(
     Ok(())
 }
 
-/// The row of the mate, if a row may use it.
-fn mate_of<'a>(excerpt: &'a Excerpt, row: &Row) -> Option<&'a Row>
-    ensures { option_copied result ≡ mate_row (source_of excerpt.entry.now) row.now }
-{
-    if !row.mate {
-        return None;
-    }
-    excerpt.row(excerpt.mate_of(row.point)?)
-}
-
 /// Adds the mate, if the row may use it.
 fn put_mate(
     alloc: Global,
@@ -196,7 +185,7 @@ fn put_mate(
     ensures plain { OnOk result (line_count (string_bytes text.new) ≡ line_count (string_bytes text.old)) }
 {
     let excerpt = routing.excerpt();
-    match mate_of(excerpt, row) {
+    match mate_row(excerpt, row) {
         Some(mate) => {
             text.push_str(" ; mate ")?;
             let far = routing.direct_status(mate.point);

@@ -23,6 +23,10 @@ workers_rule = record (new_rule (codes "workers")) { long = Some (codes "workers
 abbrev pub save_rule : Rule
 save_rule = record (new_rule (codes "save")) { long = Some (codes "save"); value_names = 1 }
 
+-- `--explain`, which has no value
+abbrev pub explained_rule : Rule
+explained_rule = record (new_rule (codes "explain")) { long = Some (codes "explain"); action = Some SetTrue }
+
 -- a command of this name with NET
 abbrev pub net_app : Text → App
 net_app name = with_rule (new_app name) net_rule
@@ -32,8 +36,12 @@ abbrev pub workers_app : App
 workers_app = with_rule (net_app (codes "run")) workers_rule
 
 -- `run NET --workers N --save FILE`
+abbrev pub saved_run_app : App
+saved_run_app = with_rule workers_app save_rule
+
+-- `run NET --workers N --save FILE --explain`
 abbrev pub run_app : App
-run_app = with_rule workers_app save_rule
+run_app = with_rule saved_run_app explained_rule
 
 -- STEPS is required
 abbrev pub steps_rule : Rule
@@ -44,8 +52,12 @@ abbrev pub files_app : App
 files_app = with_rule (net_app (codes "play")) steps_rule
 
 -- `play NET STEPS --save FILE`
+abbrev pub saved_play_app : App
+saved_play_app = with_rule files_app save_rule
+
+-- `play NET STEPS --save FILE --explain`
 abbrev pub play_app : App
-play_app = with_rule files_app save_rule
+play_app = with_rule saved_play_app explained_rule
 
 -- `check NET`
 abbrev pub check_app : App
@@ -130,12 +142,14 @@ HasFlag id rows = first_of id rows ≡ Some (codes "true")
 
 -- the order is what the subcommand's matches say
 abbrev pub IsOrder : Order → Option (Text × List Row) → Type 0
-IsOrder (Run net workers save) found =
+IsOrder (Run net workers save explained) found =
     (rows : List Row) × (found ≡ Some (codes "run", rows)) × (first_of (codes "net") rows ≡ Some net.now)
     × IsWorkers (first_of (codes "workers") rows) workers × (first_of (codes "save") rows ≡ option_map (λ s. s.now) save)
-IsOrder (Play net steps save) found =
+    × (IsTrue explained ↔ HasFlag (codes "explain") rows)
+IsOrder (Play net steps save explained) found =
     (rows : List Row) × (found ≡ Some (codes "play", rows)) × (first_of (codes "net") rows ≡ Some net.now)
     × (first_of (codes "steps") rows ≡ Some steps.now) × (first_of (codes "save") rows ≡ option_map (λ s. s.now) save)
+    × (IsTrue explained ↔ HasFlag (codes "explain") rows)
 IsOrder (Check net) found = (rows : List Row) × (found ≡ Some (codes "check", rows)) × (first_of (codes "net") rows ≡ Some net.now)
 IsOrder (Picture net about svg) found =
     (rows : List Row) × (found ≡ Some (codes "picture", rows)) × (first_of (codes "net") rows ≡ Some net.now)
@@ -150,8 +164,8 @@ IsOrder (Explain what) found =
 
 -- there are at most 32 workers
 abbrev pub IsWithin : Order → Type 0
-IsWithin (Run net workers save) = workers ≤ 32
-IsWithin (Play net steps save) = Unit {0}
+IsWithin (Run net workers save explained) = workers ≤ 32
+IsWithin (Play net steps save explained) = Unit {0}
 IsWithin (Check net) = Unit {0}
 IsWithin (Picture net about svg) = Unit {0}
 IsWithin (Import dir) = Unit {0}

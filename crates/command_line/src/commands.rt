@@ -3,7 +3,7 @@
 ghost use Rattle.std.specs.Prelude.{◌≡◌, IfOk, false};
 ghost use Rattle.clap.specs.declared.builder.command.Command.TheViews.{out-Command};
 ghost use Rattle.clap.specs.Words.{app_of, rule_of};
-ghost use Rattle.command_line.specs.Words.{net_rule, steps_rule, dir_rule, workers_rule, save_rule, about_rule, svg_rule, what_rule, net_app, workers_app, run_app, files_app, play_app, check_app, about_app, picture_app, import_app, export_app, explain_app, bare_app, desk_app_up_to_run, desk_app_up_to_play, desk_app_up_to_check, desk_app_up_to_picture, desk_app_up_to_import, desk_app_up_to_export, desk_app};
+ghost use Rattle.command_line.specs.Words.{explained_rule, net_rule, steps_rule, dir_rule, workers_rule, save_rule, about_rule, svg_rule, what_rule, net_app, workers_app, saved_run_app, run_app, files_app, saved_play_app, play_app, check_app, about_app, picture_app, import_app, export_app, explain_app, bare_app, desk_app_up_to_run, desk_app_up_to_play, desk_app_up_to_check, desk_app_up_to_picture, desk_app_up_to_import, desk_app_up_to_export, desk_app};
 
 use clap::{Arg, ArgAction, Command};
 use std::alloc::{AllocError, Global};
@@ -63,6 +63,17 @@ fn save_argument<'a>(alloc: Global) -> Arg<'a>
     Arg::new(alloc, "save").long("save").value_name("FILE").help(
         "Write the network to this file after a script that ended without a fault",
     )
+}
+
+/// The flag `--explain`, which has no value.
+fn explained_argument<'a>(alloc: Global) -> Arg<'a>
+    ensures rule { rule_of result ≡ explained_rule }
+    ensures local { result.global ≡ false }
+{
+    Arg::new(alloc, "explain")
+        .long("explain")
+        .action(ArgAction::SetTrue)
+        .help("Say of each refused line and of a fault, on standard error, what is wrong")
 }
 
 /// The option `--about X`.
@@ -125,13 +136,22 @@ fn workers_command<'a>(alloc: Global) -> Result<Command<'a>, AllocError>
     command.arg(workers_argument(alloc))
 }
 
+/// The command `run` with all but its flag.
+fn saved_run_command<'a>(alloc: Global) -> Result<Command<'a>, AllocError>
+    ensures app { IfOk result (λ c. app_of c ≡ saved_run_app) }
+    ensures local { IfOk result (λ c. (out-Command c).has_globals ≡ false) }
+{
+    let command = workers_command(alloc)?;
+    command.arg(save_argument(alloc))
+}
+
 /// The command `run`.
 fn run_command<'a>(alloc: Global) -> Result<Command<'a>, AllocError>
     ensures app { IfOk result (λ c. app_of c ≡ run_app) }
     ensures local { IfOk result (λ c. (out-Command c).has_globals ≡ false) }
 {
-    let command = workers_command(alloc)?;
-    command.arg(save_argument(alloc))
+    let command = saved_run_command(alloc)?;
+    command.arg(explained_argument(alloc))
 }
 
 /// The command `play` with its two files.
@@ -148,13 +168,22 @@ fn files_command<'a>(alloc: Global) -> Result<Command<'a>, AllocError>
     command.arg(steps_argument(alloc))
 }
 
+/// The command `play` with all but its flag.
+fn saved_play_command<'a>(alloc: Global) -> Result<Command<'a>, AllocError>
+    ensures app { IfOk result (λ c. app_of c ≡ saved_play_app) }
+    ensures local { IfOk result (λ c. (out-Command c).has_globals ≡ false) }
+{
+    let command = files_command(alloc)?;
+    command.arg(save_argument(alloc))
+}
+
 /// The command `play`.
 fn play_command<'a>(alloc: Global) -> Result<Command<'a>, AllocError>
     ensures app { IfOk result (λ c. app_of c ≡ play_app) }
     ensures local { IfOk result (λ c. (out-Command c).has_globals ≡ false) }
 {
-    let command = files_command(alloc)?;
-    command.arg(save_argument(alloc))
+    let command = saved_play_command(alloc)?;
+    command.arg(explained_argument(alloc))
 }
 
 /// The command `check`.

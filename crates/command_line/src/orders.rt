@@ -66,6 +66,14 @@ fn workers_at(matches: &ArgMatches) -> Option<u32>
     }
 }
 
+/// Whether the matches have a flag.
+fn flag_at(matches: &ArgMatches, id: &str) -> bool
+    ensures { IsTrue result ↔ HasFlag id.now (rows_of (found_of matches.now)) }
+{
+    // `get_flag` doesn't say what it makes of a value that is neither `true` nor `false`.
+    value_at(matches, id) == Some("true")
+}
+
 /// What the matches of `run` order.
 fn run_order<'a>(matches: &ArgMatches<'a>) -> Result<Order<'a>, NoOrder>
     ensures order { IfOk result (λ order. IsOrder order (Some (codes "run", rows_of (found_of matches.now)))) }
@@ -79,7 +87,13 @@ fn run_order<'a>(matches: &ArgMatches<'a>) -> Result<Order<'a>, NoOrder>
         return Err(NoOrder::Workers);
     };
     let save = value_at(matches, "save");
-    Ok(Order::Run { net, workers, save })
+    let explained = flag_at(matches, "explain");
+    Ok(Order::Run {
+        net,
+        workers,
+        save,
+        explained,
+    })
 }
 
 /// What the matches of `play` order.
@@ -89,8 +103,12 @@ fn play_order<'a>(matches: &ArgMatches<'a>) -> Option<Order<'a>>
 {
     let net = value_at(matches, "net")?;
     let steps = value_at(matches, "steps")?;
-    let save = value_at(matches, "save");
-    Some(Order::Play { net, steps, save })
+    Some(Order::Play {
+        net,
+        steps,
+        save: value_at(matches, "save"),
+        explained: flag_at(matches, "explain"),
+    })
 }
 
 /// What the matches of `check` order.
@@ -100,14 +118,6 @@ fn check_order<'a>(matches: &ArgMatches<'a>) -> Option<Order<'a>>
 {
     let net = value_at(matches, "net")?;
     Some(Order::Check { net })
-}
-
-/// Whether the matches have a flag.
-fn flag_at(matches: &ArgMatches, id: &str) -> bool
-    ensures { IsTrue result ↔ HasFlag id.now (rows_of (found_of matches.now)) }
-{
-    // `get_flag` doesn't say what it makes of a value that is neither `true` nor `false`.
-    value_at(matches, id) == Some("true")
 }
 
 /// What the matches of `picture` order.

@@ -12,22 +12,24 @@ use clap::{ArgMatches, Command, Error};
 use std::alloc::Global;
 
 /// What a command line orders.
-#[derive(Clone, Copy, Debug)]
+#[derive(Clone, Copy)]
 pub enum Order<'a> {
     /// To answer the script on standard input from the network of a file, or of standard input itself where the file's
-    /// name is `-`, with this many worker threads beside it, 0 to 32, and to write the network to a file then, if one is
-    /// named.
+    /// name is `-`, with this many worker threads beside it, 0 to 32, to write the network to a file then, if one is named,
+    /// and to explain refused lines and faults, if that is wanted.
     Run {
         net: &'a str,
         workers: u32,
         save: Option<&'a str>,
+        explained: bool,
     },
-    /// To answer the script of the file STEPS from the network of a file, and to write the network to a file then, if one is
-    /// named.
+    /// To answer the script of the file STEPS from the network of a file, to write the network to a file then, if one is named,
+    /// and to explain refused lines and faults, if that is wanted.
     Play {
         net: &'a str,
         steps: &'a str,
         save: Option<&'a str>,
+        explained: bool,
     },
     /// To check the settled tables of the network of a file.
     Check {

@@ -5,6 +5,8 @@
 //!    `--save FILE` the network after all accepted events is written to that file after a script that ended without a
 //!    fault; a file that was there stays as it was if that fails. If FILE is a symbolic link, the file that it leads to
 //!    is written, and the link stays. With `--workers N`, from 1 to 32, that many threads settle jobs beside the script.
+//!    With `--explain` each refused line and a fault has a sentence on standard error too: what was expected, what stands against an
+//!    edit, where an entry stands, or the system's reason.
 //! 2. `route_desk play NET STEPS` does the same with the script of the file STEPS, which is opened once the network is
 //!    loaded.
 //! 3. `route_desk check NET` works out the tables of all planned destinations of that network, by as many threads as
@@ -30,34 +32,36 @@
 #![tactic(auto)]
 
 mod drawing;
+mod explaining;
 mod files;
+mod notes;
+mod places;
+mod reasons;
+mod runs;
+mod sentences;
 mod sheets;
+mod standing;
 mod terminal;
 
 ghost use Rattle.std.specs.Prelude.{◌≤◌};
 ghost use Rattle.command_line.specs.Words.{IsWithin};
 
-use beside::{run_beside, run_input_beside};
 use clap::Error;
 use command_line::{Order, WordFault, read_words};
-use console::{
-    CheckEnd, Fault, ScriptEnd, check_net, read_net, run_input, run_script, write_fault,
-};
+use console::{CheckEnd, Fault, check_net, write_fault};
 use drawing::{NoPicture, picture_of, read_about};
 use excerpts::Frozen;
 use explanations::{explanations, find, write_explanation, write_titles};
-use files::save_text;
 use net_data::Net;
 use net_saving::save;
+use runs::{finish, load_file, play_file, run_net};
 use sheets::{FolderFault, describe, read_folder, write_folder};
 use std::alloc::{AllocError, Global};
 use std::io::ErrorKind;
 use std::process::ExitCode;
 use std::sync::Wait;
 use std::thread::Threads;
-use std::{env, fs, io};
-use terminal::{Prompting, greet, is_terminal};
-use worker_pool::Plain;
+use std::{env, io};
 
 /// The words of the command line, the program's name first. It fails with `InvalidData` where one isn't UTF-8, and with
 /// `OutOfMemory`.
@@ -93,92 +97,6 @@ fn report(rt: &HostRuntime, fault: Option<Fault>) -> io::Result<ExitCode> {
         Err(_) => eprintln!(rt; "route_desk: 1 OutOfMemory")?,
     }
     Ok(ExitCode::from(1))
-}
-
-/// Loads the network of a file.
-fn load_file(rt: &HostRuntime, name: &str) -> Result<Net, Fault> {
-    match fs::open(rt, name) {
-        Ok(mut file) => read_net(rt.alloc(), &mut file),
-        Err(_) => Err(Fault::Read),
-    }
-}
-
-/// Runs the script on standard input from a network, in line or beside that many workers.
-fn run_from(
-    rt: &HostRuntime,
-    threads: &(impl Threads + Wait + Sync),
-    net: Net,
-    workers: u32,
-) -> ScriptEnd
-    requires { workers ≤ 32 }
-{
-    let alloc = rt.alloc();
-    let wanted = is_terminal(rt);
-    if wanted {
-        greet(rt, &net);
-    }
-    let mut reader = Prompting::new(rt, rt.reader(), wanted);
-    if workers == 0 {
-        return run_script(alloc, &mut reader, &mut io::writer(rt), net);
-    }
-    run_beside(threads, alloc, workers, &Plain, reader, io::writer(rt), net).end
-}
-
-/// Runs the network text and the script on standard input, in line or beside that many workers.
-fn run_whole(rt: &HostRuntime, threads: &(impl Threads + Wait + Sync), workers: u32) -> ScriptEnd
-    requires { workers ≤ 32 }
-{
-    let alloc = rt.alloc();
-    if workers == 0 {
-        return run_input(alloc, &mut rt.reader(), &mut io::writer(rt));
-    }
-    let (reader, writer) = (rt.reader(), io::writer(rt));
-    run_input_beside(threads, alloc, workers, &Plain, reader, writer).end
-}
-
-/// Runs the script of a file from the network of another.
-fn play_file(rt: &HostRuntime, name: &str, steps: &str) -> Result<ScriptEnd, Fault> {
-    let net = load_file(rt, name)?;
-    match fs::open(rt, steps) {
-        Ok(mut file) => Ok(run_script(rt.alloc(), &mut file, &mut io::writer(rt), net)),
-        Err(_) => Err(Fault::Read),
-    }
-}
-
-/// Runs the script on standard input, from the network of a file or from that of the text before the script.
-fn run_net(
-    rt: &HostRuntime,
-    threads: &(impl Threads + Wait + Sync),
-    net: &str,
-    workers: u32,
-) -> Result<ScriptEnd, Fault>
-    requires { workers ≤ 32 }
-{
-    if net == "-" {
-        return Ok(run_whole(rt, threads, workers));
-    }
-    let net = load_file(rt, net)?;
-    Ok(run_from(rt, threads, net, workers))
-}
-
-/// Writes the network to a file.
-fn save_net(rt: &HostRuntime, net: &Net, name: &str) -> Result<(), Fault> {
-    match save(rt.alloc(), net) {
-        Ok(text) => save_text(rt, name, text.as_str()),
-        Err(_) => Err(Fault::OutOfMemory),
-    }
-}
-
-/// Writes the network after a run if a file is named. The answer is the fault, if there was one.
-fn finish(rt: &HostRuntime, end: Result<ScriptEnd, Fault>, file: Option<&str>) -> Option<Fault> {
-    let end = match end {
-        Ok(end) => end,
-        Err(fault) => return Some(fault),
-    };
-    if let (Some(net), Some(name)) = (&end.net, file) {
-        return save_net(rt, net, name).err();
-    }
-    end.fault
 }
 
 /// Works out and checks all tables of a network.
@@ -291,15 +209,24 @@ fn run(
     net: &str,
     workers: u32,
     save: Option<&str>,
+    explained: bool,
 ) -> io::Result<ExitCode>
     requires { workers ≤ 32 }
 {
-    report(rt, finish(rt, run_net(rt, threads, net, workers), save))
+    let end = run_net(rt, threads, net, workers, explained);
+    report(rt, finish(rt, end, save, explained))
 }
 
 /// The same for the script of a file.
-fn play(rt: &HostRuntime, net: &str, steps: &str, save: Option<&str>) -> io::Result<ExitCode> {
-    report(rt, finish(rt, play_file(rt, net, steps), save))
+fn play(
+    rt: &HostRuntime,
+    net: &str,
+    steps: &str,
+    save: Option<&str>,
+    explained: bool,
+) -> io::Result<ExitCode> {
+    let end = play_file(rt, net, steps, explained);
+    report(rt, finish(rt, end, save, explained))
 }
 
 /// Does what the words of the command line ask for; a check and workers take threads.
@@ -311,8 +238,18 @@ fn obey(
     requires { IsWithin order }
 {
     match order {
-        Order::Run { net, workers, save } => run(rt, threads, net, workers, save),
-        Order::Play { net, steps, save } => play(rt, net, steps, save),
+        Order::Run {
+            net,
+            workers,
+            save,
+            explained,
+        } => run(rt, threads, net, workers, save, explained),
+        Order::Play {
+            net,
+            steps,
+            save,
+            explained,
+        } => play(rt, net, steps, save, explained),
         Order::Check { net } => {
             report_end(rt, check_tables(threads, rt.alloc(), load_file(rt, net)))
         }

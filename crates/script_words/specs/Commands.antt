@@ -8,7 +8,7 @@ use Rattle.net_data.specs.declared.events.Event.{Event}
 use Rattle.tokens.specs.Pieces.{all_of}
 use Rattle.script_words.specs.Events.{event_of}
 use Rattle.script_words.specs.declared.questions.Question.{Question}
-use Rattle.script_words.specs.declared.questions.Question.TheVariants.{Status, Links, Messages, Octets, Why}
+use Rattle.script_words.specs.declared.questions.Question.TheVariants.{Status, Links, Messages, Octets, Why, Mend}
 use Rattle.script_words.specs.declared.commands.Command.{Command}
 use Rattle.script_words.specs.declared.command_words.CommandWord.{CommandWord}
 use Rattle.script_words.specs.declared.command_words.CommandWord.TheVariants as word
@@ -79,6 +79,7 @@ command_word_of text =
     else if bytes_eq text (codes "messages") then Some word.Messages
     else if bytes_eq text (codes "octets") then Some word.Octets
     else if bytes_eq text (codes "why") then Some word.Why
+    else if bytes_eq text (codes "mend") then Some word.Mend
     else if bytes_eq text (codes "trace") then Some word.Trace
     else desk_word_of text
 
@@ -94,6 +95,8 @@ command_by word.Messages rest = about_of Messages rest
 command_by word.Octets rest = octets_of rest
 -- `why Y X`
 command_by word.Why rest = about_of Why rest
+-- `mend Y X`
+command_by word.Mend rest = about_of Mend rest
 -- `trace Y X S`
 command_by word.Trace rest = trace_of rest
 -- `sync`

@@ -18,6 +18,8 @@ pub enum CommandWord {
     Octets,
     /// `why`.
     Why,
+    /// `mend`.
+    Mend,
     /// `trace`.
     Trace,
     /// `sync`.
@@ -71,6 +73,7 @@ pub fn read_command_word(word: &[u8]) -> Option<CommandWord>
         _ if is_word(word, "messages") => Some(CommandWord::Messages),
         _ if is_word(word, "octets") => Some(CommandWord::Octets),
         _ if is_word(word, "why") => Some(CommandWord::Why),
+        _ if is_word(word, "mend") => Some(CommandWord::Mend),
         _ if is_word(word, "trace") => Some(CommandWord::Trace),
         _ => read_desk_word(word),
     }

@@ -75,6 +75,7 @@ fn read_without_events(word: CommandWord, rest: &[&[u8]]) -> Option<Command>
         CommandWord::Messages => read_about(Question::Messages, rest),
         CommandWord::Octets => read_octets(rest),
         CommandWord::Why => read_about(Question::Why, rest),
+        CommandWord::Mend => read_about(Question::Mend, rest),
         CommandWord::Trace => read_trace(rest),
         CommandWord::Sync => only(Command::Sync, rest),
         CommandWord::Open => only(Command::Open, rest),

@@ -15,4 +15,6 @@ pub enum Question {
     Octets(PointCode),
     /// Why it uses that: what stands for and against each of its vias, and its mate.
     Why,
+    /// The fewest links that have to be restored for its point to reach the destination.
+    Mend,
 }

@@ -1,4 +1,4 @@
-//! What a list of events would change, without making it (own, after Q.704 clause 10).
+//! What a list of events would change, without making it, and which links would have to be restored (own, after Q.704 clause 10).
 //!
 //! 1. The events are made one after the other on a copy of a published version's network. The first that is refused is
 //!    told, with its place.
@@ -8,13 +8,19 @@
 //! 4. The inhibition of a link is denied if it makes a destination inaccessible to a point that reaches it: where some
 //!    status goes from allowed or restricted to prohibited.
 //!
-//! Stands on `net_versions`. A change here also changes specs/ (Reports), proofs/ and must-fail/.
+//! 5. A link is restored by taking away all its marks. Told are the fewest links whose restoring makes a point's status not
+//!    prohibited, or that no restoring does it. Of several ways with as many links the first is told: vias class by class, and the
+//!    mate last; and of each set the link with the lowest code.
+//!
+//! Stands on `net_versions`. A change here also changes specs/ (Mending, Reports), proofs/ and must-fail/.
 #![tactic(auto)]
 
 pub mod changes;
 mod codes;
 mod comparing;
+pub mod mending;
 pub mod reports;
 
 pub use changes::{Change, Changes};
+pub use mending::{Mend, SetLink, find_mend, mate_row};
 pub use reports::{Refused, Report, what_if};

@@ -1,8 +1,7 @@
-use Rattle.std.proofs.Common.{◌≡◌, ◌∙◌, arith, codes, refl, string_bytes}
+use Rattle.std.proofs.Common.{◌∙◌, arith, codes, refl, string_bytes}
 use Rattle.std.proofs.lemmas.Result.{on_ok_weaker}
 use Rattle.point_codes.specs.Codes.{code_text}
 use Rattle.tokens.specs.Words.{word_if}
-use Rattle.answers.specs.Text.{line_count}
 use Rattle.answers.proofs.PlainLemmas.{plain_added, plain_code, plain_word_if}
 use Rattle.answers.proofs.why.put_over.Goals as goal
 

@@ -1,7 +1,6 @@
-use Rattle.std.proofs.Common.{◌≡◌, ◌∙◌, arith, codes, refl, string_bytes}
+use Rattle.std.proofs.Common.{◌∙◌, arith, codes, refl, string_bytes}
 use Rattle.std.proofs.lemmas.Result.{on_ok_weaker}
 use Rattle.std.specs.Fmt.{decimal}
-use Rattle.answers.specs.Text.{line_count}
 use Rattle.answers.proofs.PlainLemmas.{plain_added, plain_decimal}
 use Rattle.answers.proofs.why.put_via.Goals as goal
 

@@ -1,0 +1,113 @@
+//! Where an entry of a network text stands.
+
+/// A place in a text: its line, and its byte in the line, both from 1.
+#[derive(Clone, Copy)]
+pub struct Place {
+    pub line: u64,
+    pub column: u64,
+}
+
+/// What a byte of an array stands in.
+#[derive(Clone, Copy)]
+enum Inside {
+    /// The array itself.
+    Array,
+    /// A text in double quotes.
+    Text,
+    /// The same, after a backslash.
+    Escape,
+    /// A text in single quotes.
+    Literal,
+    /// A comment.
+    Comment,
+}
+
+/// A text without the spaces before it.
+fn without_spaces(text: &[u8]) -> &[u8] {
+    match text.iter().position(|byte| *byte != b' ') {
+        Some(at) => text.get(at..).unwrap_or(&[]),
+        None => &[],
+    }
+}
+
+/// Whether a line begins with a key.
+fn begins_with(line: &[u8], key: &str) -> bool {
+    match without_spaces(line).strip_prefix(key.as_bytes()) {
+        Some(after) => without_spaces(after).starts_with(b"="),
+        None => false,
+    }
+}
+
+/// The line that begins with a key, from 1, and all from there on.
+fn find_key<'a>(text: &'a [u8], key: &str) -> Option<(u64, &'a [u8])> {
+    let (mut bytes, mut lines) = (0usize, 0u64);
+    for line in text.split(|byte| *byte == b'\n') {
+        lines = lines.saturating_add(1);
+        if begins_with(line, key) {
+            return Some((lines, text.get(bytes..).unwrap_or(&[])));
+        }
+        bytes = bytes.saturating_add(line.len()).saturating_add(1);
+    }
+    None
+}
+
+/// What the next byte stands in, after a byte.
+fn inside_after(inside: Inside, byte: u8) -> Inside {
+    match (inside, byte) {
+        (Inside::Array, b'"') => Inside::Text,
+        (Inside::Array, b'\'') => Inside::Literal,
+        (Inside::Array, b'#') => Inside::Comment,
+        (Inside::Text, b'"') | (Inside::Literal, b'\'') | (Inside::Comment, b'\n') => Inside::Array,
+        (Inside::Text, b'\\') => Inside::Escape,
+        (Inside::Escape, _) => Inside::Text,
+        _ => inside,
+    }
+}
+
+/// The place after a byte.
+fn place_after(place: Place, byte: u8) -> Place {
+    if byte == b'\n' {
+        return Place {
+            line: place.line.saturating_add(1),
+            column: 1,
+        };
+    }
+    Place {
+        line: place.line,
+        column: place.column.saturating_add(1),
+    }
+}
+
+/// Whether a byte begins a text.
+fn begins_text(inside: Inside, byte: u8) -> bool {
+    matches!((inside, byte), (Inside::Array, b'"' | b'\''))
+}
+
+/// The place of a byte of a text.
+pub fn place_at(text: &[u8], position: usize) -> Place {
+    let mut place = Place { line: 1, column: 1 };
+    for byte in text.get(..position).unwrap_or(text) {
+        place = place_after(place, *byte);
+    }
+    place
+}
+
+/// The place of an entry of a key's array, from 1. Of the key itself for 0, or if its array has fewer, and none if no line begins with
+/// the key.
+pub fn place_of(text: &[u8], key: &str, entry: usize) -> Option<Place> {
+    let (line, rest) = find_key(text, key)?;
+    let mut place = Place { line, column: 1 };
+    let mut inside = Inside::Array;
+    let mut begun = 0usize;
+    for byte in rest {
+        if begins_text(inside, *byte) {
+            begun = begun.saturating_add(1);
+            if begun == entry {
+                return Some(place);
+            }
+        }
+        inside = inside_after(inside, *byte);
+        place = place_after(place, *byte);
+    }
+    Some(Place { line, column: 1 })
+}

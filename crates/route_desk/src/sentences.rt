@@ -1,0 +1,243 @@
+//! The sentence for a line that was refused.
+
+use crate::standing::put_standing;
+use answers::answer_other;
+use explanations::find;
+use net_data::{Event, Net};
+use point_codes::PointCode;
+use script_words::{Command, read_line};
+use std::alloc::{AllocError, Global};
+
+/// The greatest number of bytes of a line.
+const LINE_LIMIT: usize = 131072;
+
+/// Text bytes as a text, empty if they are none.
+fn text_of(bytes: &[u8]) -> &str {
+    match str::from_utf8(bytes) {
+        Ok(text) => text,
+        Err(_) => "",
+    }
+}
+
+/// What a word of a form stands for, if that is told by the word alone.
+fn meaning_of(place: &str) -> Option<&'static str> {
+    match place {
+        "Y" | "X" | "Z" | "CODE" => Some("a signalling point code"),
+        "ID" => Some("the id of a link set, 0 to 4095"),
+        "SLC" => Some("a signalling link code, 0 to 15"),
+        "END" => Some("a or b"),
+        "K" => Some("a slot, 0 to 31"),
+        "S" => Some("a signalling link selection, 0 to 15"),
+        _ => None,
+    }
+}
+
+/// Whether a text is a number up to a greatest one, without leading zeros.
+fn is_number(word: &str, greatest: u32) -> bool {
+    match word.parse::<u32>() {
+        Ok(number) => number <= greatest && !(word.len() > 1 && word.starts_with('0')),
+        Err(_) => false,
+    }
+}
+
+/// Whether a word may stand in a place of a form.
+fn fits(place: &str, word: &str) -> bool {
+    match place {
+        "Y" | "X" | "Z" | "CODE" => PointCode::parse(word.as_bytes()).is_ok(),
+        "ID" => is_number(word, 65535),
+        "SLC" => is_number(word, 255),
+        "S" => is_number(word, 15),
+        "END" => word == "a" || word == "b",
+        "K" => is_number(word, 31),
+        _ => true,
+    }
+}
+
+/// Which word of a line doesn't stand for the one in its place in a form, from 1.
+enum Misfit<'a> {
+    /// It is missing: what is to stand there.
+    Missing(u32, &'a str),
+    /// It is another: what is to stand there.
+    Wrong(u32, &'a str),
+    /// The form has no more.
+    TooMany(u32),
+}
+
+/// The first word of a line that doesn't stand for the one in its place in a form.
+fn misfit_of<'a>(form: &'a str, line: &str) -> Option<Misfit<'a>> {
+    let mut words = line.split_ascii_whitespace();
+    let mut count = 0u32;
+    for place in form.split(' ') {
+        count = count.saturating_add(1);
+        match words.next() {
+            None => return Some(Misfit::Missing(count, place)),
+            Some(word) => {
+                if !fits(place, word) {
+                    return Some(Misfit::Wrong(count, place));
+                }
+            }
+        }
+    }
+    match words.next() {
+        Some(_) => Some(Misfit::TooMany(count.saturating_add(1))),
+        None => None,
+    }
+}
+
+/// Which word doesn't fit, and what is expected there.
+fn write_misfit(alloc: Global, misfit: Misfit<'_>) -> Result<String, AllocError> {
+    match misfit {
+        Misfit::Missing(count, place) => {
+            let wanted = meaning_of(place).unwrap_or(place);
+            format!(in alloc; "word {count} is missing, {wanted}")
+        }
+        Misfit::Wrong(count, place) => {
+            let wanted = meaning_of(place).unwrap_or(place);
+            format!(in alloc; "word {count} has to be {wanted}")
+        }
+        Misfit::TooMany(count) => format!(in alloc; "word {count} is one too many"),
+    }
+}
+
+/// Whether each word of a form stands for one word of a line.
+fn is_plain(form: &str) -> bool {
+    !form.contains("..") && !form.contains(" or ") && !form.contains("EVENT")
+}
+
+/// What was expected of a line whose first word begins a command of this form.
+fn write_expected(alloc: Global, form: &str, line: &str) -> Result<String, AllocError> {
+    if is_plain(form) {
+        if let Some(misfit) = misfit_of(form, line) {
+            return write_misfit(alloc, misfit);
+        }
+    }
+    format!(in alloc; "the form is {form}")
+}
+
+/// The text that `help` has for a word.
+fn help_on(alloc: Global, word: &str) -> Result<String, AllocError> {
+    let question = format!(in alloc; "help {word}")?;
+    answer_other(alloc, question.as_bytes())
+}
+
+/// What was expected of a line by the text that `help` has for its first word.
+fn write_by_help(alloc: Global, told: &str, word: &str, line: &str) -> Result<String, AllocError> {
+    let form = told
+        .strip_prefix("help ")
+        .and_then(|form| form.split_once(", as "));
+    match form {
+        Some((form, example)) => {
+            let expected = write_expected(alloc, form, line)?;
+            let expected = expected.as_str();
+            format!(in alloc; "{expected}, as {example}")
+        }
+        None => format!(in alloc; "no command begins with {word}; help tells the words"),
+    }
+}
+
+/// Why a line is no command.
+fn write_no_command(alloc: Global, line: &str) -> Result<String, AllocError> {
+    let word = line.split_ascii_whitespace().next().unwrap_or("");
+    if word.is_empty() {
+        return String::from_str(alloc, "the line isn't UTF-8");
+    }
+    if line.len() > LINE_LIMIT {
+        return String::from_str(alloc, "the line has more than 131,072 bytes");
+    }
+    let told = help_on(alloc, word)?;
+    write_by_help(alloc, told.as_str(), word, line)
+}
+
+/// Why a command is answered `62 BadLine`.
+fn not_now(command: &Command) -> &'static str {
+    match command {
+        Command::Give(_) | Command::Abandon(_) => {
+            "the slot is empty; beside workers they give what they did themselves"
+        }
+        _ => "beside workers this is done by them",
+    }
+}
+
+/// Why a line is answered `62 BadLine`.
+fn write_bad_line(alloc: Global, line: &str) -> Result<String, AllocError> {
+    match read_line(alloc, line.as_bytes())? {
+        Some(command) => String::from_str(alloc, not_now(&command)),
+        None => write_no_command(alloc, line),
+    }
+}
+
+/// The event of a command, if it has just one.
+pub fn event_in(command: &Command) -> Option<&Event> {
+    match command {
+        Command::Event(event) | Command::Post(_, _, event) => Some(event),
+        _ => None,
+    }
+}
+
+/// What stands in a network against an event, if there is one, in text; empty if that can't be told.
+fn write_standing(alloc: Global, net: &Net, event: Option<&Event>) -> Result<String, AllocError> {
+    let mut text = String::new(alloc);
+    if let Some(event) = event {
+        if let Some(refusal) = net.refusal_of(event) {
+            put_standing(alloc, &mut text, net, event, refusal)?;
+        }
+    }
+    Ok(text)
+}
+
+/// What stands in a network against the event of a line, in text; empty if that can't be told.
+fn write_against(alloc: Global, net: &Net, line: &str) -> Result<String, AllocError> {
+    match read_line(alloc, line.as_bytes())? {
+        Some(command) => write_standing(alloc, net, event_in(&command)),
+        None => Ok(String::new(alloc)),
+    }
+}
+
+/// What stands against a refused line, or what its refusal means.
+fn write_refused(
+    alloc: Global,
+    line: &str,
+    title: &str,
+    net: Option<&Net>,
+) -> Result<String, AllocError> {
+    if let Some(net) = net {
+        let standing = write_against(alloc, net, line)?;
+        if !standing.is_empty() {
+            return Ok(standing);
+        }
+    }
+    match find(title) {
+        Some(explanation) => String::from_str(alloc, explanation.meaning),
+        None => Ok(String::new(alloc)),
+    }
+}
+
+/// What is wrong with a refused line, by the number of its refusal.
+fn write_reason(
+    alloc: Global,
+    line: &str,
+    title: &str,
+    net: Option<&Net>,
+) -> Result<String, AllocError> {
+    if title == "62" {
+        return write_bad_line(alloc, line);
+    }
+    write_refused(alloc, line, title, net)
+}
+
+/// The sentence for a line by its answer, if that is a refusal.
+pub fn sentence_of(
+    alloc: Global,
+    number: u64,
+    line: &[u8],
+    answer: &[u8],
+    net: Option<&Net>,
+) -> Result<Option<String>, AllocError> {
+    let Some(refusal) = text_of(answer).strip_prefix("refused ") else {
+        return Ok(None);
+    };
+    let title = refusal.split_ascii_whitespace().next().unwrap_or("");
+    let reason = write_reason(alloc, text_of(line), title, net)?;
+    let reason = reason.as_str();
+    Ok(Some(format!(in alloc; "line {number}: {reason}")?))
+}
