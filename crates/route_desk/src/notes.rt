@@ -20,6 +20,8 @@ pub struct Notes {
     lines: u64,
     /// Whether the network text comes first.
     in_text: bool,
+    /// Whether memory was refused, after which nothing is told: it isn't known any more which line an answer is of.
+    lost: bool,
     /// The network after all events that were taken, if it is known.
     net: Option<Box<Net>>,
 }
@@ -32,9 +34,12 @@ fn without_return(line: &[u8]) -> &[u8] {
     }
 }
 
+/// The greatest number of bytes of a line; a longer one is answered, whatever it holds.
+pub const LINE_LIMIT: usize = 131072;
+
 /// Whether a line gets no answer: a comment, or one of spaces alone.
 fn is_silent(line: &[u8]) -> bool {
-    line.starts_with(b"#") || line.iter().all(|byte| *byte == b' ')
+    line.len() <= LINE_LIMIT && (line.starts_with(b"#") || line.iter().all(|byte| *byte == b' '))
 }
 
 /// A copy of a network in a box, none if there is no memory for it.
@@ -99,6 +104,7 @@ impl Notes {
             answer: Vec::new(alloc),
             lines: 0,
             in_text,
+            lost: false,
             net,
         }
     }
@@ -123,12 +129,12 @@ impl Notes {
         network_text(self.unanswered()).line
     }
 
-    /// Takes what was read. Where there is no memory for it nothing is told of it.
+    /// Takes what was read.
     pub fn read(&mut self, bytes: &[u8]) {
         let mut unread = Vec::new(self.alloc);
         let kept = unread.extend_from_slice(self.unanswered());
         if kept.is_err() || unread.extend_from_slice(bytes).is_err() {
-            unread.clear();
+            self.lost = true;
         }
         self.unread = unread;
         self.at = 0;
@@ -190,16 +196,21 @@ impl Notes {
 
     /// Takes one byte that was written: the sentence for a line whose answer it ends, if that is refused.
     pub fn write(&mut self, byte: u8) -> Option<String> {
+        if self.lost {
+            return None;
+        }
         if byte != b'\n' {
-            // What has no memory isn't explained.
-            let _ = self.answer.push(byte);
+            self.lost = self.answer.push(byte).is_err();
             return None;
         }
         let sentence = self.end_answer();
         self.answer.clear();
         match sentence {
             Ok(sentence) => sentence,
-            Err(_) => None,
+            Err(_) => {
+                self.lost = true;
+                None
+            }
         }
     }
 }

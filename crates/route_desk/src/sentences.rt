@@ -1,5 +1,6 @@
 //! The sentence for a line that was refused.
 
+use crate::notes::LINE_LIMIT;
 use crate::standing::put_standing;
 use answers::answer_other;
 use explanations::find;
@@ -7,9 +8,6 @@ use net_data::{Event, Net};
 use point_codes::PointCode;
 use script_words::{Command, read_line};
 use std::alloc::{AllocError, Global};
-
-/// The greatest number of bytes of a line.
-const LINE_LIMIT: usize = 131072;
 
 /// Text bytes as a text, empty if they are none.
 fn text_of(bytes: &[u8]) -> &str {
@@ -141,9 +139,6 @@ fn write_no_command(alloc: Global, line: &str) -> Result<String, AllocError> {
     if word.is_empty() {
         return String::from_str(alloc, "the line isn't UTF-8");
     }
-    if line.len() > LINE_LIMIT {
-        return String::from_str(alloc, "the line has more than 131,072 bytes");
-    }
     let told = help_on(alloc, word)?;
     write_by_help(alloc, told.as_str(), word, line)
 }
@@ -160,6 +155,9 @@ fn not_now(command: &Command) -> &'static str {
 
 /// Why a line is answered `62 BadLine`.
 fn write_bad_line(alloc: Global, line: &str) -> Result<String, AllocError> {
+    if line.len() > LINE_LIMIT {
+        return String::from_str(alloc, "the line has more than 131,072 bytes");
+    }
     match read_line(alloc, line.as_bytes())? {
         Some(command) => String::from_str(alloc, not_now(&command)),
         None => write_no_command(alloc, line),
