@@ -57,6 +57,13 @@ read -r passed failed <<< "$(tail -1 "$log" | sed -n 's/^\([0-9]*\) passed, \([0
 if [ $status -ne 0 ] || [ "${failed:-1}" -ne 0 ]; then
     exit 1
 fi
+# a wrong body that doesn't compile shows nothing, and the prover lets it pass
+untried=$(grep -c ': BAD EDIT: ' "$log")
+if [ "$untried" -ne 0 ]; then
+    echo "$untried of the wrong bodies can't be tried: see BAD EDIT above"
+    echo "$passed passed, $untried failed"
+    exit 1
+fi
 
 # runs a command, and adds the counts of its last line: 'N passed, M failed', or 'N examples, M failed', M of N
 add() {
