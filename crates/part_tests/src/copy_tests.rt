@@ -89,11 +89,17 @@ fn a_copy_of_a_plan_is_equal(rt: HostRuntime) -> Result<(), Fail> {
     Ok(())
 }
 
+/// Copies of rows, made at once.
+fn copies_at_once(alloc: Global, rows: &[Row]) -> Result<Rows, AllocError> {
+    let copies = copy_rows(alloc, rows)?;
+    Rows::from_vec(alloc, copies)
+}
+
 #[test]
 fn copies_of_rows_are_equal(rt: HostRuntime) -> Result<(), Fail> {
     let plan = new_plan(rt.alloc())?;
     let dest = plan.dest;
-    let rows = Rows::from_vec(rt.alloc(), copy_rows(rt.alloc(), plan.rows.as_slice())?)?;
+    let rows = copies_at_once(rt.alloc(), plan.rows.as_slice())?;
     assert!(rt; is_same_plan(&Plan { dest, rows }, &plan));
     Ok(())
 }
