@@ -46,7 +46,8 @@ def compiled(text):
 
 
 def repeated(lines, values):
-    """The lines with their places. `for n in A..B` repeats those indented below it, and an expression in braces is worked out."""
+    """The lines with their places. `for n in A..B` repeats those indented below it, and an expression in braces is worked out. An object
+    of JSON, whose brace stands before a quotation mark, stays as it is."""
     at = 0
     while at < len(lines):
         place, line = lines[at]
@@ -61,7 +62,7 @@ def repeated(lines, values):
                 yield from repeated(inner, {**values, loop[1]: value})
             at = end
         else:
-            yield place, re.sub(r"\{(.*?)\}", lambda found: str(eval(compiled(found[1]), {}, values)), line)
+            yield place, re.sub(r'\{(?!")(.*?)\}', lambda found: str(eval(compiled(found[1]), {}, values)), line)
 
 
 def network_of(folder, words):

@@ -12,7 +12,7 @@ use Rattle.clap.specs.Takes.{is_given}
 use Rattle.clap.specs.Faults.{built_fault, check_fault, entered_fault, fault_of, level_fault, other_fault, step_fault, turn_fault, walk_fault, word_fault}
 use Rattle.clap.specs.declared.error.Error.{Error}
 use Rattle.clap.specs.declared.error.kind.ErrorKind.TheVariants.{DisplayHelp, InvalidSubcommand, MissingSubcommand}
-use Rattle.command_line.specs.Words.{net_rule, steps_rule, dir_rule, workers_rule, save_rule, explained_rule, about_rule, svg_rule, check_app, desk_app, explain_app, export_app, import_app, picture_app, play_app, run_app, is_whole, IsWordFault}
+use Rattle.command_line.specs.Words.{net_rule, steps_rule, dir_rule, workers_rule, save_rule, explained_rule, json_rule, about_rule, svg_rule, check_app, desk_app, explain_app, export_app, import_app, picture_app, play_app, run_app, is_whole, IsWordFault}
 use Rattle.command_line.specs.declared.words.WordFault.TheVariants.{Clap}
 use Rattle.command_line.proofs.RowLemmas.{AllFill, Fills, none_of_both, set_fills, set_true_fills, help_fills, level_filled, given_value}
 
@@ -157,6 +157,9 @@ workers_fills = set_fills (rule_at 2 workers_rule) refl refl
 save_fills : Fills (rule_at 2 save_rule)
 save_fills = set_fills (rule_at 2 save_rule) refl refl
 
+json_fills : Fills (rule_at 2 json_rule)
+json_fills = set_true_fills (rule_at 2 json_rule) refl refl
+
 explained_fills : Fills (rule_at 2 explained_rule)
 explained_fills = set_true_fills (rule_at 2 explained_rule) refl refl
 
@@ -170,13 +173,13 @@ asks_fills : Fills (rule_at 2 help_rule)
 asks_fills = help_fills (rule_at 2 help_rule) refl
 
 run_fills : AllFill run_built.rules
-run_fills = (net_fills, (workers_fills, (save_fills, (explained_fills, (asks_fills, tt)))))
+run_fills = (net_fills, (workers_fills, (save_fills, (explained_fills, (json_fills, (asks_fills, tt))))))
 
 play_fills : AllFill play_built.rules
-play_fills = (net_fills, (steps_fills, (save_fills, (explained_fills, (asks_fills, tt)))))
+play_fills = (net_fills, (steps_fills, (save_fills, (explained_fills, (json_fills, (asks_fills, tt))))))
 
 check_fills : AllFill check_built.rules
-check_fills = (net_fills, (asks_fills, tt))
+check_fills = (net_fills, (json_fills, (asks_fills, tt)))
 
 picture_fills : AllFill picture_built.rules
 picture_fills = (net_fills, (about_fills, (svg_fills, (asks_fills, tt))))

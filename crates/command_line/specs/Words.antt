@@ -27,6 +27,10 @@ save_rule = record (new_rule (codes "save")) { long = Some (codes "save"); value
 abbrev pub explained_rule : Rule
 explained_rule = record (new_rule (codes "explain")) { long = Some (codes "explain"); action = Some SetTrue }
 
+-- `--json`, which has no value
+abbrev pub json_rule : Rule
+json_rule = record (new_rule (codes "json")) { long = Some (codes "json"); action = Some SetTrue }
+
 -- a command of this name with NET
 abbrev pub net_app : Text → App
 net_app name = with_rule (new_app name) net_rule
@@ -40,8 +44,12 @@ abbrev pub saved_run_app : App
 saved_run_app = with_rule workers_app save_rule
 
 -- `run NET --workers N --save FILE --explain`
+abbrev pub explained_run_app : App
+explained_run_app = with_rule saved_run_app explained_rule
+
+-- `run NET --workers N --save FILE --explain --json`
 abbrev pub run_app : App
-run_app = with_rule saved_run_app explained_rule
+run_app = with_rule explained_run_app json_rule
 
 -- STEPS is required
 abbrev pub steps_rule : Rule
@@ -56,12 +64,16 @@ abbrev pub saved_play_app : App
 saved_play_app = with_rule files_app save_rule
 
 -- `play NET STEPS --save FILE --explain`
-abbrev pub play_app : App
-play_app = with_rule saved_play_app explained_rule
+abbrev pub explained_play_app : App
+explained_play_app = with_rule saved_play_app explained_rule
 
--- `check NET`
+-- `play NET STEPS --save FILE --explain --json`
+abbrev pub play_app : App
+play_app = with_rule explained_play_app json_rule
+
+-- `check NET --json`
 abbrev pub check_app : App
-check_app = net_app (codes "check")
+check_app = with_rule (net_app (codes "check")) json_rule
 
 -- `--about X`
 abbrev pub about_rule : Rule
@@ -96,8 +108,12 @@ abbrev pub what_rule : Rule
 what_rule = record (new_rule (codes "what")) { value_names = 1 }
 
 -- `explain WHAT`
+abbrev pub what_app : App
+what_app = with_rule (new_app (codes "explain")) what_rule
+
+-- `explain WHAT --json`
 abbrev pub explain_app : App
-explain_app = with_rule (new_app (codes "explain")) what_rule
+explain_app = with_rule what_app json_rule
 
 -- `route_desk` alone, which tells its version
 abbrev pub bare_app : App
@@ -142,15 +158,16 @@ HasFlag id rows = first_of id rows ≡ Some (codes "true")
 
 -- the order is what the subcommand's matches say
 abbrev pub IsOrder : Order → Option (Text × List Row) → Type 0
-IsOrder (Run net workers save explained) found =
+IsOrder (Run net workers save explained json) found =
     (rows : List Row) × (found ≡ Some (codes "run", rows)) × (first_of (codes "net") rows ≡ Some net.now)
     × IsWorkers (first_of (codes "workers") rows) workers × (first_of (codes "save") rows ≡ option_map (λ s. s.now) save)
-    × (IsTrue explained ↔ HasFlag (codes "explain") rows)
-IsOrder (Play net steps save explained) found =
+    × (IsTrue explained ↔ HasFlag (codes "explain") rows) × (IsTrue json ↔ HasFlag (codes "json") rows)
+IsOrder (Play net steps save explained json) found =
     (rows : List Row) × (found ≡ Some (codes "play", rows)) × (first_of (codes "net") rows ≡ Some net.now)
     × (first_of (codes "steps") rows ≡ Some steps.now) × (first_of (codes "save") rows ≡ option_map (λ s. s.now) save)
-    × (IsTrue explained ↔ HasFlag (codes "explain") rows)
-IsOrder (Check net) found = (rows : List Row) × (found ≡ Some (codes "check", rows)) × (first_of (codes "net") rows ≡ Some net.now)
+    × (IsTrue explained ↔ HasFlag (codes "explain") rows) × (IsTrue json ↔ HasFlag (codes "json") rows)
+IsOrder (Check net json) found =
+    (rows : List Row) × (found ≡ Some (codes "check", rows)) × (first_of (codes "net") rows ≡ Some net.now) × (IsTrue json ↔ HasFlag (codes "json") rows)
 IsOrder (Picture net about svg) found =
     (rows : List Row) × (found ≡ Some (codes "picture", rows)) × (first_of (codes "net") rows ≡ Some net.now)
     × (first_of (codes "about") rows ≡ option_map (λ s. s.now) about)
@@ -159,18 +176,19 @@ IsOrder (Import dir) found = (rows : List Row) × (found ≡ Some (codes "import
 IsOrder (Export net dir) found =
     (rows : List Row) × (found ≡ Some (codes "export", rows)) × (first_of (codes "net") rows ≡ Some net.now)
     × (first_of (codes "dir") rows ≡ Some dir.now)
-IsOrder (Explain what) found =
+IsOrder (Explain what json) found =
     (rows : List Row) × (found ≡ Some (codes "explain", rows)) × (first_of (codes "what") rows ≡ option_map (λ s. s.now) what)
+    × (IsTrue json ↔ HasFlag (codes "json") rows)
 
 -- there are at most 32 workers
 abbrev pub IsWithin : Order → Type 0
-IsWithin (Run net workers save explained) = workers ≤ 32
-IsWithin (Play net steps save explained) = Unit {0}
-IsWithin (Check net) = Unit {0}
+IsWithin (Run net workers save explained json) = workers ≤ 32
+IsWithin (Play net steps save explained json) = Unit {0}
+IsWithin (Check net json) = Unit {0}
 IsWithin (Picture net about svg) = Unit {0}
 IsWithin (Import dir) = Unit {0}
 IsWithin (Export net dir) = Unit {0}
-IsWithin (Explain what) = Unit {0}
+IsWithin (Explain what json) = Unit {0}
 
 -- whether the argument has a value
 abbrev pub has_value : Text → List Row → Bool

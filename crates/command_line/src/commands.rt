@@ -3,7 +3,7 @@
 ghost use Rattle.std.specs.Prelude.{◌≡◌, IfOk, false};
 ghost use Rattle.clap.specs.declared.builder.command.Command.TheViews.{out-Command};
 ghost use Rattle.clap.specs.Words.{app_of, rule_of};
-ghost use Rattle.command_line.specs.Words.{explained_rule, net_rule, steps_rule, dir_rule, workers_rule, save_rule, about_rule, svg_rule, what_rule, net_app, workers_app, saved_run_app, run_app, files_app, saved_play_app, play_app, check_app, about_app, picture_app, import_app, export_app, explain_app, bare_app, desk_app_up_to_run, desk_app_up_to_play, desk_app_up_to_check, desk_app_up_to_picture, desk_app_up_to_import, desk_app_up_to_export, desk_app};
+ghost use Rattle.command_line.specs.Words.{explained_rule, json_rule, net_rule, steps_rule, dir_rule, workers_rule, save_rule, about_rule, svg_rule, what_rule, net_app, workers_app, saved_run_app, explained_run_app, run_app, files_app, saved_play_app, explained_play_app, play_app, check_app, about_app, picture_app, import_app, export_app, what_app, explain_app, bare_app, desk_app_up_to_run, desk_app_up_to_play, desk_app_up_to_check, desk_app_up_to_picture, desk_app_up_to_import, desk_app_up_to_export, desk_app};
 
 use clap::{Arg, ArgAction, Command};
 use std::alloc::{AllocError, Global};
@@ -76,6 +76,17 @@ fn explained_argument<'a>(alloc: Global) -> Arg<'a>
         .help("Say of each refused line and of a fault, on standard error, what is wrong")
 }
 
+/// The flag `--json`, which has no value.
+fn json_argument<'a>(alloc: Global) -> Arg<'a>
+    ensures rule { rule_of result ≡ json_rule }
+    ensures local { result.global ≡ false }
+{
+    Arg::new(alloc, "json")
+        .long("json")
+        .action(ArgAction::SetTrue)
+        .help("Write each answer as a JSON object")
+}
+
 /// The option `--about X`.
 fn about_argument<'a>(alloc: Global) -> Arg<'a>
     ensures rule { rule_of result ≡ about_rule }
@@ -136,7 +147,7 @@ fn workers_command<'a>(alloc: Global) -> Result<Command<'a>, AllocError>
     command.arg(workers_argument(alloc))
 }
 
-/// The command `run` with all but its flag.
+/// The command `run` with all but its flags.
 fn saved_run_command<'a>(alloc: Global) -> Result<Command<'a>, AllocError>
     ensures app { IfOk result (λ c. app_of c ≡ saved_run_app) }
     ensures local { IfOk result (λ c. (out-Command c).has_globals ≡ false) }
@@ -145,13 +156,22 @@ fn saved_run_command<'a>(alloc: Global) -> Result<Command<'a>, AllocError>
     command.arg(save_argument(alloc))
 }
 
+/// The command `run` with all but its last flag.
+fn explained_run_command<'a>(alloc: Global) -> Result<Command<'a>, AllocError>
+    ensures app { IfOk result (λ c. app_of c ≡ explained_run_app) }
+    ensures local { IfOk result (λ c. (out-Command c).has_globals ≡ false) }
+{
+    let command = saved_run_command(alloc)?;
+    command.arg(explained_argument(alloc))
+}
+
 /// The command `run`.
 fn run_command<'a>(alloc: Global) -> Result<Command<'a>, AllocError>
     ensures app { IfOk result (λ c. app_of c ≡ run_app) }
     ensures local { IfOk result (λ c. (out-Command c).has_globals ≡ false) }
 {
-    let command = saved_run_command(alloc)?;
-    command.arg(explained_argument(alloc))
+    let command = explained_run_command(alloc)?;
+    command.arg(json_argument(alloc))
 }
 
 /// The command `play` with its two files.
@@ -168,7 +188,7 @@ fn files_command<'a>(alloc: Global) -> Result<Command<'a>, AllocError>
     command.arg(steps_argument(alloc))
 }
 
-/// The command `play` with all but its flag.
+/// The command `play` with all but its flags.
 fn saved_play_command<'a>(alloc: Global) -> Result<Command<'a>, AllocError>
     ensures app { IfOk result (λ c. app_of c ≡ saved_play_app) }
     ensures local { IfOk result (λ c. (out-Command c).has_globals ≡ false) }
@@ -177,13 +197,22 @@ fn saved_play_command<'a>(alloc: Global) -> Result<Command<'a>, AllocError>
     command.arg(save_argument(alloc))
 }
 
+/// The command `play` with all but its last flag.
+fn explained_play_command<'a>(alloc: Global) -> Result<Command<'a>, AllocError>
+    ensures app { IfOk result (λ c. app_of c ≡ explained_play_app) }
+    ensures local { IfOk result (λ c. (out-Command c).has_globals ≡ false) }
+{
+    let command = saved_play_command(alloc)?;
+    command.arg(explained_argument(alloc))
+}
+
 /// The command `play`.
 fn play_command<'a>(alloc: Global) -> Result<Command<'a>, AllocError>
     ensures app { IfOk result (λ c. app_of c ≡ play_app) }
     ensures local { IfOk result (λ c. (out-Command c).has_globals ≡ false) }
 {
-    let command = saved_play_command(alloc)?;
-    command.arg(explained_argument(alloc))
+    let command = explained_play_command(alloc)?;
+    command.arg(json_argument(alloc))
 }
 
 /// The command `check`.
@@ -191,12 +220,13 @@ fn check_command<'a>(alloc: Global) -> Result<Command<'a>, AllocError>
     ensures app { IfOk result (λ c. app_of c ≡ check_app) }
     ensures local { IfOk result (λ c. (out-Command c).has_globals ≡ false) }
 {
-    net_command(
+    let command = net_command(
         alloc,
         "check",
         "Work out the tables of all destinations, and check each by the local rule",
         "File with the network",
-    )
+    )?;
+    command.arg(json_argument(alloc))
 }
 
 /// The command `picture` with its network and its destination.
@@ -248,14 +278,23 @@ fn export_command<'a>(alloc: Global) -> Result<Command<'a>, AllocError>
     command.arg(dir_argument(alloc, "Folder that gets the three tables"))
 }
 
-/// The command `explain`.
-fn explain_command<'a>(alloc: Global) -> Result<Command<'a>, AllocError>
-    ensures app { IfOk result (λ c. app_of c ≡ explain_app) }
+/// The command `explain` with its word.
+fn what_command<'a>(alloc: Global) -> Result<Command<'a>, AllocError>
+    ensures app { IfOk result (λ c. app_of c ≡ what_app) }
     ensures local { IfOk result (λ c. (out-Command c).has_globals ≡ false) }
 {
     Command::new(alloc, "explain")
         .about("Tell what a refusal, a fault or a cause means, and what to do")
         .arg(what_argument(alloc))
+}
+
+/// The command `explain`.
+fn explain_command<'a>(alloc: Global) -> Result<Command<'a>, AllocError>
+    ensures app { IfOk result (λ c. app_of c ≡ explain_app) }
+    ensures local { IfOk result (λ c. (out-Command c).has_globals ≡ false) }
+{
+    let command = what_command(alloc)?;
+    command.arg(json_argument(alloc))
 }
 
 /// The command `route_desk` alone, with its version.

@@ -10,7 +10,8 @@
 //! 5. `route_desk import DIR` makes a network text from the three tables of the folder DIR.
 //! 6. `route_desk export NET DIR` writes the network NET as three tables in the folder DIR.
 //! 7. `route_desk explain WHAT` tells what the number or name WHAT means; WHAT may be left out, and is any word here.
-//! 8. NET is a file, or in `run` alone `-` for standard input. An N that is no such number is refused by a fault of its own.
+//! 8. With the flag `--json` the commands run, play, check and explain write JSON objects.
+//! 9. NET is a file, or in `run` alone `-` for standard input. An N that is no such number is refused by a fault of its own.
 //!    Any other words are told by `clap`, as are `--help` and `--version`.
 //!
 //! Stands on `clap`. A change here also changes specs/ (Words), proofs/ and must-fail/.

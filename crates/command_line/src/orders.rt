@@ -88,11 +88,13 @@ fn run_order<'a>(matches: &ArgMatches<'a>) -> Result<Order<'a>, NoOrder>
     };
     let save = value_at(matches, "save");
     let explained = flag_at(matches, "explain");
+    let json = flag_at(matches, "json");
     Ok(Order::Run {
         net,
         workers,
         save,
         explained,
+        json,
     })
 }
 
@@ -108,6 +110,7 @@ fn play_order<'a>(matches: &ArgMatches<'a>) -> Option<Order<'a>>
         steps,
         save: value_at(matches, "save"),
         explained: flag_at(matches, "explain"),
+        json: flag_at(matches, "json"),
     })
 }
 
@@ -117,7 +120,8 @@ fn check_order<'a>(matches: &ArgMatches<'a>) -> Option<Order<'a>>
     ensures none { result ≡ None → is_whole (codes "check", rows_of (found_of matches.now)) ≡ false }
 {
     let net = value_at(matches, "net")?;
-    Some(Order::Check { net })
+    let json = flag_at(matches, "json");
+    Some(Order::Check { net, json })
 }
 
 /// What the matches of `picture` order.
@@ -155,7 +159,8 @@ fn explain_order<'a>(matches: &ArgMatches<'a>) -> Order<'a>
     ensures { IsOrder result (Some (codes "explain", rows_of (found_of matches.now))) }
 {
     let what = value_at(matches, "what");
-    Order::Explain { what }
+    let json = flag_at(matches, "json");
+    Order::Explain { what, json }
 }
 
 /// What the matches order.

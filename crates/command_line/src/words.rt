@@ -16,24 +16,27 @@ use std::alloc::Global;
 pub enum Order<'a> {
     /// To answer the script on standard input from the network of a file, or of standard input itself where the file's
     /// name is `-`, with this many worker threads beside it, 0 to 32, to write the network to a file then, if one is named,
-    /// and to explain refused lines and faults, if that is wanted.
+    /// to explain refused lines and faults, and to answer with JSON objects, if that is wanted.
     Run {
         net: &'a str,
         workers: u32,
         save: Option<&'a str>,
         explained: bool,
+        json: bool,
     },
     /// To answer the script of the file STEPS from the network of a file, to write the network to a file then, if one is named,
-    /// and to explain refused lines and faults, if that is wanted.
+    /// to explain refused lines and faults, and to answer with JSON objects, if that is wanted.
     Play {
         net: &'a str,
         steps: &'a str,
         save: Option<&'a str>,
         explained: bool,
+        json: bool,
     },
-    /// To check the settled tables of the network of a file.
+    /// To check the settled tables of the network of a file, and to tell what was found as a JSON object, if that is wanted.
     Check {
         net: &'a str,
+        json: bool,
     },
     /// To draw the network of a file, as an SVG text or else as a Graphviz DOT text, with the traffic to this destination if
     /// one is named.
@@ -51,9 +54,10 @@ pub enum Order<'a> {
         net: &'a str,
         dir: &'a str,
     },
-    /// To tell what this number or name means, or what each of them means if none is given.
+    /// To tell what this number or name means, or what each of them means if none is given, in JSON objects if that is wanted.
     Explain {
         what: Option<&'a str>,
+        json: bool,
     },
 }
 

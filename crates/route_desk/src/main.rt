@@ -6,7 +6,8 @@
 //!    fault; a file that was there stays as it was if that fails. If FILE is a symbolic link, the file that it leads to
 //!    is written, and the link stays. With `--workers N`, from 1 to 32, that many threads settle jobs beside the script.
 //!    With `--explain` each refused line and a fault has a sentence on standard error too: what was expected, what stands against an
-//!    edit, where an entry stands, or the system's reason.
+//!    edit, where an entry stands, or the system's reason. With `--json` each answer is an object of JSON on a line of its own, as
+//!    are what `check` and `explain` write.
 //! 2. `route_desk play NET STEPS` does the same with the script of the file STEPS, which is opened once the network is
 //!    loaded.
 //! 3. `route_desk check NET` works out the tables of all planned destinations of that network, by as many threads as
@@ -28,13 +29,15 @@
 //!    isn't UTF-8, N is no number from 0 to 32, X is no signalling point code, or nothing is called WHAT. Help and the version are
 //!    printed on standard output, with 0.
 //!
-//! Stands on `net_saving`, `net_sheets`, `pictures`, `console`, `beside`, `explanations`, `command_line`, `clap`. Nothing else changes with it.
+//! Stands on `net_saving`, `net_sheets`, `pictures`, `console`, `beside`, `explanations`, `json_answers`, `command_line`, `clap`. Nothing else changes with it.
 #![tactic(auto)]
 
 mod drawing;
 mod explaining;
 mod files;
+mod missing;
 mod notes;
+mod objects;
 mod places;
 mod reasons;
 mod runs;
@@ -51,13 +54,15 @@ use command_line::{Order, WordFault, read_words};
 use console::{CheckEnd, Fault, check_net, write_fault};
 use drawing::{NoPicture, picture_of, read_about};
 use excerpts::Frozen;
-use explanations::{explanations, find, write_explanation, write_titles};
+use explanations::{Explanation, explanations, find, write_explanation, write_titles};
+use json_answers::{write_object, write_texts};
 use net_data::Net;
 use net_saving::save;
+use objects::Manner;
 use runs::{finish, load_file, play_file, run_net};
 use sheets::{FolderFault, describe, read_folder, write_folder};
 use std::alloc::{AllocError, Global};
-use std::io::ErrorKind;
+use std::io::{ErrorKind, Write};
 use std::process::ExitCode;
 use std::sync::Wait;
 use std::thread::Threads;
@@ -114,11 +119,37 @@ fn check_tables(
     }
 }
 
-/// Says what a check found.
-fn report_check(rt: &HostRuntime, end: &CheckEnd) -> io::Result<ExitCode> {
-    let text = end.text.as_str();
-    if let Err(_) = println!(rt; "{text}") {
+/// Writes bytes that were asked for, or says that there was no memory for them.
+fn tell_bytes(rt: &HostRuntime, bytes: Result<Vec<u8>, AllocError>) -> io::Result<ExitCode> {
+    let Ok(bytes) = bytes else {
+        return report(rt, Some(Fault::OutOfMemory));
+    };
+    if let Err(_) = io::writer(rt).write_all(bytes.as_slice()) {
         return report(rt, Some(Fault::Write));
+    }
+    Ok(ExitCode::SUCCESS)
+}
+
+/// A line with a text, as an object of JSON if that is wanted.
+fn line_of(alloc: Global, text: &str, json: bool) -> Result<Vec<u8>, AllocError> {
+    let mut line = Vec::new(alloc);
+    if json {
+        return write_object(alloc, line, text);
+    }
+    line.extend_from_slice(text.as_bytes())?;
+    line.push(b'\n')?;
+    Ok(line)
+}
+
+/// Says what a check found.
+fn report_check(rt: &HostRuntime, end: &CheckEnd, json: bool) -> io::Result<ExitCode> {
+    match line_of(rt.alloc(), end.text.as_str(), json) {
+        Ok(line) => {
+            if let Err(_) = io::writer(rt).write_all(line.as_slice()) {
+                return report(rt, Some(Fault::Write));
+            }
+        }
+        Err(_) => return report(rt, Some(Fault::OutOfMemory)),
     }
     if end.right {
         return Ok(ExitCode::SUCCESS);
@@ -127,9 +158,9 @@ fn report_check(rt: &HostRuntime, end: &CheckEnd) -> io::Result<ExitCode> {
 }
 
 /// Says what a check found, or why there was none.
-fn report_end(rt: &HostRuntime, end: Result<CheckEnd, Fault>) -> io::Result<ExitCode> {
+fn report_end(rt: &HostRuntime, end: Result<CheckEnd, Fault>, json: bool) -> io::Result<ExitCode> {
     match end {
-        Ok(end) => report_check(rt, &end),
+        Ok(end) => report_check(rt, &end, json),
         Err(fault) => report(rt, Some(fault)),
     }
 }
@@ -146,18 +177,44 @@ fn tell(rt: &HostRuntime, text: Result<String, AllocError>) -> io::Result<ExitCo
     Ok(ExitCode::SUCCESS)
 }
 
-/// Writes the explanation that a word calls, or a line for each if there is no word.
-fn explain(rt: &HostRuntime, what: Option<&str>) -> io::Result<ExitCode> {
+/// Explanations as objects of JSON, each on a line.
+fn objects_of(alloc: Global, list: &[Explanation]) -> Result<Vec<u8>, AllocError> {
+    let mut objects = Vec::new(alloc);
+    for explanation in list {
+        objects = write_texts(
+            objects,
+            &[
+                ("word", "explain"),
+                ("title", explanation.title),
+                ("values", explanation.values),
+                ("legend", explanation.legend),
+                ("meaning", explanation.meaning),
+                ("action", explanation.action),
+            ],
+        )?;
+    }
+    Ok(objects)
+}
+
+/// Writes the explanation that a word calls.
+fn explain_word(rt: &HostRuntime, word: &str, json: bool) -> io::Result<ExitCode> {
     let alloc = rt.alloc();
-    let Some(word) = what else {
-        return tell(rt, write_titles(alloc, explanations()));
-    };
     match find(word) {
+        Some(explanation) if json => tell_bytes(rt, objects_of(alloc, &[*explanation])),
         Some(explanation) => tell(rt, write_explanation(alloc, explanation)),
         None => {
             eprintln!(rt; "route_desk: nothing is called {word}")?;
             Ok(ExitCode::from(2))
         }
+    }
+}
+
+/// Writes the explanation that a word calls, or a line for each if there is no word.
+fn explain(rt: &HostRuntime, what: Option<&str>, json: bool) -> io::Result<ExitCode> {
+    match what {
+        Some(word) => explain_word(rt, word, json),
+        None if json => tell_bytes(rt, objects_of(rt.alloc(), explanations())),
+        None => tell(rt, write_titles(rt.alloc(), explanations())),
     }
 }
 
@@ -209,12 +266,12 @@ fn run(
     net: &str,
     workers: u32,
     save: Option<&str>,
-    explained: bool,
+    manner: Manner,
 ) -> io::Result<ExitCode>
     requires { workers ≤ 32 }
 {
-    let end = run_net(rt, threads, net, workers, explained);
-    report(rt, finish(rt, end, save, explained))
+    let end = run_net(rt, threads, net, workers, manner);
+    report(rt, finish(rt, end, save, manner.explained))
 }
 
 /// The same for the script of a file.
@@ -223,10 +280,10 @@ fn play(
     net: &str,
     steps: &str,
     save: Option<&str>,
-    explained: bool,
+    manner: Manner,
 ) -> io::Result<ExitCode> {
-    let end = play_file(rt, net, steps, explained);
-    report(rt, finish(rt, end, save, explained))
+    let end = play_file(rt, net, steps, manner);
+    report(rt, finish(rt, end, save, manner.explained))
 }
 
 /// Does what the words of the command line ask for; a check and workers take threads.
@@ -243,20 +300,24 @@ fn obey(
             workers,
             save,
             explained,
-        } => run(rt, threads, net, workers, save, explained),
+            json,
+        } => run(rt, threads, net, workers, save, Manner { explained, json }),
         Order::Play {
             net,
             steps,
             save,
             explained,
-        } => play(rt, net, steps, save, explained),
-        Order::Check { net } => {
-            report_end(rt, check_tables(threads, rt.alloc(), load_file(rt, net)))
-        }
+            json,
+        } => play(rt, net, steps, save, Manner { explained, json }),
+        Order::Check { net, json } => report_end(
+            rt,
+            check_tables(threads, rt.alloc(), load_file(rt, net)),
+            json,
+        ),
         Order::Picture { net, about, svg } => draw(rt, net, about, svg),
         Order::Import { dir } => import(rt, dir),
         Order::Export { net, dir } => export(rt, net, dir),
-        Order::Explain { what } => explain(rt, what),
+        Order::Explain { what, json } => explain(rt, what, json),
     }
 }
 

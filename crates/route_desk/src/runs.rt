@@ -1,10 +1,12 @@
-//! Runs of scripts, from files and from standard input, with sentences about what is refused if that is wanted.
+//! Runs of scripts, from files and from standard input, with sentences about what is refused and answers as objects of JSON if that is
+//! wanted.
 
 ghost use Rattle.std.specs.Prelude.{◌≤◌};
 
 use crate::explaining::{NotedReader, NotedWriter};
 use crate::files::save_text;
 use crate::notes::Notes;
+use crate::objects::{Manner, ObjectWriter, end_with, place_if};
 use crate::reasons::{explain_fault, explain_file, explain_load, explain_text};
 use crate::terminal::{Prompting, greet, is_terminal};
 use beside::{run_beside, run_input_beside};
@@ -51,13 +53,30 @@ fn input_notes(alloc: Global, explained: bool) -> Option<RefCell<Notes>> {
     None
 }
 
+/// Runs the script of a reader from a network, in line or beside that many workers.
+fn run_over<R: io::Read + Drop, W: io::Write + Drop>(
+    rt: &HostRuntime,
+    threads: &(impl Threads + Wait + Sync),
+    net: Net,
+    workers: u32,
+    mut reader: R,
+    mut writer: W,
+) -> ScriptEnd
+    requires { workers ≤ 32 }
+{
+    if workers == 0 {
+        return run_script(rt.alloc(), &mut reader, &mut writer, net);
+    }
+    run_beside(threads, rt.alloc(), workers, &Plain, reader, writer, net).end
+}
+
 /// Runs the script on standard input from a network, in line or beside that many workers.
 fn run_from(
     rt: &HostRuntime,
     threads: &(impl Threads + Wait + Sync),
     net: Net,
     workers: u32,
-    explained: bool,
+    manner: Manner,
 ) -> ScriptEnd
     requires { workers ≤ 32 }
 {
@@ -66,13 +85,13 @@ fn run_from(
     if wanted {
         greet(rt, &net);
     }
-    let notes = script_notes(alloc, &net, explained);
-    let mut reader = NotedReader::new(notes.as_ref(), Prompting::new(rt, rt.reader(), wanted));
-    let mut writer = NotedWriter::new(rt, notes.as_ref(), io::writer(rt));
-    if workers == 0 {
-        return run_script(alloc, &mut reader, &mut writer, net);
-    }
-    run_beside(threads, alloc, workers, &Plain, reader, writer, net).end
+    let notes = script_notes(alloc, &net, manner.explained);
+    let refused = place_if(manner.json);
+    let reader = NotedReader::new(notes.as_ref(), Prompting::new(rt, rt.reader(), wanted));
+    let objects = ObjectWriter::new(alloc, refused.as_ref(), io::writer(rt));
+    let writer = NotedWriter::new(rt, notes.as_ref(), objects);
+    let end = run_over(rt, threads, net, workers, reader, writer);
+    end_with(end, refused.as_ref())
 }
 
 /// Runs the network text and the script of an input, in line or beside that many workers.
@@ -103,14 +122,17 @@ fn run_whole(
     rt: &HostRuntime,
     threads: &(impl Threads + Wait + Sync),
     workers: u32,
-    explained: bool,
+    manner: Manner,
 ) -> ScriptEnd
     requires { workers ≤ 32 }
 {
-    let notes = input_notes(rt.alloc(), explained);
+    let notes = input_notes(rt.alloc(), manner.explained);
+    let refused = place_if(manner.json);
     let reader = NotedReader::new(notes.as_ref(), rt.reader());
-    let writer = NotedWriter::new(rt, notes.as_ref(), io::writer(rt));
+    let objects = ObjectWriter::new(rt.alloc(), refused.as_ref(), io::writer(rt));
+    let writer = NotedWriter::new(rt, notes.as_ref(), objects);
     let end = run_input_from(rt, threads, workers, reader, writer);
+    let end = end_with(end, refused.as_ref());
     if let (Some(notes), Some(Fault::Load(fault))) = (&notes, end.fault) {
         explain_input(rt, notes, Fault::Load(fault));
     }
@@ -122,12 +144,15 @@ fn play_from<R: io::Read + Drop>(
     rt: &HostRuntime,
     net: Net,
     script: R,
-    explained: bool,
+    manner: Manner,
 ) -> ScriptEnd {
-    let notes = script_notes(rt.alloc(), &net, explained);
+    let notes = script_notes(rt.alloc(), &net, manner.explained);
+    let refused = place_if(manner.json);
     let mut reader = NotedReader::new(notes.as_ref(), script);
-    let mut writer = NotedWriter::new(rt, notes.as_ref(), io::writer(rt));
-    run_script(rt.alloc(), &mut reader, &mut writer, net)
+    let objects = ObjectWriter::new(rt.alloc(), refused.as_ref(), io::writer(rt));
+    let mut writer = NotedWriter::new(rt, notes.as_ref(), objects);
+    let end = run_script(rt.alloc(), &mut reader, &mut writer, net);
+    end_with(end, refused.as_ref())
 }
 
 /// Runs the script of a file from the network of another.
@@ -135,13 +160,13 @@ pub fn play_file(
     rt: &HostRuntime,
     name: &str,
     steps: &str,
-    explained: bool,
+    manner: Manner,
 ) -> Result<ScriptEnd, Fault> {
-    let net = load_explained(rt, name, explained)?;
+    let net = load_explained(rt, name, manner.explained)?;
     match fs::open(rt, steps) {
-        Ok(file) => Ok(play_from(rt, net, file, explained)),
+        Ok(file) => Ok(play_from(rt, net, file, manner)),
         Err(error) => {
-            if explained {
+            if manner.explained {
                 explain_file(rt, steps, &error);
             }
             Err(Fault::Read)
@@ -155,15 +180,15 @@ pub fn run_net(
     threads: &(impl Threads + Wait + Sync),
     net: &str,
     workers: u32,
-    explained: bool,
+    manner: Manner,
 ) -> Result<ScriptEnd, Fault>
     requires { workers ≤ 32 }
 {
     if net == "-" {
-        return Ok(run_whole(rt, threads, workers, explained));
+        return Ok(run_whole(rt, threads, workers, manner));
     }
-    let net = load_explained(rt, net, explained)?;
-    Ok(run_from(rt, threads, net, workers, explained))
+    let net = load_explained(rt, net, manner.explained)?;
+    Ok(run_from(rt, threads, net, workers, manner))
 }
 
 /// Writes the network to a file.

@@ -1,5 +1,6 @@
 //! The sentence for a line that was refused.
 
+use crate::missing::put_missing_row;
 use crate::notes::LINE_LIMIT;
 use crate::standing::put_standing;
 use answers::answer_other;
@@ -10,7 +11,7 @@ use script_words::{Command, read_line};
 use std::alloc::{AllocError, Global};
 
 /// Text bytes as a text, empty if they are none.
-fn text_of(bytes: &[u8]) -> &str {
+pub fn text_of(bytes: &[u8]) -> &str {
     match str::from_utf8(bytes) {
         Ok(text) => text,
         Err(_) => "",
@@ -183,10 +184,39 @@ fn write_standing(alloc: Global, net: &Net, event: Option<&Event>) -> Result<Str
     Ok(text)
 }
 
-/// What stands in a network against the event of a line, in text; empty if that can't be told.
+/// What a question about a point and a destination finds missing, in text.
+fn write_missing(
+    alloc: Global,
+    net: &Net,
+    point: PointCode,
+    dest: PointCode,
+) -> Result<String, AllocError> {
+    let mut text = String::new(alloc);
+    put_missing_row(alloc, &mut text, net, point, dest)?;
+    Ok(text)
+}
+
+/// The point and the destination that a question is about.
+fn asked_in(command: &Command) -> Option<(PointCode, PointCode)> {
+    match command {
+        Command::About(_, point, dest) => Some((*point, *dest)),
+        Command::Trace(point, dest, _) => Some((*point, *dest)),
+        _ => None,
+    }
+}
+
+/// What stands in a network against a command, in text; empty if that can't be told.
+fn write_about(alloc: Global, net: &Net, command: &Command) -> Result<String, AllocError> {
+    match asked_in(command) {
+        Some((point, dest)) => write_missing(alloc, net, point, dest),
+        None => write_standing(alloc, net, event_in(command)),
+    }
+}
+
+/// What stands in a network against the line, in text; empty if that can't be told.
 fn write_against(alloc: Global, net: &Net, line: &str) -> Result<String, AllocError> {
     match read_line(alloc, line.as_bytes())? {
-        Some(command) => write_standing(alloc, net, event_in(&command)),
+        Some(command) => write_about(alloc, net, &command),
         None => Ok(String::new(alloc)),
     }
 }

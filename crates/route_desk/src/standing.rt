@@ -1,5 +1,6 @@
 //! What stands in a network against an event that is refused.
 
+use crate::missing::{put_bad_row, put_missing_plan, put_missing_point, put_missing_set};
 use net_data::{Event, Net, Refusal};
 use net_items::lookups::{find_point, position_of_set};
 use net_items::{Kind, LinkSet};
@@ -75,7 +76,7 @@ fn put_point(
 }
 
 /// The set of an id.
-fn set_of(net: &Net, id: u16) -> Option<&LinkSet> {
+pub fn set_of(net: &Net, id: u16) -> Option<&LinkSet> {
     net.validity();
     match position_of_set(net.sets(), id) {
         Ok(at) => Some(&net.sets()[at]),
@@ -164,7 +165,7 @@ fn put_about_set(
     refusal: Refusal,
 ) -> Result<(), AllocError> {
     let Some(set) = set_of(net, id) else {
-        return Ok(());
+        return put_missing_set(alloc, text, net, id);
     };
     match refusal {
         Refusal::NoLink | Refusal::LinkThere | Refusal::LastLink => put_links(alloc, text, set),
@@ -209,6 +210,23 @@ fn put_about_pair(
     }
 }
 
+/// Adds what stands in a network against an event about points, a pair or a set.
+fn put_about_event(
+    alloc: Global,
+    text: &mut String,
+    net: &Net,
+    event: &Event,
+    refusal: Refusal,
+) -> Result<(), AllocError> {
+    if let Event::Pair(one, other) = event {
+        return put_about_pair(alloc, text, net, *one, *other, refusal);
+    }
+    match id_in(event) {
+        Some(id) => put_about_set(alloc, text, net, id, refusal),
+        None => put_about_points(alloc, text, net, event, refusal),
+    }
+}
+
 /// Adds what stands in a network against an event that is refused there, if that can be told.
 pub fn put_standing(
     alloc: Global,
@@ -217,14 +235,14 @@ pub fn put_standing(
     event: &Event,
     refusal: Refusal,
 ) -> Result<(), AllocError> {
-    if let Refusal::Joined(id) = refusal {
-        return put_about_set(alloc, text, net, id, refusal);
-    }
-    if let Event::Pair(one, other) = event {
-        return put_about_pair(alloc, text, net, *one, *other, refusal);
-    }
-    match id_in(event) {
-        Some(id) => put_about_set(alloc, text, net, id, refusal),
-        None => put_about_points(alloc, text, net, event, refusal),
+    match (refusal, event) {
+        (Refusal::Joined(id), _) => put_about_set(alloc, text, net, id, refusal),
+        (Refusal::BadRow(point, cause), _) => put_bad_row(alloc, text, point, cause),
+        (Refusal::NoPoint, _) => put_missing_point(alloc, text, net, event),
+        (Refusal::NoPlan, Event::DropPlan(dest)) => {
+            put_missing_plan(alloc, text, net, *dest)?;
+            Ok(())
+        }
+        _ => put_about_event(alloc, text, net, event, refusal),
     }
 }

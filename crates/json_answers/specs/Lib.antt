@@ -1,0 +1,5 @@
+pub mod Members
+pub mod Words
+pub mod Lists
+pub mod Objects
+pub mod Told

@@ -1,0 +1,100 @@
+//! A run whose answers are objects of JSON: what is answered passes through here, line by line.
+
+ghost use Rattle.std.specs.Prelude.{None, Some, is_some, if◌then◌else◌};
+
+use crate::sentences::text_of;
+use console::{Fault, ScriptEnd};
+use json_answers::write_object;
+use std::alloc::{AllocError, Global};
+use std::cell::Cell;
+use std::io;
+
+/// How a run tells what it does.
+#[derive(Clone, Copy)]
+pub struct Manner {
+    /// Whether each refused line and a fault is explained on standard error.
+    pub explained: bool,
+    /// Whether each answer is an object of JSON.
+    pub json: bool,
+}
+
+/// A writer that gets each answer as an object of JSON, if that is wanted.
+#[derive(Drop)]
+pub struct ObjectWriter<'a, W: io::Write> {
+    alloc: Global,
+    /// Where it is told that memory was refused, none if the answers stay as they are.
+    refused: Option<&'a Cell<bool>>,
+    /// The answer that is being written.
+    answer: Vec<u8>,
+    writer: W,
+}
+
+impl<'a, W: io::Write> ObjectWriter<'a, W> {
+    /// A writer, and where it tells that memory was refused if its answers are to be objects.
+    pub fn new(alloc: Global, refused: Option<&'a Cell<bool>>, writer: W) -> ObjectWriter<'a, W> {
+        ObjectWriter {
+            alloc,
+            refused,
+            answer: Vec::new(alloc),
+            writer,
+        }
+    }
+
+    /// The objects of the answers that these bytes end, each on a line.
+    fn objects_of(&mut self, bytes: &[u8]) -> Result<Vec<u8>, AllocError> {
+        let mut objects = Vec::new(self.alloc);
+        for byte in bytes {
+            if *byte == b'\n' {
+                objects = write_object(self.alloc, objects, text_of(self.answer.as_slice()))?;
+                self.answer.clear();
+            } else {
+                self.answer.push(*byte)?;
+            }
+        }
+        Ok(objects)
+    }
+}
+
+impl<'a, W: io::Write> io::Write for ObjectWriter<'a, W> {
+    ghost contents = { λ p. if is_some p.refused then None else W.contents p.writer };
+
+    fn write(&mut self, buf: &[u8]) -> io::Result<usize> {
+        let Some(refused) = self.refused else {
+            return self.writer.write(buf);
+        };
+        match self.objects_of(buf) {
+            Ok(objects) => {
+                self.writer.write_all(objects.as_slice())?;
+                Ok(buf.len())
+            }
+            Err(error) => {
+                refused.set(true);
+                Err(io::Error::from(error))
+            }
+        }
+    }
+
+    fn flush(&mut self) -> io::Result<()> {
+        self.writer.flush()
+    }
+}
+
+/// A place to tell that memory was refused, if answers are to be objects.
+pub fn place_if(json: bool) -> Option<Cell<bool>> {
+    if json {
+        return Some(Cell::new(false));
+    }
+    None
+}
+
+/// The end of a run: if memory for an object was refused, that was its fault.
+pub fn end_with(mut end: ScriptEnd, refused: Option<&Cell<bool>>) -> ScriptEnd {
+    let was_refused = match refused {
+        Some(refused) => refused.get(),
+        None => false,
+    };
+    if was_refused {
+        end.fault = Some(Fault::OutOfMemory);
+    }
+    end
+}
