@@ -174,6 +174,8 @@ def cases(short):
     example = examples_of(os.path.join(HERE, "messages.txt"))[0]
     script = "".join(line + "\n" for _, line, _ in synced(example.lines))
     yield Case("beside workers", ["run", "-", "--workers", "2"], f"{example.network}%%\n{script}".encode("latin-1")), (beside,)
+    same = case_of(example, "run")
+    yield Case("as JSON", [*same.words, "--json"], same.text, None, same.head, same.answered), (memory, reads, writes, calls)
     network = {"network": every_word.network.encode()}
     yield Case("check", ["check", "network"], files=network, head=len(network["network"]) + 1), (memory, reads, writes, calls)
     for words in (["--help"], ["run", "--help"]):
@@ -184,7 +186,7 @@ def cases(short):
     for name in sorted(os.listdir(HERE)):
         if not name.endswith(".txt") or name in ("every-word.txt", "command-lines.txt"):
             continue
-        found = examples_of(os.path.join(HERE, name))
+        found = [example for example in examples_of(os.path.join(HERE, name)) if example.head is None]
         for example in found[::8] if short and name == "faults.txt" else found[:1] if short else found:
             ways = (memory, reads, calls) if example.status else (memory, reads, writes, calls)
             if not short or len(example.network) + len(example.script()) < 1000:
