@@ -94,14 +94,14 @@ pub fn rows_law()
         (word_member (codes "mend") ∷ (codes "links", array (items_of (map mend_item (l ∷ links)))) ∷ []) }
 {}
 
-/// The law: what the objects of answers to `why` tell, of ways that can be told: those of a row in a valid network can.
+/// The law: what the objects of answers to `why` tell, if each via, and the mate, is joined to the row's point by an available set, or
+/// by one whose id and links can be told.
 pub fn why_law()
     ensures { (src : Source) (row : Row) (c : Choice) → AreWays src row → HasMembers (why_text src row c)
         (word_member (codes "why") ∷ text_member (codes "status") (far_text c.status) ∷ (codes "ways", array (items_of (class_items src row c 1 row.classes ++ mate_items src row c))) ∷ []) }
 {}
 
-/// The law: what the objects of answers tell that have no values: nothing is null where there is none, and an empty list where none is
-/// wanted.
+/// The law: what the objects of answers without values tell: null if there is nothing, and an empty list if none is wanted.
 pub fn fixed_law()
     ensures given { HasMembers (given_text (Ok tt)) (word_member (codes "given") ∷ []) }
     ensures abandoned { HasMembers (abandoned_text (Ok tt)) (word_member (codes "abandoned") ∷ []) }
