@@ -1,5 +1,5 @@
 -- Words of answers as values of JSON, by the values that they are written of.
-use Rattle.std.proofs.Common.{◌≡◌, ℕ, zero, suc, ◌+◌, ◌/◌, ◌%◌, ◌<◌, ◌≤◌, ◌^◌, ◌==◌, not, Bool, true, false, List, [], ◌∷◌, ◌++◌, map, length, take, drop, Option, Some, None, codes, decimal, bytes_eq, flat_map, sym, ap, subst, refl, ◌∙◌, arith, append_assoc, append-nil, length-append}
+use Rattle.std.proofs.Common.{lit<, ◌≡◌, ℕ, zero, suc, ◌+◌, ◌/◌, ◌%◌, ◌<◌, ◌≤◌, ◌^◌, ◌==◌, not, Bool, true, false, List, [], ◌∷◌, ◌++◌, map, length, take, drop, Option, Some, None, codes, decimal, bytes_eq, flat_map, sym, ap, subst, refl, ◌∙◌, arith, append_assoc, append-nil, length-append}
 use Rattle.std.proofs.lemmas.Bool.{and_parts}
 use Rattle.std.proofs.lemmas.Fmt.{decimal_digit, decimal_nonempty}
 use Rattle.std.proofs.Math.Seq.{take-append_seam, drop-append-add}
@@ -22,6 +22,9 @@ use Rattle.tokens.proofs.RowLemmas.{decimal_free, code_free, code_some}
 use Rattle.tokens.proofs.WordsLemmas.{words_back}
 use Rattle.json_answers.specs.declared.parts.Separator.{Separator}
 use Rattle.json_answers.specs.declared.parts.Separator.TheVariants.{Space}
+use Rattle.route_choice.specs.declared.choices.Far.{Far}
+use Rattle.route_choice.specs.declared.choices.Far.TheVariants.{Allowed, Restricted, Prohibited}
+use Rattle.answers.specs.Status.{far_text}
 use Rattle.json_answers.specs.Members.{Member, object_with}
 use Rattle.json_answers.specs.Words.{is_number, value_of, separator_byte, parted}
 use Rattle.json_answers.specs.Lists.{item_of, listed}
@@ -76,6 +79,18 @@ number_word n small = (decimal_nonempty n small, decimal_free 32 n refl small)
 
 pub code_word : (n : ℕ) → IsCode n → IsWord (code_text n)
 code_word n small = (code_some n, code_free 32 n refl refl small)
+
+-- a status
+pub far_word : (far : Far) → IsWord (far_text far)
+far_word Allowed = (lit< tt, refl)
+far_word Restricted = (lit< tt, refl)
+far_word Prohibited = (lit< tt, refl)
+
+pub far_told : (far : Far) → value_of (far_text far) ≡ string (far_text far)
+unfolding after_number
+far_told Allowed = refl
+far_told Restricted = refl
+far_told Prohibited = refl
 
 joined : (first : List ℕ) (ws : List (List ℕ)) → join_with_byte 32 (first ∷ ws) ≡ first ++ flat_map (λ w. 32 ∷ w) ws
 joined first [] = sym (append-nil first)

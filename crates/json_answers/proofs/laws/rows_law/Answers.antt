@@ -17,8 +17,6 @@ use Rattle.point_codes.proofs.CodeLemmas.{lacks, both}
 use Rattle.tokens.specs.Words.{IsWord}
 use Rattle.tokens.proofs.PiecesLemmas.{lacks-append}
 use Rattle.tokens.proofs.RowLemmas.{decimal_free, code_free}
-use Rattle.route_choice.specs.declared.choices.Far.{Far}
-use Rattle.route_choice.specs.declared.choices.Far.TheVariants.{Allowed, Restricted, Prohibited}
 use Rattle.profile.specs.declared.tables.LinkRef.{LinkRef}
 use Rattle.profile.specs.declared.tables.Message.{Message}
 use Rattle.answers.specs.Links.{link_text}
@@ -30,21 +28,10 @@ use Rattle.json_answers.specs.Words.{value_of}
 use Rattle.json_answers.specs.Lists.{item_of, listed}
 use Rattle.json_answers.specs.Objects.{link_parts, message_parts, mend_parts, object_of, told}
 use Rattle.json_answers.specs.Told.{word_member, number_member, text_member, via_items, IsVia, IsU64, link_items, IsLink, message_item, octet_item, mend_item, IsMend}
-use Rattle.json_answers.proofs.ToldLemmas.{number_told, code_told, number_word, code_word, ap2, line_told, last_part, first_part, IsListed, all_listed, each_word, each_item, spaced, given, given_spaced, given_items, given_all, IsUnmarked, unmarked, marked_free}
+use Rattle.json_answers.proofs.ToldLemmas.{number_told, code_told, number_word, code_word, ap2, line_told, last_part, first_part, IsListed, all_listed, each_word, each_item, spaced, given, given_spaced, given_items, given_all, IsUnmarked, unmarked, marked_free, far_word, far_told}
 use Rattle.json_answers.proofs.laws.rows_law.Goals as goal
 
 -- ---- status
-
-far_word : (far : Far) → IsWord (far_text far)
-far_word Allowed = (lit< tt, refl)
-far_word Restricted = (lit< tt, refl)
-far_word Prohibited = (lit< tt, refl)
-
-far_told : (far : Far) → value_of (far_text far) ≡ string (far_text far)
-unfolding after_number
-far_told Allowed = refl
-far_told Restricted = refl
-far_told Prohibited = refl
 
 code_listed : (code : ℕ) → IsCode code → IsListed (code_text code)
 code_listed code is = (code_free 110 code refl refl is, code_free 107 code refl refl is)

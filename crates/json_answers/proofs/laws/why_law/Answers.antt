@@ -26,11 +26,10 @@ use Rattle.transfer_state.specs.Routing.{direct_status}
 use Rattle.answers.specs.Status.{far_text}
 use Rattle.answers.specs.Why.{far_reason, down_text, over_text, via_text, classes_text}
 use Rattle.json_answers.specs.Members.{object_with}
-use Rattle.json_answers.specs.Words.{value_of}
 use Rattle.json_answers.specs.Lists.{is_used, reason, way, ways}
 use Rattle.json_answers.specs.Objects.{object_of, told}
 use Rattle.json_answers.specs.Told.{IsU64, word_member, number_member, down_members, far_members, way_item, class_items, IsWay}
-use Rattle.json_answers.proofs.ToldLemmas.{number_told, code_told, number_word, code_word, ap2, line_told, each_word, each_item, marked_some, spaced, differs, unmarked, marked_free, all_words_then}
+use Rattle.json_answers.proofs.ToldLemmas.{number_told, code_told, number_word, code_word, ap2, line_told, each_word, each_item, marked_some, spaced, differs, unmarked, marked_free, all_words_then, far_word, far_told}
 use Rattle.json_answers.proofs.laws.why_law.Goals as goal
 
 -- ---- the words of a way, by whether an available set joins the points, and the set that joins them
@@ -298,17 +297,6 @@ module _ (src : Source) (row : Row) (c : Choice) where
   mate_told (Some m) h =
       ap (λ j. j ∷ []) (ap3 (λ v w ms. object_with ((codes "class", number v) ∷ (codes "via", w) ∷ ms)) _ _ _ _ _ _ (sym (decimal_digit 5 (omega arith))) (code_told m.point h.0)
       (offer_told (connected src.sets row.point m.point) (set_between src.sets row.point m.point) (direct_status src m.point) (c.class == 5) h.1))
-
-far_word : (far : Far) → IsWord (far_text far)
-far_word Allowed = (lit< tt, refl)
-far_word Restricted = (lit< tt, refl)
-far_word Prohibited = (lit< tt, refl)
-
-far_told : (far : Far) → value_of (far_text far) ≡ string (far_text far)
-unfolding after_number
-far_told Allowed = refl
-far_told Restricted = refl
-far_told Prohibited = refl
 
 pub returns : goal.returns
 unfolding told
