@@ -157,7 +157,7 @@ def case_of(example, form):
     for _, line, answer in example.lines:
         at += len(line) + 1
         if answer is not None:
-            ends.append(at)
+            ends.extend([at] * len(answer.split("\n")))
     name = f"{example.place}, {form}"
     if form == "run":
         return Case(name, ["run", "-"], network + b"%%\n" + script, None, head, ends, large)

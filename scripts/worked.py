@@ -94,7 +94,9 @@ def examples_of(name):
         elif line.startswith("| "):
             found[-1].network += line[2:] + "\n"
         elif line.startswith("=> "):
-            found[-1].lines[-1] = (*found[-1].lines[-1][:2], line[3:])
+            told, text, first = found[-1].lines[-1]
+            # a second one is what changed, told behind the reply
+            found[-1].lines[-1] = (told, text, line[3:] if first is None else first + "\n" + line[3:])
         elif re.match("1>( |$)", line):
             found[-1].output += line[3:] + "\n"
         elif re.match("2>( |$)", line):
@@ -114,7 +116,7 @@ class Failure(Exception):
 
 def first_difference(example, wanted, got):
     """The place of the first answer that differs, and both."""
-    asked = [place for place, _, answer in example.lines if answer is not None]
+    asked = [place for place, _, answer in example.lines if answer is not None for _ in answer.split("\n")]
     wanted, got = wanted.split("\n"), got.split("\n")
     for k, (want, have) in enumerate(zip(wanted + [""] * len(got), got + [""] * len(wanted))):
         if want != have:

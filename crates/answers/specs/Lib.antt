@@ -9,6 +9,7 @@ pub mod Mend
 pub mod Rows
 pub mod Traces
 pub mod WhatIfs
+pub mod Changes
 pub mod Answer
 pub mod Audits
 pub mod DeskRefusals

@@ -16,21 +16,24 @@
 //!    stopped`. It is refused as a question about a row is.
 //! 9. What events would change: `whatif granted` or `whatif denied`, and `Y/X BEFORE>AFTER` for each change, where
 //!    `none` stands for no row; or `refused`, the refusal of the first event that is refused, and `at PLACE`.
-//! 10. A check of every table by the local rule: `audit ok P` for P tables, or `audit bad X Y c` for the first wrong
+//! 10. What changed from the version before to the published one: `changes P` for the version P, and the changes as those of a
+//!     what-if; nothing if there is no version before. `watch on` and `watch off` are answered so.
+//! 11. A check of every table by the local rule: `audit ok P` for P tables, or `audit bad X Y c` for the first wrong
 //!    one: its destination, and the point and the letter of the first complaint.
-//! 11. Replies of the desk: a post is answered `taken N`, or `again N` if it was accepted before; an opening `opened T
+//! 12. Replies of the desk: a post is answered `taken N`, or `again N` if it was accepted before; an opening `opened T
 //!    waiting W`; the taking of a job `job V CODE`; a result `given`; an abandonment `abandoned`; a publication `published
 //!    N`; `synced N` and `version P accepted N` tell what is published and accepted.
-//! 12. A refusal is `refused`, its number, its name and its values. No answer has a line feed.
-//! 13. A line that is no command is refused 62 BadLine, but for `help`: it tells every word that begins a command, and `help
+//! 13. A refusal is `refused`, its number, its name and its values. No answer has a line feed.
+//! 14. A line that is no command is refused 62 BadLine, but for `help`: it tells every word that begins a command, and `help
 //!     WORD` the form of that word's commands, with an example: `help FORM, as EXAMPLE`.
 //!
-//! Stands on `work_units`, `path_trace`, `what_if`, `tokens`, `script_words`, `itoa`. A change here also changes specs/ (Answer, Audits, DeskRefusals,
-//! Help, Links, Mend, Messages, Plain, Refusals, Replies, Rows, Status, Text, Traces, WhatIfs, Why), proofs/ and must-fail/.
+//! Stands on `work_units`, `path_trace`, `what_if`, `tokens`, `script_words`, `itoa`. A change here also changes specs/ (Answer, Audits, Changes,
+//! DeskRefusals, Help, Links, Mend, Messages, Plain, Refusals, Replies, Rows, Status, Text, Traces, WhatIfs, Why), proofs/ and must-fail/.
 #![tactic(auto)]
 
 pub mod answer;
 pub mod audits;
+mod changes;
 mod codes;
 mod desk_refusals;
 pub mod help;
@@ -48,6 +51,7 @@ mod why;
 
 pub use answer::Answer;
 pub use audits::{answer_audit, clause_word, put_complaint};
+pub use changes::{answer_changes, write_watch};
 pub use help::answer_other;
 pub use plain::{write_bad_line, write_no_plan, write_no_row};
 pub use refusals::put_refusal;

@@ -24,7 +24,7 @@ fn join_number(alloc: Global, word: &str, number: u64) -> Result<String, AllocEr
 }
 
 /// A word and a number.
-fn write_numbered(alloc: Global, word: &str, number: u64) -> Result<String, AllocError>
+pub(crate) fn write_numbered(alloc: Global, word: &str, number: u64) -> Result<String, AllocError>
     requires { line_count word.now ≡ 0 }
     ensures text { IfOk result (λ text. string_bytes text ≡ word.now ++ 32 ∷ decimal number) }
     ensures plain { IfOk result (λ text. line_count (string_bytes text) ≡ 0) }

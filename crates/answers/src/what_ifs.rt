@@ -40,7 +40,11 @@ fn put_change(alloc: Global, text: &mut String, change: Change) -> Result<(), Al
 }
 
 /// Adds changes, each after a space.
-fn put_changes(alloc: Global, text: &mut String, changes: &[Change]) -> Result<(), AllocError>
+pub(crate) fn put_changes(
+    alloc: Global,
+    text: &mut String,
+    changes: &[Change],
+) -> Result<(), AllocError>
     ensures text { OnOk result (string_bytes text.new ≡ string_bytes text.old ++ flat_map change_text changes.now) }
     ensures plain { OnOk result (line_count (string_bytes text.new) ≡ line_count (string_bytes text.old)) }
 {

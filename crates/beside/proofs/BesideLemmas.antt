@@ -9,6 +9,7 @@ use Rattle.desk_core.specs.Steps.{last_of, Posts}
 use Rattle.answers.specs.Replies.{posted_text}
 use Rattle.desk_console.specs.Console.{ConsoleValue}
 use Rattle.desk_console.specs.Does.{Calls, PostsAfter, PostsNext}
+use Rattle.desk_console.specs.Watch.{unwatched}
 use Rattle.versions.specs.Hubs.{PairValue}
 use Rattle.versions.specs.declared.state.DeskAndChain.{DeskAndChain}
 use mathlib.Core.List.{IsPrefix}
@@ -16,14 +17,14 @@ use Rattle.sessions.specs.Run.{Ran}
 use Rattle.sessions.specs.declared.faults.Fault.{Fault}
 use Rattle.sessions.specs.declared.faults.Fault.TheVariants.{OutOfMemory}
 use Rattle.sessions.proofs.RunLemmas.{ran_nothing}
-use Rattle.beside.specs.Beside.{BesideValue, CommandsBeside, DoesAt, DoesThere, LeavesBeside, Looks, StartsBeside, at_console}
+use Rattle.beside.specs.Beside.{BesideValue, CommandsBeside, DoesAt, DoesThere, LeavesBeside, Looks, StartsBeside, at_console, newcomer}
 use Rattle.beside.specs.Runs.{IsFresh, RanBeside}
 
 -- a script's thread that has just come to a new hub
-pub opens_fresh : (net : Network) (pair : PairValue) (b : BesideValue) → IsFresh net pair → b ≡ record { left = pair.state; seen = pair.state.shown.chain } → StartsBeside net b
+pub opens_fresh : (net : Network) (pair : PairValue) (b : BesideValue) → IsFresh net pair → b ≡ newcomer pair.state → StartsBeside net b
 opens_fresh net pair b fresh same =
     let chain : pair.state.shown.chain ≡ settled_version 0 [] net ∷ [] = fresh.chain ∙ ap (λ (d : DeskValue). d.published ∷ []) fresh.desk in
-    subst (StartsBeside net) (sym same) (record { desk = fresh.desk; shown = chain; seen = chain })
+    subst (StartsBeside net) (sym same) (record { desk = fresh.desk; shown = chain; seen = chain; synced = ap (λ (d : DeskValue). d.published) fresh.desk; watch = refl })
 
 -- a start over a network
 abbrev pub first_beside : Network → BesideValue
@@ -33,10 +34,12 @@ first_beside net = record {
     shown = record { book = record { number = 0; log_name = 0; cells_name = 0 }; chain = settled_version 0 [] net ∷ [] };
   };
   seen = settled_version 0 [] net ∷ [];
+  synced = settled_version 0 [] net;
+  watch = unwatched;
 }
 
 pub opens_first : (net : Network) → StartsBeside net (first_beside net)
-opens_first net = record { desk = refl; shown = refl; seen = refl }
+opens_first net = record { desk = refl; shown = refl; seen = refl; synced = refl; watch = refl }
 
 -- a call at the hub that was found
 pub some_there : {T F : Type 0} (r : Result T F) (text_of : T → List ℕ) (Done : ConsoleValue → List ℕ → ConsoleValue → Type 0) (old : BesideValue) (found : DeskAndChain) (new : BesideValue)
@@ -56,6 +59,7 @@ posted_next (Ok t) text_of event old found new last e less h =
         finds = h.finds;
         shown = h.shown;
         told = h.told;
+        kept = h.kept;
         done = subst (λ b. PostsAfter b event (at_console found.desk) (text_of t) (at_console new.left.desk)) (sym off) calls;
       },
     )
@@ -79,9 +83,9 @@ looks_later first old new version same begins is = record {
 
 -- a run from a new hub
 pub ran_fresh : (net : Network) (pair : PairValue) (unread left held holds : Option (List ℕ)) (fault : Option Fault) (lines : ℕ) (back : Option Network) → IsFresh net pair
-    → Ran CommandsBeside LeavesBeside (Unit {0}) (record { left = pair.state; seen = pair.state.shown.chain }) unread left held holds fault lines back → RanBeside net unread left held holds fault lines back
+    → Ran CommandsBeside LeavesBeside (Unit {0}) (newcomer pair.state) unread left held holds fault lines back → RanBeside net unread left held holds fault lines back
 ran_fresh net pair unread left held holds fault lines back fresh ran = record {
-  start = record { left = pair.state; seen = pair.state.shown.chain };
+  start = newcomer pair.state;
   opens = opens_fresh net pair _ fresh refl;
   ran = ran;
 }

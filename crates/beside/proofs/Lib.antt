@@ -1,5 +1,6 @@
 pub mod BesideLemmas
 pub mod CountLemmas
 pub mod RightLemmas
+pub mod AlikeLemmas
 pub mod SyncedLemmas
 pub mod ToldLemmas

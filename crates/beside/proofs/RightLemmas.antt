@@ -159,9 +159,13 @@ pub record Acts (old : BesideValue) (taken : List Event) (found : DeskAndChain) 
 
 -- what a line does, by the events that it is taken for
 pub data Moves (old : BesideValue) (taken : List Event) (new : BesideValue) : Type 0 where
-  stays : taken ≡ [] → new ≡ old → Moves old taken new
+  stays : taken ≡ [] → new.left ≡ old.left → new.seen ≡ old.seen → Moves old taken new
   acts : (found : DeskAndChain) → Acts old taken found new → Moves old taken new
   looks : (version : VersionValue) → taken ≡ [] → Looks old version new → Moves old taken new
+
+-- a line that changes nothing
+stays_same : (old : BesideValue) (taken : List Event) (new : BesideValue) → taken ≡ [] → new ≡ old → Moves old taken new
+stays_same old taken new none same = stays none (ap (λ (b : BesideValue). b.left) same) (ap (λ (b : BesideValue). b.seen) same)
 
 -- posts publish nothing
 calls_publish_none : (s t : DeskValue) (collector seq : ℕ) (event : Event) (text : List ℕ) → Calls (λ s. Posts s collector seq event) posted_text (at_console s) text (at_console t) → t.published ≡ s.published
@@ -196,20 +200,23 @@ module _ (line : List ℕ) (old : BesideValue) (text : List ℕ) (new : BesideVa
   })
 
   obeyed : (o : Option Command) → command_of (words_of line) ≡ o → ObeysBeside (other_answer (words_of line)) o old text new → Moves old (taken_by line text) new
-  obeyed None e is = stays (none_taken None e refl) is.1
+  obeyed None e is = stays_same old (taken_by line text) new (none_taken None e refl) is.1
   obeyed (Some (command.Event event)) e is = done_there (Some (command.Event event)) e is.0 is.1 (posts_publish_none is.0.desk new.left.desk event text _ is.1.done)
   obeyed (Some (command.Post collector seq event)) e is = done_there (Some (command.Post collector seq event)) e is.0 is.1 (calls_publish_none is.0.desk new.left.desk collector seq event text is.1.done)
-  obeyed (Some command.Open) e is = stays (none_taken (Some command.Open) e refl) is.1
-  obeyed (Some (command.Take k)) e is = stays (none_taken (Some (command.Take k)) e refl) is.1
-  obeyed (Some (command.Give k)) e is = stays (none_taken (Some (command.Give k)) e refl) is.1
-  obeyed (Some (command.Abandon k)) e is = stays (none_taken (Some (command.Abandon k)) e refl) is.1
-  obeyed (Some command.Publish) e is = stays (none_taken (Some command.Publish) e refl) is.1
+  obeyed (Some command.Open) e is = stays_same old (taken_by line text) new (none_taken (Some command.Open) e refl) is.1
+  obeyed (Some (command.Take k)) e is = stays_same old (taken_by line text) new (none_taken (Some (command.Take k)) e refl) is.1
+  obeyed (Some (command.Give k)) e is = stays_same old (taken_by line text) new (none_taken (Some (command.Give k)) e refl) is.1
+  obeyed (Some (command.Abandon k)) e is = stays_same old (taken_by line text) new (none_taken (Some (command.Abandon k)) e refl) is.1
+  obeyed (Some command.Publish) e is = stays_same old (taken_by line text) new (none_taken (Some command.Publish) e refl) is.1
   obeyed (Some command.Sync) e is = looks is.0 (none_taken (Some command.Sync) e refl) is.1
   obeyed (Some command.Version) e is = done_there (Some command.Version) e is.0 is.1 (ap (λ (c : ConsoleValue). c.desk.published) is.1.done.1)
   obeyed (Some (command.About asked y x)) e is = looks is.0 (none_taken (Some (command.About asked y x)) e refl) is.1
   obeyed (Some (command.Trace y x s)) e is = looks is.0 (none_taken (Some (command.Trace y x s)) e refl) is.1
   obeyed (Some (command.WhatIf events)) e is = looks is.0 (none_taken (Some (command.WhatIf events)) e refl) is.1
   obeyed (Some command.Audit) e is = looks is.0 (none_taken (Some command.Audit) e refl) is.1
+  obeyed (Some command.Changes) e is = stays_same old (taken_by line text) new (none_taken (Some command.Changes) e refl) is.1
+  obeyed (Some (command.Watch is_on)) e is =
+      stays (none_taken (Some (command.Watch is_on)) e refl) (ap (λ (b : BesideValue). b.left) is.1) (ap (λ (b : BesideValue). b.seen) is.1)
 
 -- a line feed more doesn't matter
 says_ended : (answer : List ℕ) → says_taken answer ≡ says_taken (answer ++ 10 ∷ [])
@@ -228,8 +235,8 @@ pub line_moves : (line : List ℕ) (old : BesideValue) (text : List ℕ) (new : 
 line_moves line old text new = go (is_too_long (trimmed line)) (is_silent (trimmed line))
   where
     go : (long quiet : Bool) → IsAnswer CommandsBeside long quiet (trimmed line) old text new → Moves old (taken_by (trimmed line) text) new
-    go true quiet is = stays (ap (taken_by (trimmed line)) is.0) is.1
-    go false true is = stays (ap (taken_by (trimmed line)) is.0) is.1
+    go true quiet is = stays_same old (taken_by (trimmed line) text) new (ap (taken_by (trimmed line)) is.0) is.1
+    go false true is = stays_same old (taken_by (trimmed line) text) new (ap (taken_by (trimmed line)) is.0) is.1
     go false false is =
         subst (λ (es : List Event). Moves old es new) (taken_ended (trimmed line) is.0 ∙ ap (taken_by (trimmed line)) (sym is.2))
         (obeyed (trimmed line) old is.0 new (command_of (words_of (trimmed line))) refl is.1)
@@ -246,7 +253,13 @@ Later b = (found : DeskAndChain) × Finds b found
 
 -- before a line too
 later_before : (old : BesideValue) (taken : List Event) (new : BesideValue) → Moves old taken new → Later new → Later old
-later_before old taken new (stays none same) later = subst Later same later
+later_before old taken new (stays none left seen) later = (
+  later.0,
+  record {
+    worked = subst (λ (s : DeskAndChain). IsWorkedOn s later.0) left later.1.worked;
+    seen = subst (λ (l : List VersionValue). IsPrefix l later.0.shown.chain) seen later.1.seen;
+  },
+)
 later_before old taken new (acts found is) later = (found, is.finds)
 later_before old taken new (looks version none is) later = (
   later.0,
@@ -271,7 +284,7 @@ module _ (start : DeskValue) (steady : IsSteadyDesk start) (es : List Event) whe
 
   -- after a line
   pub keeps_moved : (old : BesideValue) (taken : List Event) (new : BesideValue) → Keeps start es old.left → Moves old taken new → Keeps start (es ++ taken) new.left
-  keeps_moved old taken new h (stays none same) = subst (λ (b : BesideValue). Keeps start (es ++ taken) b.left) (sym same) (keeps_no_more taken old.left none h)
+  keeps_moved old taken new h (stays none left seen) = subst (Keeps start (es ++ taken)) (sym left) (keeps_no_more taken old.left none h)
   keeps_moved old taken new h (acts found is) =
       let kept : Keeps start es found = keeps_worked start steady es old.left found h is.finds.worked in
       keeps_stay start steady es taken found new.left kept is.runs is.shown (ends_same found new.left kept.ends is.shown is.published)

@@ -6,8 +6,8 @@ use Rattle.script_words.specs.declared.commands.Command.{Command}
 use Rattle.script_words.specs.declared.commands.Command.TheVariants as command
 use Rattle.sessions.specs.Lines.{is_silent, is_too_long, trimmed}
 
--- a command may come after that many events since the last `sync`: of events there are at most 65,536, what is asked comes after none, and the workers' own
--- commands don't come at all
+-- a command may come after that many events since the last `sync`: of events there are at most 65,536, what is asked of the published version comes after
+-- none, and the workers' own commands don't come at all
 abbrev pub MayCome : ℕ → Option Command → Type 0
 MayCome n None = Unit {0}
 MayCome n (Some (command.Event event)) = n < 65536
@@ -23,6 +23,8 @@ MayCome n (Some (command.About asked y x)) = n ≡ 0
 MayCome n (Some (command.Trace y x s)) = n ≡ 0
 MayCome n (Some (command.WhatIf events)) = n ≡ 0
 MayCome n (Some command.Audit) = n ≡ 0
+MayCome n (Some command.Changes) = Unit {0}
+MayCome n (Some (command.Watch is_on)) = Unit {0}
 
 -- how many events there are since the last `sync` after a command
 abbrev pub events_after : ℕ → Option Command → ℕ

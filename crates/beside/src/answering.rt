@@ -1,23 +1,24 @@
 //! Who answers a script beside workers.
 
-ghost use Rattle.std.specs.Prelude.{◌≡◌, ◌≤◌, [], IfErr, IfOk, IfSome, string_bytes};
+ghost use Rattle.std.specs.Prelude.{◌≡◌, ◌≤◌, [], IfErr, IfOk, IfSome, OnOk, string_bytes};
+ghost use Rattle.std.specs.Arc.{arc_value};
 ghost use Rattle.answers.specs.Text.{line_count};
 ghost use Rattle.desk_core.specs.Desk.{accepted};
 ghost use Rattle.desk_console.specs.Taken.{event_of};
 ghost use Rattle.net_versions.specs.Versions.{VersionValue};
 ghost use Rattle.script_words.specs.Commands.{IsWithin};
 ghost use Rattle.sessions.specs.Run.{CutsOff};
-ghost use Rattle.beside.specs.Beside.{DoesBeside, Looks, SyncsBeside};
+ghost use Rattle.beside.specs.Beside.{DoesBeside, KeepsSynced, Looks, SyncsBeside};
 
 use crate::visitor::Visitor;
-use answers::{Answer, answer_other, write_bad_line, write_synced};
+use answers::{Answer, answer_other, write_bad_line};
 use net_data::{Event, Net};
 use script_words::{Command, read_line};
 use sessions::{Answering, Fault};
 use std::alloc::{AllocError, Global};
 use std::marker::Model;
-use std::sync::{Condvar, Mutex, Wait};
-use versions::{ByClient, Hub, Naming};
+use std::sync::{Arc, Condvar, Mutex, Wait};
+use versions::{ByClient, Hub, Naming, Version};
 use worker_pool::lend_a_hand;
 
 /// Who answers a script beside workers: it comes to their hub under its lock, and reads what is published without it. Contracts
@@ -100,28 +101,30 @@ impl<'a, N: Naming, R: Wait> Beside<'a, N, R> {
         lend_a_hand(self.rt, alloc, self.hub, self.changed)
     }
 
-    /// Looks, and waits for a change if not all that was accepted is shown: the number of the version that shows it.
-    fn look_synced(&mut self, alloc: Global) -> Result<Option<u64>, Fault>
+    /// Looks, and waits for a change if not all that was accepted is shown: the version that shows it.
+    fn look_synced(&mut self, alloc: Global) -> Result<Option<Arc<Version>>, Fault>
         ensures looks { IfOk result (λ shown. (version : VersionValue) × Looks self.old version self.new
-            × IfSome shown (λ n. (accepted self.old.left.desk ≤ version.number) × (n ≡ version.number))) }
+            × IfSome shown (λ a. (accepted self.old.left.desk ≤ version.number) × (arc_value a ≡ version))) }
+        ensures kept { KeepsSynced self.old self.new }
         ensures fault { IfErr result (CutsOff (Unit {0})) }
     {
-        let number = self.visitor.look_number()?;
-        if number >= self.visitor.accepted() {
-            return Ok(Some(number));
+        let version = self.visitor.look()?;
+        if version.number() >= self.visitor.accepted() {
+            return Ok(Some(version));
         }
         self.wait(alloc)?;
         Ok(None)
     }
 
-    /// Waits for a look that shows all that was accepted: its number.
-    fn wait_synced(&mut self, alloc: Global) -> Result<u64, Fault>
-        ensures synced { IfOk result (λ n. (version : VersionValue) × Looks self.old version self.new × (accepted self.old.left.desk ≤ version.number) × (n ≡ version.number)) }
+    /// Waits for a look that shows all that was accepted: its version.
+    fn wait_synced(&mut self, alloc: Global) -> Result<Arc<Version>, Fault>
+        ensures synced { IfOk result (λ a. (version : VersionValue) × Looks self.old version self.new × (accepted self.old.left.desk ≤ version.number) × (arc_value a ≡ version)) }
+        ensures kept { OnOk result (KeepsSynced self.old self.new) }
         ensures fault { IfErr result (CutsOff (Unit {0})) }
     {
         for _ in self.rt.forever() {
-            if let Some(number) = self.look_synced(alloc)? {
-                return Ok(number);
+            if let Some(version) = self.look_synced(alloc)? {
+                return Ok(version);
             }
         }
         unreachable!()
@@ -130,11 +133,11 @@ impl<'a, N: Naming, R: Wait> Beside<'a, N, R> {
     /// Waits until all that was accepted is published.
     fn sync(&mut self, alloc: Global) -> Result<String, Fault>
         ensures does { IfOk result (λ text. SyncsBeside self.old (string_bytes text) self.new) }
-        ensures plain { IfOk result (λ text. line_count (string_bytes text) ≡ 0) }
+        ensures lines { IfOk result (λ text. line_count (string_bytes text) ≤ 1) }
         ensures fault { IfErr result (CutsOff (Unit {0})) }
     {
-        let number = self.wait_synced(alloc)?;
-        Ok(write_synced(alloc, number)?)
+        let version = self.wait_synced(alloc)?;
+        Ok(self.visitor.reply_synced(alloc, version)?)
     }
 
     /// Does what a command says that posts nothing.
@@ -142,22 +145,19 @@ impl<'a, N: Naming, R: Wait> Beside<'a, N, R> {
         requires within { IsWithin command.now }
         requires none { event_of command.now ≡ [] }
         ensures does { IfOk result (λ text. DoesBeside command.now self.old (string_bytes text) self.new) }
-        ensures plain { IfOk result (λ text. line_count (string_bytes text) ≡ 0) }
+        ensures lines { IfOk result (λ text. line_count (string_bytes text) ≤ 1) }
         ensures fault { IfErr result (CutsOff (Unit {0})) }
     {
         match command {
             Command::Event(_) | Command::Post(_, _, _) => unreachable!(),
             Command::Sync => self.sync(alloc),
             Command::Version => self.version(alloc),
-            Command::About(_, _, _)
-            | Command::Trace(_, _, _)
-            | Command::WhatIf(_)
-            | Command::Audit => self.visitor.ask(alloc, command),
             Command::Open
             | Command::Take(_)
             | Command::Give(_)
             | Command::Abandon(_)
             | Command::Publish => Ok(write_bad_line(alloc)?),
+            _ => self.visitor.tell(alloc, command),
         }
     }
 
@@ -166,7 +166,7 @@ impl<'a, N: Naming, R: Wait> Beside<'a, N, R> {
         requires within { IsWithin command }
         requires none { event_of command ≡ [] }
         ensures does { IfOk result (λ answer. DoesBeside command self.old answer self.new) }
-        ensures plain { IfOk result (λ answer. line_count answer ≡ 0) }
+        ensures lines { IfOk result (λ answer. line_count answer ≤ 1) }
         ensures fault { IfErr result (CutsOff (Unit {0})) }
     {
         self.obey_silently(alloc, &command).map(Answer::of_text)
@@ -176,7 +176,7 @@ impl<'a, N: Naming, R: Wait> Beside<'a, N, R> {
     fn obey(&mut self, alloc: Global, command: Command) -> Result<Answer, Fault>
         requires { IsWithin command }
         ensures does { IfOk result (λ answer. DoesBeside command self.old answer self.new) }
-        ensures plain { IfOk result (λ answer. line_count answer ≡ 0) }
+        ensures lines { IfOk result (λ answer. line_count answer ≤ 1) }
         ensures fault { IfErr result (CutsOff (Unit {0})) }
     {
         match command {
@@ -208,8 +208,8 @@ impl<'a, N: Naming, R: Wait> Answering for Beside<'a, N, R> {
             rt,
             hub,
             changed: _,
-            mut visitor,
+            visitor,
         } = self;
-        visitor.net_now(rt, alloc, &mut *hub.lock(rt))
+        visitor.leave(rt, alloc, &mut *hub.lock(rt))
     }
 }

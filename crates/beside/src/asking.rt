@@ -1,10 +1,10 @@
-//! What is asked of the published version: it is answered from a look, without the lock.
+//! What is asked of the published version: it is answered from a look, without the lock. And what a `sync` changed.
 
-ghost use Rattle.std.specs.Prelude.{◌≡◌, ◌<◌, true, IfErr, IfOk, string_bytes};
+ghost use Rattle.std.specs.Prelude.{◌≡◌, ◌<◌, ◌||◌, true, IfErr, IfOk, string_bytes};
 ghost use Rattle.answers.specs.Text.{line_count};
 ghost use Rattle.sessions.specs.Run.{CutsOff};
 ghost use Rattle.script_words.specs.Commands.{IsWithin};
-ghost use Rattle.beside.specs.Beside.{Asks, is_asked};
+ghost use Rattle.beside.specs.Beside.{Asks, DoesBeside, is_asked, is_of_changes};
 ghost use Rattle.script_words.specs.declared.commands.Command.TheVariants as command;
 
 use crate::visitor::Visitor;
@@ -17,8 +17,22 @@ use std::alloc::Global;
 use versions::Naming;
 
 impl<N: Naming> Visitor<N> {
+    /// What a command asks, of the published version or of what a `sync` changed.
+    pub(crate) fn tell(&mut self, alloc: Global, command: &Command) -> Result<String, Fault>
+        requires within { IsWithin command.now }
+        requires asked { (is_asked command.now || is_of_changes command.now) ≡ true }
+        ensures does { IfOk result (λ text. DoesBeside command.now self.old (string_bytes text) self.new) }
+        ensures plain { IfOk result (λ text. line_count (string_bytes text) ≡ 0) }
+        ensures fault { IfErr result (CutsOff (Unit {0})) }
+    {
+        match command {
+            Command::Changes | Command::Watch(_) => self.ask_changes(alloc, command),
+            _ => self.ask(alloc, command),
+        }
+    }
+
     /// What a command asks of the published version.
-    pub(crate) fn ask(&mut self, alloc: Global, command: &Command) -> Result<String, Fault>
+    fn ask(&mut self, alloc: Global, command: &Command) -> Result<String, Fault>
         requires within { IsWithin command.now }
         requires asked { is_asked command.now ≡ true }
         ensures text { IfOk result (λ text. Asks command.now self.old (string_bytes text) self.new) }
@@ -30,6 +44,20 @@ impl<N: Naming> Visitor<N> {
             Command::Trace(point, dest, s) => self.ask_trace(alloc, *point, *dest, *s),
             Command::WhatIf(events) => self.ask_what_if(alloc, events.as_slice()),
             Command::Audit => self.ask_audit(alloc),
+            _ => unreachable!(),
+        }
+    }
+
+    /// What the last `sync` changed, or that it is told behind each from now on, or no more.
+    fn ask_changes(&mut self, alloc: Global, command: &Command) -> Result<String, Fault>
+        requires { is_of_changes command.now ≡ true }
+        ensures does { IfOk result (λ text. DoesBeside command.now self.old (string_bytes text) self.new) }
+        ensures plain { IfOk result (λ text. line_count (string_bytes text) ≡ 0) }
+        ensures fault { IfErr result (CutsOff (Unit {0})) }
+    {
+        match command {
+            Command::Changes => Ok(self.changes(alloc)?),
+            Command::Watch(is_on) => Ok(self.set_watch(alloc, *is_on)?),
             _ => unreachable!(),
         }
     }

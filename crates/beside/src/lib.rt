@@ -7,7 +7,8 @@
 //! 3. What is asked of the published version (`status`, `sls`, `messages`, `octets`, `trace`, `whatif`, `audit`) is answered
 //!    from a look, without the lock: from the last version of a chain that begins with all that was seen before.
 //! 4. `sync` waits for a look that shows all events that were taken, and tells its number. If no worker lives, the script's
-//!    thread does their work meanwhile.
+//!    thread does their work meanwhile. `changes` tells what the last `sync` changed: what differs between the versions that the last
+//!    two of different numbers told. After `watch on` each `sync` with another version tells it too, as in line.
 //! 5. `open`, `take`, `give`, `abandon` and `publish` are the workers' own, and answered `refused 62 BadLine`.
 //! 6. A run without a fault gives back the network after all accepted events. It may also end with 50, if there is no place
 //!    for the reader.

@@ -4,7 +4,7 @@ ghost use Rattle.std.specs.Prelude.{◌≡◌, ◌<◌, ◌≤◌, IfErr, IfOk, 
 ghost use Rattle.net_data.specs.Network.{Network};
 ghost use Rattle.net_text.specs.Reading.{Says};
 ghost use Rattle.sessions.specs.Input.{IsLoadFault, RanInput};
-ghost use Rattle.beside.specs.Beside.{BesideValue, CommandsBeside, LeavesBeside, StartsBeside};
+ghost use Rattle.beside.specs.Beside.{BesideValue, CommandsBeside, LeavesBeside, StartsBeside, newcomer};
 ghost use Rattle.beside.specs.Runs.{IsFresh, RanBeside};
 ghost use Rattle.beside.specs.Told.{ToldInput, ToldScript};
 
@@ -33,7 +33,7 @@ fn open_hub<R: Wait>(rt: &R, alloc: Global, net: Net) -> Result<UnnamedWithClien
 /// Who comes to a hub for a script, as its client left it.
 fn come<N: Naming>(hub: &Hub<N, ByClient>, client: Client<N>) -> Result<Visitor<N>, Fault>
     requires { client ≡ hub.now.state }
-    ensures ok { IfOk result (λ v. v ≡ record { left = hub.now.state; seen = hub.now.state.shown.chain }) }
+    ensures ok { IfOk result (λ v. v ≡ newcomer hub.now.state) }
     ensures fault { IfErr result (λ fault. fault ≡ Fault.NoPlace) }
 {
     match Visitor::new(hub, client) {
@@ -144,7 +144,7 @@ fn read_at<
     requires left { client ≡ hub.state }
     requires workers { (0 < n) × (n ≤ 32) }
     requires ready { S.ready script }
-    ensures { S.ran script (record { left = hub.state; seen = hub.state.shown.chain }) (R.remaining reader) (R.remaining result.reader) (W.contents writer) (W.contents result.writer) result.end }
+    ensures { S.ran script (newcomer hub.state) (R.remaining reader) (R.remaining result.reader) (W.contents writer) (W.contents result.writer) result.end }
 {
     let come = come(&hub, client);
     let hub = Mutex::new(hub);
@@ -174,7 +174,7 @@ fn run_named<
     requires names { (unnamed.state.shown.book ≡ N.book) × (unnamed.table ≡ N.table) }
     requires workers { (0 < n) × (n ≤ 32) }
     requires ready { S.ready script }
-    ensures { S.ran script (record { left = unnamed.state; seen = unnamed.state.shown.chain }) (R.remaining reader) (R.remaining result.reader) (W.contents writer) (W.contents result.writer) result.end }
+    ensures { S.ran script (newcomer unnamed.state) (R.remaining reader) (R.remaining result.reader) (W.contents writer) (W.contents result.writer) result.end }
 {
     match unnamed.named::<N>(alloc) {
         Ok((hub, client)) => read_at(rt, alloc, n, gate, reader, writer, hub, client, script),

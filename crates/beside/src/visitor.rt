@@ -1,44 +1,51 @@
 //! Who comes to the hub for a script.
 
-ghost use Rattle.std.specs.Prelude.{◌≡◌, ◌∷◌, [], Err, IfErr, IfOk, OnErr, OnOk, string_bytes};
+ghost use Rattle.std.specs.Prelude.{◌≡◌, ◌≤◌, ◌∷◌, [], Err, IfErr, IfOk, OnErr, OnOk, string_bytes};
 ghost use Rattle.std.specs.Arc.{arc_value};
 ghost use mathlib.Core.List.{IsPrefix};
-ghost use Rattle.answers.specs.Replies.{posted_text, refused_text};
+ghost use Rattle.answers.specs.Replies.{posted_text, refused_text, synced_text};
 ghost use Rattle.answers.specs.Text.{line_count};
-ghost use Rattle.net_versions.specs.Versions.{VersionValue};
 ghost use Rattle.desk_core.specs.Desk.{accepted};
 ghost use Rattle.desk_core.specs.Steps.{Posts};
 ghost use Rattle.desk_console.specs.Does.{Calls, HasMemory, PostsNext, Tells, version_of};
+ghost use Rattle.desk_console.specs.Watch.{changes_told, reply_watched, watched};
 ghost use Rattle.sessions.specs.Run.{CutsOff};
-ghost use Rattle.beside.specs.Beside.{DoesAt, DoesThere, Finds, LeavesBeside, Looks};
+ghost use Rattle.beside.specs.Beside.{DoesAt, DoesThere, Finds, KeepsSynced, LeavesBeside, Looks, WatchesBeside, newcomer};
 
-use answers::{Answer, write_posted, write_refused, write_version};
-use desk_console::has_memory;
+use answers::{Answer, write_posted, write_refused, write_synced, write_version, write_watch};
+use desk_console::{Watch, has_memory};
 use desk_core::{Posted, Refusal};
 use net_data::{Event, Net};
 use sessions::Fault;
-use std::alloc::Global;
+use std::alloc::{AllocError, Global};
 use std::marker::Model;
+use std::mem::replace;
 use std::sync::{Arc, Wait};
 use versions::{ByClient, Client, Hub, Naming, NoPlace, Reader, Version};
 
-/// Who comes to the hub for a script: its client and its reader. Contracts see how it left the hub, and what it has seen.
+/// Who comes to the hub for a script: its client and its reader. Contracts see how it left the hub, what it has seen, and what its
+/// last `sync` told.
 #[derive(Drop)]
 pub(crate) struct Visitor<N: Naming> {
     client: Client<N>,
     reader: Reader<N>,
     /// How many events had been accepted when it left the hub.
     accepted: u64,
+    /// The version that the last `sync` told.
+    synced: Arc<Version>,
+    /// The version before that one.
+    watch: Watch,
 }
 
 impl<N: Naming> Model for Visitor<N> {
     ghost use Rattle.std.specs.Prelude.{◌≡◌};
+    ghost use Rattle.std.specs.Arc.{arc_value};
     ghost use Rattle.desk_core.specs.Desk.{accepted as accepted_by};
     ghost use Rattle.beside.specs.Beside.{BesideValue};
 
     ghost Value = { BesideValue };
 
-    ghost view = { λ v. record { left = v.client; seen = v.reader.chain } };
+    ghost view = { λ v. record { left = v.client; seen = v.reader.chain; synced = arc_value v.synced; watch = v.watch } };
 
     ghost invariant = { λ v. v.accepted ≡ accepted_by v.client.desk };
 }
@@ -70,14 +77,19 @@ impl<N: Naming> Visitor<N> {
     /// The client that has just left a hub, with a reader that knows what is published.
     pub(crate) fn new(hub: &Hub<N, ByClient>, client: Client<N>) -> Result<Visitor<N>, NoPlace>
         requires { client ≡ hub.now.state }
-        ensures { IfOk result (λ v. v ≡ record { left = hub.now.state; seen = hub.now.state.shown.chain }) }
+        ensures { IfOk result (λ v. v ≡ newcomer hub.now.state) }
     {
         let reader = hub.reader()?;
         let accepted = hub.desk().accepted();
+        let Ok(synced) = Arc::try_clone(hub.desk().published()) else {
+            return Err(NoPlace);
+        };
         Ok(Visitor {
             client,
             reader,
             accepted,
+            synced,
+            watch: Watch::new(),
         })
     }
 
@@ -91,7 +103,7 @@ impl<N: Naming> Visitor<N> {
     /// Comes to the hub, and changes nothing there.
     fn visit<R: Wait>(&mut self, rt: &R, hub: &mut Hub<N, ByClient>) -> Result<(), Fault>
         ensures found { OnOk result (Finds self.old hub.old.state) }
-        ensures left { OnOk result (self.new ≡ record { left = hub.old.state; seen = hub.old.state.shown.chain }) }
+        ensures left { OnOk result (self.new ≡ record self.old { left = hub.old.state; seen = hub.old.state.shown.chain }) }
         ensures rest { hub.new ≡ hub.old }
         ensures fault { OnErr result (result ≡ Err Fault.NoPlace) }
     {
@@ -190,7 +202,7 @@ impl<N: Naming> Visitor<N> {
     }
 
     /// A copy of the network after all accepted events.
-    pub(crate) fn net_now<R: Wait>(
+    fn net_now<R: Wait>(
         &mut self,
         rt: &R,
         alloc: Global,
@@ -203,23 +215,60 @@ impl<N: Naming> Visitor<N> {
         Ok(hub.desk().net_now().copy(alloc)?)
     }
 
-    /// The number of the version that is published now. It takes no lock.
-    pub(crate) fn look_number(&mut self) -> Result<u64, Fault>
-        ensures looks { IfOk result (λ n. (version : VersionValue) × Looks self.old version self.new × (n ≡ version.number)) }
+    /// The same, as its last visit.
+    pub(crate) fn leave<R: Wait>(
+        mut self,
+        rt: &R,
+        alloc: Global,
+        hub: &mut Hub<N, ByClient>,
+    ) -> Result<Net, Fault>
+        ensures net { IfOk result (LeavesBeside self) }
         ensures fault { IfErr result (CutsOff (Unit {0})) }
     {
-        let version = self.look()?;
-        Ok(version.number())
+        self.net_now(rt, alloc, hub)
     }
 
     /// The version that is published now. It takes no lock.
     pub(crate) fn look(&mut self) -> Result<Arc<Version>, Fault>
         ensures looks { IfOk result (λ a. Looks self.old (arc_value a) self.new) }
+        ensures kept { KeepsSynced self.old self.new }
         ensures fault { IfErr result (CutsOff (Unit {0})) }
     {
         match self.reader.look() {
             Ok(version) => Ok(version),
             Err(_) => Err(Fault::NoPlace),
         }
+    }
+
+    /// The reply to a `sync` that tells a version, which is the last one told from now on.
+    pub(crate) fn reply_synced(
+        &mut self,
+        alloc: Global,
+        version: Arc<Version>,
+    ) -> Result<String, AllocError>
+        ensures text { IfOk result (λ text. string_bytes text ≡ reply_watched self.old.watch self.old.synced (arc_value version) (synced_text (arc_value version).number)) }
+        ensures told { OnOk result (self.new ≡ record self.old { synced = arc_value version; watch = watched self.old.watch self.old.synced (arc_value version) }) }
+        ensures lines { IfOk result (λ text. line_count (string_bytes text) ≤ 1) }
+    {
+        let reply = write_synced(alloc, version.number())?;
+        let old = replace(&mut self.synced, version);
+        self.watch.reply(alloc, old, &self.synced, reply)
+    }
+
+    /// What the last `sync` changed.
+    pub(crate) fn changes(&self, alloc: Global) -> Result<String, AllocError>
+        ensures text { IfOk result (λ text. string_bytes text ≡ changes_told self.now.watch self.now.synced) }
+        ensures plain { IfOk result (λ text. line_count (string_bytes text) ≡ 0) }
+    {
+        self.watch.tell(alloc, &self.synced)
+    }
+
+    /// Changes are told behind each `sync` from now on, or no more.
+    pub(crate) fn set_watch(&mut self, alloc: Global, is_on: bool) -> Result<String, AllocError>
+        ensures does { IfOk result (λ text. WatchesBeside is_on self.old (string_bytes text) self.new) }
+        ensures plain { IfOk result (λ text. line_count (string_bytes text) ≡ 0) }
+    {
+        self.watch.set(is_on);
+        write_watch(alloc, is_on)
     }
 }

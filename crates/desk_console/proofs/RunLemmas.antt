@@ -112,6 +112,8 @@ module _ (c : ConsoleValue) (text : List ℕ) (new : ConsoleValue) where
   command_runs (command.Trace y x s) is = told is.1
   command_runs (command.WhatIf events) is = told is.1
   command_runs command.Audit is = told is.1
+  command_runs command.Changes is = told is.1
+  command_runs (command.Watch is_on) is = silent (unmoved c.desk new.desk (ap (λ (d : ConsoleValue). d.desk) is.1))
 
   obeyed : (other : List ℕ) (o : Option Command) → Obeys other o c text new → IsRunOf c.desk (if says_taken text then option_map_or event_of o [] else []) new.desk
   obeyed other None is = told is.1

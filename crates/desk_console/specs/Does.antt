@@ -16,9 +16,11 @@ use Rattle.answers.specs.Rows.{answer_about}
 use Rattle.answers.specs.Traces.{trace_answer}
 use Rattle.answers.specs.WhatIfs.{what_if_text}
 use Rattle.answers.specs.Audits.{audit_right}
+use Rattle.answers.specs.Changes.{watch_text}
 use Rattle.script_words.specs.declared.commands.Command.{Command}
 use Rattle.script_words.specs.declared.commands.Command.TheVariants as command
 use Rattle.desk_console.specs.Console.{ConsoleValue, slot_of}
+use Rattle.desk_console.specs.Watch.{WatchValue, changes_told, reply_watched, watched}
 
 -- ---- what is told
 
@@ -36,10 +38,10 @@ version_of s = version_text s.published.number (accepted s)
 abbrev pub HasMemory : {T : Type 0} → Result T Refusal → Type 0
 HasMemory result = result ≢ Err OutOfMemory
 
--- a call of the desk gives a reply, which is told; the slots stay
+-- a call of the desk gives a reply, which is told; the slots stay, and what is kept for `changes`
 abbrev pub Calls : {T : Type 0} → (DeskValue → Result T Refusal → DeskValue → Type 0) → (Result T Refusal → List ℕ) → ConsoleValue → List ℕ → ConsoleValue → Type 0
 Calls {T} Step text_of c text new =
-    (result : Result T Refusal) × Step c.desk result new.desk × HasMemory result × (text ≡ text_of result) × (new.slots ≡ c.slots)
+    (result : Result T Refusal) × Step c.desk result new.desk × HasMemory result × (text ≡ text_of result) × (new.slots ≡ c.slots) × (new.watch ≡ c.watch)
 
 -- the sequence number after collector 0's last one is a number, or there is none
 abbrev pub PostsAfter : Bool → Event → ConsoleValue → List ℕ → ConsoleValue → Type 0
@@ -60,7 +62,7 @@ slots_taken k slots (Err refusal) = slots
 -- a job is taken and done, and its result kept in the slot
 abbrev pub TakesTo : ℕ → ConsoleValue → List ℕ → ConsoleValue → Type 0
 TakesTo k c text new =
-    (result : Result Work Refusal) × Takes c.desk result new.desk × HasMemory result × (text ≡ job_text result) × (new.slots ≡ slots_taken k c.slots result)
+    (result : Result Work Refusal) × Takes c.desk result new.desk × HasMemory result × (text ≡ job_text result) × (new.slots ≡ slots_taken k c.slots result) × (new.watch ≡ c.watch)
 
 -- the slots after a result was given: its slot is empty, or keeps it if it was refused
 abbrev pub slots_given : ℕ → List (Option Work) → Result (Unit {0}) (Work × Refusal) → List (Option Work)
@@ -71,18 +73,40 @@ slots_given k slots (Err back) = slots
 abbrev pub GivesFrom : ℕ → Option Work → ConsoleValue → List ℕ → ConsoleValue → Type 0
 GivesFrom k None c text new = Tells bad_line c text new
 GivesFrom k (Some work) c text new =
-    (result : Result (Unit {0}) (Work × Refusal)) × Gives c.desk work result new.desk × (text ≡ given_text result) × (new.slots ≡ slots_given k c.slots result)
+    (result : Result (Unit {0}) (Work × Refusal)) × Gives c.desk work result new.desk × (text ≡ given_text result) × (new.slots ≡ slots_given k c.slots result) × (new.watch ≡ c.watch)
 
 -- the destination of the result in the slot is abandoned, for the version of that result
 abbrev pub AbandonsOf : Option Work → ConsoleValue → List ℕ → ConsoleValue → Type 0
 AbandonsOf None c = Tells bad_line c
 AbandonsOf (Some work) c = Calls (λ s. Abandons s work.version work.excerpt.plan.dest) abandoned_text c
 
--- ---- all commands
+-- ---- publications
+
+-- what is told where a command leaves this desk published: its reply, and the changes if they are watched
+abbrev pub reply_of : ConsoleValue → DeskValue → List ℕ → List ℕ
+reply_of c new = reply_watched c.watch c.desk.published new.published
+
+-- what is kept for `changes` then
+abbrev pub watch_of : ConsoleValue → DeskValue → WatchValue
+watch_of c new = watched c.watch c.desk.published new.published
+
+-- the target is published
+abbrev pub PublishesTarget : ConsoleValue → List ℕ → ConsoleValue → Type 0
+PublishesTarget c text new =
+    (result : Result ℕ Refusal) × Publishes c.desk result new.desk × HasMemory result × (text ≡ reply_of c new.desk (published_text result))
+    × (new.slots ≡ c.slots) × (new.watch ≡ watch_of c new.desk)
 
 -- all that is accepted is published, by steps of the desk that accept nothing
 abbrev pub Syncs : ConsoleValue → List ℕ → ConsoleValue → Type 0
-Syncs c text new = (text ≡ synced_text (accepted c.desk)) × (new ≡ record c { desk = synced c.desk }) × IsRunOf c.desk [] new.desk
+Syncs c text new =
+    (text ≡ reply_of c (synced c.desk) (synced_text (accepted c.desk)))
+    × (new ≡ record c { desk = synced c.desk; watch = watch_of c (synced c.desk) }) × IsRunOf c.desk [] new.desk
+
+-- changes are told behind each publication from now on, or no more
+abbrev pub Watches : Bool → ConsoleValue → List ℕ → ConsoleValue → Type 0
+Watches is_on c text new = (text ≡ watch_text is_on) × (new ≡ record c { watch = record c.watch { is_on = is_on } })
+
+-- ---- all commands
 
 -- what a command does; what is asked is answered from the published version
 abbrev pub Does : Command → ConsoleValue → List ℕ → ConsoleValue → Type 0
@@ -99,7 +123,7 @@ Does (command.Give k) c = GivesFrom k (slot_of c k) c
 -- `abandon K`
 Does (command.Abandon k) c = AbandonsOf (slot_of c k) c
 -- `publish`
-Does command.Publish c = Calls Publishes published_text c
+Does command.Publish c = PublishesTarget c
 -- `sync`
 Does command.Sync c = Syncs c
 -- `version`
@@ -112,3 +136,7 @@ Does (command.Trace y x s) c = Tells (trace_answer (trace_at c.desk.published.ne
 Does (command.WhatIf events) c = Tells (what_if_text (report_of c.desk.published.network events)) c
 -- `audit`
 Does command.Audit c = Tells (audit_right (length c.desk.published.network.plans)) c
+-- `changes`
+Does command.Changes c = Tells (changes_told c.watch c.desk.published) c
+-- `watch on` and `watch off`
+Does (command.Watch is_on) c = Watches is_on c

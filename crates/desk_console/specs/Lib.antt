@@ -1,3 +1,4 @@
+pub mod Watch
 pub mod Console
 pub mod Does
 pub mod Commands

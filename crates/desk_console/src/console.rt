@@ -1,10 +1,11 @@
 //! The console.
 
-ghost use Rattle.std.specs.Prelude.{◌≡◌, None, IfOk, map, replicate};
+ghost use Rattle.std.specs.Prelude.{◌≡◌, ◌≤◌, None, IfOk, map, replicate};
 ghost use Rattle.answers.specs.Text.{line_count};
 ghost use Rattle.desk_console.specs.Commands.{Commands};
 ghost use Rattle.desk_console.specs.Console.{net_of, opening};
 
+use crate::watching::Watch;
 use answers::{Answer, answer_other};
 use desk_core::Desk;
 use net_data::Net;
@@ -16,11 +17,12 @@ use work_units::Settled;
 /// How many slots there are.
 const SLOT_COUNT: usize = 32;
 
-/// A desk, and slots for the results of jobs.
+/// A desk, slots for the results of jobs, and what is kept to tell what a publication changed.
 #[derive(Drop)]
 pub struct Console {
     pub(crate) desk: Desk,
     pub(crate) slots: Vec<Option<Settled>>,
+    pub(crate) watch: Watch,
 }
 
 impl Model for Console {
@@ -29,7 +31,7 @@ impl Model for Console {
 
     ghost Value = { ConsoleValue };
 
-    ghost view = { λ c. record { desk = c.desk; slots = c.slots.items } };
+    ghost view = { λ c. record { desk = c.desk; slots = c.slots.items; watch = c.watch } };
 
     ghost invariant = { λ c. length c.slots.items ≡ 32 };
 }
@@ -52,7 +54,11 @@ impl Console {
     {
         let slots = empty_slots(alloc)?;
         let desk = Desk::start(alloc, net)?;
-        Ok(Console { desk, slots })
+        Ok(Console {
+            desk,
+            slots,
+            watch: Watch::new(),
+        })
     }
 
     /// The desk.
@@ -69,10 +75,11 @@ impl Console {
         self.desk.into_net()
     }
 
-    /// Does what a line says, and gives its answer, without a line feed. It fails if memory is refused.
+    /// Does what a line says, and gives its answer: a line without its line feed, or two if changes are watched. It fails if memory
+    /// is refused.
     pub fn answer(&mut self, alloc: Global, line: &[u8]) -> Result<Answer, AllocError>
         ensures command { IfOk result (λ answer. Commands line.now self.old answer self.new) }
-        ensures plain { IfOk result (λ answer. line_count answer ≡ 0) }
+        ensures lines { IfOk result (λ answer. line_count answer ≤ 1) }
     {
         match read_line(alloc, line)? {
             Some(command) => self.obey(alloc, command),

@@ -12,17 +12,22 @@
 //!    results.
 //! 4. `version` tells the numbers of the published version and of the last accepted event. All other questions are
 //!    answered from the published version alone.
-//! 5. A line that is no command is answered `refused 62 BadLine`, but for `help` and `help WORD`.
+//! 5. `changes` tells what differs between the statuses of the published version and those of the version before: the one that was
+//!    published when the last `publish` or `sync` came that published something. After `watch on` each `publish` and `sync` that
+//!    publishes something tells it too, on a line of its own behind its reply, with `*` at its front; `watch off` ends that.
+//! 6. A line that is no command is answered `refused 62 BadLine`, but for `help` and `help WORD`.
 //!
-//! Stands on `answers`. A change here also changes specs/ (Commands, Console, Does, Settling, Syncing), proofs/ and must-
-//! fail/.
+//! Stands on `answers`. A change here also changes specs/ (Commands, Console, Does, Settling, Syncing, Watch),
+//! proofs/ and must-fail/.
 #![tactic(auto)]
 
 pub mod console;
 mod obeying;
 mod slots;
 pub mod syncing;
+pub mod watching;
 
 pub use console::Console;
 pub use obeying::has_memory;
 pub use syncing::sync;
+pub use watching::Watch;

@@ -1,30 +1,32 @@
 //! What each command does.
 
-ghost use Rattle.std.specs.Prelude.{◌≡◌, ◌<◌, ◌↔◌, [], IfOk, IsTrue, length, string_bytes};
+ghost use Rattle.std.specs.Prelude.{◌≡◌, ◌<◌, ◌≤◌, ◌↔◌, [], IfOk, IsTrue, length, string_bytes};
 ghost use Rattle.answers.specs.Audits.{audit_right};
 ghost use Rattle.answers.specs.Rows.{answer_about as row_answer};
 ghost use Rattle.answers.specs.Text.{line_count};
 ghost use Rattle.answers.specs.Traces.{trace_answer};
 ghost use Rattle.answers.specs.WhatIfs.{what_if_text};
-ghost use Rattle.desk_core.specs.Steps.{Opens, Posts, Publishes};
-ghost use Rattle.answers.specs.Replies.{opened_text, posted_text, published_text};
+ghost use Rattle.desk_core.specs.Steps.{Opens, Posts};
+ghost use Rattle.answers.specs.Replies.{opened_text, posted_text};
 ghost use Rattle.script_words.specs.Commands.{IsWithin};
 ghost use Rattle.path_trace.specs.Traces.{trace_at};
 ghost use Rattle.what_if.specs.Reports.{report_of};
 ghost use Rattle.desk_console.specs.Taken.{event_of};
-ghost use Rattle.desk_console.specs.Does.{Calls, Does, HasMemory, PostsNext, Syncs, version_of};
+ghost use Rattle.desk_console.specs.Does.{Calls, Does, HasMemory, PostsNext, PublishesTarget, Syncs, Watches, version_of};
+ghost use Rattle.desk_console.specs.Watch.{changes_told};
 
 use crate::console::Console;
 use crate::sync;
 use answers::{
     Answer, answer_about, answer_audit, answer_trace, answer_what_if, write_opened, write_posted,
-    write_published, write_refused, write_synced, write_version,
+    write_published, write_refused, write_synced, write_version, write_watch,
 };
 use desk_core::Refusal;
 use net_data::Event;
 use point_codes::PointCode;
 use script_words::{Command, Question};
 use std::alloc::{AllocError, Global};
+use std::sync::Arc;
 
 /// Whether memory sufficed for a reply of the desk.
 pub fn has_memory<T>(reply: &Result<T, Refusal>) -> bool
@@ -82,23 +84,44 @@ impl Console {
 
     /// A publication.
     fn publish(&mut self, alloc: Global) -> Result<String, AllocError>
-        ensures call { IfOk result (λ text. Calls Publishes published_text self.old (string_bytes text) self.new) }
-        ensures plain { IfOk result (λ text. line_count (string_bytes text) ≡ 0) }
+        ensures call { IfOk result (λ text. PublishesTarget self.old (string_bytes text) self.new) }
+        ensures lines { IfOk result (λ text. line_count (string_bytes text) ≤ 1) }
     {
+        let old = Arc::try_clone(self.desk.published())?;
         let reply = self.desk.publish(alloc);
         if !has_memory(&reply) {
             return Err(AllocError);
         }
-        write_published(alloc, reply)
+        let text = write_published(alloc, reply)?;
+        self.watch.reply(alloc, old, self.desk.published(), text)
     }
 
     /// Brings the desk up to date.
     fn sync(&mut self, alloc: Global) -> Result<String, AllocError>
         ensures call { IfOk result (λ text. Syncs self.old (string_bytes text) self.new) }
+        ensures lines { IfOk result (λ text. line_count (string_bytes text) ≤ 1) }
+    {
+        let old = Arc::try_clone(self.desk.published())?;
+        let number = sync(alloc, &mut self.desk)?;
+        let text = write_synced(alloc, number)?;
+        self.watch.reply(alloc, old, self.desk.published(), text)
+    }
+
+    /// What the last publication changed.
+    fn changes(&self, alloc: Global) -> Result<String, AllocError>
+        ensures text { IfOk result (λ text. string_bytes text ≡ changes_told self.now.watch self.now.desk.published) }
         ensures plain { IfOk result (λ text. line_count (string_bytes text) ≡ 0) }
     {
-        let number = sync(alloc, &mut self.desk)?;
-        write_synced(alloc, number)
+        self.watch.tell(alloc, self.desk.published())
+    }
+
+    /// Changes are told behind publications from now on, or no more.
+    fn set_watch(&mut self, alloc: Global, is_on: bool) -> Result<String, AllocError>
+        ensures call { IfOk result (λ text. Watches is_on self.old (string_bytes text) self.new) }
+        ensures plain { IfOk result (λ text. line_count (string_bytes text) ≡ 0) }
+    {
+        self.watch.set(is_on);
+        write_watch(alloc, is_on)
     }
 
     /// What is published, and what is accepted.
@@ -159,7 +182,7 @@ impl Console {
         requires within { IsWithin command }
         requires none { event_of command ≡ [] }
         ensures does { IfOk result (λ text. Does command self.old (string_bytes text) self.new) }
-        ensures plain { IfOk result (λ text. line_count (string_bytes text) ≡ 0) }
+        ensures lines { IfOk result (λ text. line_count (string_bytes text) ≤ 1) }
     {
         match command {
             Command::Event(_) | Command::Post(_, _, _) => unreachable!(),
@@ -174,6 +197,8 @@ impl Console {
             Command::Trace(point, dest, s) => self.ask_trace(alloc, point, dest, s),
             Command::WhatIf(events) => self.ask_what_if(alloc, events.as_slice()),
             Command::Audit => self.ask_audit(alloc),
+            Command::Changes => self.changes(alloc),
+            Command::Watch(is_on) => self.set_watch(alloc, is_on),
         }
     }
 
@@ -181,7 +206,7 @@ impl Console {
     pub(crate) fn obey(&mut self, alloc: Global, command: Command) -> Result<Answer, AllocError>
         requires { IsWithin command }
         ensures does { IfOk result (λ answer. Does command self.old answer self.new) }
-        ensures plain { IfOk result (λ answer. line_count answer ≡ 0) }
+        ensures lines { IfOk result (λ answer. line_count answer ≤ 1) }
     {
         match command {
             Command::Event(event) => self.post_next(alloc, event),

@@ -1,3 +1,4 @@
 pub mod MemberLemmas
 pub mod ToldLemmas
 pub mod ReadingLemmas
+pub mod StreamLemmas

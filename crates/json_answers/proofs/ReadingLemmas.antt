@@ -13,7 +13,7 @@ use Rattle.json_answers.specs.declared.parts.Separator.{Separator}
 use Rattle.json_answers.specs.Members.{Member, object_members, object_with}
 use Rattle.json_answers.specs.Words.{is_empty, is_number, value_of, member_if, first_value, named, separator_byte, parted}
 use Rattle.json_answers.specs.Lists.{item_of, is_alone, listed, row_parts, status_parts, change, changes, is_used, used_in, down, reason_members, reason, way, ways}
-use Rattle.json_answers.specs.Objects.{link_parts, message_parts, mend_parts, hop_parts, place_in, value_names, refused, reply_names, audit_names, list_answer, row_answer, status_answer, why_answer, trace_answer, what_if_answer, version_answer, told, members_of, object_of, object_text}
+use Rattle.json_answers.specs.Objects.{link_parts, message_parts, mend_parts, hop_parts, place_in, value_names, refused, reply_names, audit_names, list_answer, row_answer, status_answer, why_answer, trace_answer, with_changes, version_answer, told, members_of, object_of, object_text}
 
 -- each number in it is a number, and it is no deeper than this
 record IsReadable (n : ℕ) (j : Json) : Type 0 where
@@ -179,14 +179,18 @@ row_readable line word rest =
     (with_list (codes "status" ∷ []) rest (codes "ways") (array (items_of (ways (drop 1 rest)))) (array_readable 2 (ways (drop 1 rest)) (ways_readable (drop 1 rest))))
     (either_readable 3 (bytes_eq word (codes "octets")) _ _ (list_up [] rest, tt) (list_readable line word rest)))
 
+changes_up : (name : List ℕ) (words : List (List ℕ)) → AreReadable 3 (with_changes name words)
+changes_up name words =
+    with_list (name ∷ []) words (codes "changes") (array (items_of (changes (drop 1 words))))
+    (deeper 2 3 (array (items_of (changes (drop 1 words)))) (omega arith) (array_readable 1 (changes (drop 1 words)) (changes_readable (drop 1 words))))
+
 version_readable : (line word : List ℕ) (rest : List (List ℕ)) → AreReadable 3 (version_answer line word rest)
 version_readable line word rest =
     either_readable 3 (bytes_eq word (codes "trace")) (trace_answer rest) _
     (with_list (codes "result" ∷ []) rest (codes "hops") (listed hop_parts (drop 1 rest)) (list_up hop_parts (drop 1 rest)))
-    (either_readable 3 (bytes_eq word (codes "whatif")) (what_if_answer rest) _
-    (with_list (codes "result" ∷ []) rest (codes "changes") (array (items_of (changes (drop 1 rest))))
-    (deeper 2 3 (array (items_of (changes (drop 1 rest)))) (omega arith) (array_readable 1 (changes (drop 1 rest)) (changes_readable (drop 1 rest)))))
-    (either_readable 3 (bytes_eq word (codes "audit")) _ _ (names_up (audit_names rest) rest) (row_readable line word rest)))
+    (either_readable 3 (bytes_eq word (codes "whatif")) (with_changes (codes "result") rest) _ (changes_up (codes "result") rest)
+    (either_readable 3 (bytes_eq word (codes "changes")) (with_changes (codes "published") rest) _ (changes_up (codes "published") rest)
+    (either_readable 3 (bytes_eq word (codes "audit")) _ _ (names_up (audit_names rest) rest) (row_readable line word rest))))
 
 told_readable : (line word : List ℕ) (rest : List (List ℕ)) → AreReadable 3 (told line word rest)
 unfolding told

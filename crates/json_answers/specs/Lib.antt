@@ -3,3 +3,4 @@ pub mod Words
 pub mod Lists
 pub mod Objects
 pub mod Told
+pub mod Streams

@@ -103,9 +103,9 @@ abbrev pub trace_answer : List (List ℕ) → List Member
 trace_answer words =
     named (codes "result" ∷ []) words ++ (codes "hops", listed hop_parts (drop 1 words)) ∷ []
 
--- `granted CHANGE ..` or `denied CHANGE ..`
-abbrev pub what_if_answer : List (List ℕ) → List Member
-what_if_answer words = named (codes "result" ∷ []) words ++ (codes "changes", array (items_of (changes (drop 1 words)))) ∷ []
+-- `WORD CHANGE ..`: a word under a name, and the changes
+abbrev pub with_changes : List ℕ → List (List ℕ) → List Member
+with_changes name words = named (name ∷ []) words ++ (codes "changes", array (items_of (changes (drop 1 words)))) ∷ []
 
 -- what an answer that lists words with parts tells, and any other answer: its text behind the word
 abbrev pub list_answer : List ℕ → List ℕ → List (List ℕ) → List Member
@@ -127,7 +127,8 @@ row_answer line word rest =
 abbrev pub version_answer : List ℕ → List ℕ → List (List ℕ) → List Member
 version_answer line word rest =
     if bytes_eq word (codes "trace") then trace_answer rest
-    else if bytes_eq word (codes "whatif") then what_if_answer rest
+    else if bytes_eq word (codes "whatif") then with_changes (codes "result") rest
+    else if bytes_eq word (codes "changes") then with_changes (codes "published") rest
     else if bytes_eq word (codes "audit") then named (audit_names rest) rest
     else row_answer line word rest
 

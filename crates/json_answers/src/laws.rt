@@ -1,11 +1,12 @@
 //! Laws: functions that do nothing when they run, and whose contracts say what the objects of answers tell, by the values that are answered.
 
-ghost use Rattle.std.specs.Prelude.{◌≡◌, ◌≢◌, ◌==◌, ◌<◌, ◌++◌, ℕ, true, false, List, [], ◌∷◌, Some, None, Ok, Err, codes, map};
+ghost use Rattle.std.specs.Prelude.{◌≡◌, ◌≢◌, ◌==◌, ◌<◌, ◌++◌, ℕ, true, false, List, [], ◌∷◌, Option, Some, None, Ok, Err, codes, map};
 ghost use Rattle.std.specs.List.{AllByRecursion, flat_map};
 ghost use Rattle.std.specs.Fmt.{decimal};
 ghost use Rattle.json.specs.Json.{null, number, string, array, document};
 ghost use Rattle.json.specs.Value.{items_of};
 ghost use Rattle.point_codes.specs.Codes.{IsCode};
+ghost use Rattle.net_data.specs.Network.{Network};
 ghost use Rattle.net_data.specs.declared.events.Refusal.{Refusal};
 ghost use Rattle.net_data.specs.declared.events.Refusal.TheVariants as edit;
 ghost use Rattle.plan_rows.specs.declared.causes.Cause.{Cause};
@@ -25,6 +26,7 @@ ghost use Rattle.work_units.specs.declared.replies.Posted.TheVariants.{Taken, Ag
 ghost use Rattle.work_units.specs.declared.replies.Refusal.{Refusal as DeskRefusal};
 ghost use Rattle.work_units.specs.declared.replies.Refusal.TheVariants as desk;
 ghost use Rattle.answers.specs.Audits.{audit_right, audit_wrong, clause_letter, complaint_text};
+ghost use Rattle.answers.specs.Changes.{changes_since, changes_text, watch_text};
 ghost use Rattle.answers.specs.Links.{links_text};
 ghost use Rattle.answers.specs.Messages.{messages_text, octets_text};
 ghost use Rattle.answers.specs.DeskRefusals.{desk_refusal_text};
@@ -112,6 +114,8 @@ pub fn fixed_law()
     ensures mend { HasMembers (mend_text None) (word_member (codes "mend") ∷ (codes "links", null) ∷ []) }
     ensures whole { HasMembers (mend_text (Some [])) (word_member (codes "mend") ∷ (codes "links", array (items_of [])) ∷ []) }
     ensures help { (text : List ℕ) → HasMembers (codes "help " ++ text) (word_member (codes "help") ∷ text_member (codes "text") text ∷ []) }
+    ensures watch_on { HasMembers (watch_text true) (word_member (codes "watch") ∷ text_member (codes "text") (codes "on") ∷ []) }
+    ensures watch_off { HasMembers (watch_text false) (word_member (codes "watch") ∷ text_member (codes "text") (codes "off") ∷ []) }
     ensures stopped { HasMembers (trace_text None) (word_member (codes "trace") ∷ text_member (codes "result") (codes "stopped") ∷ (codes "hops", array (items_of [])) ∷ []) }
 {}
 
@@ -134,6 +138,8 @@ pub fn versions_law()
         (word_member (codes "whatif") ∷ text_member (codes "result") (codes "granted") ∷ (codes "changes", array (items_of (map change_item report.changes))) ∷ []) }
     ensures denied { (report : Report) → report.denied ≡ true → AllByRecursion IsChange report.changes → HasMembers (report_text report)
         (word_member (codes "whatif") ∷ text_member (codes "result") (codes "denied") ∷ (codes "changes", array (items_of (map change_item report.changes))) ∷ []) }
+    ensures changes { (before : Option Network) (n : ℕ) (net : Network) → IsU64 n → AllByRecursion IsChange (changes_since before net) → HasMembers (changes_text before n net)
+        (word_member (codes "changes") ∷ number_member (codes "published") n ∷ (codes "changes", array (items_of (map change_item (changes_since before net)))) ∷ []) }
     ensures checked { (count : ℕ) → IsU64 count → HasMembers (codes "ok " ++ decimal count) (word_member (codes "ok") ∷ number_member (codes "plans") count ∷ []) }
     ensures failed { (dest : ℕ) (complaint : Complaint) → IsCode dest → IsCode complaint.point → HasMembers (codes "bad " ++ complaint_text dest complaint)
         (word_member (codes "bad") ∷ code_member (codes "destination") dest ∷ code_member (codes "point") complaint.point ∷ text_member (codes "complaint") (clause_letter complaint.clause) ∷ []) }

@@ -6,8 +6,11 @@
 //! 3. The answer of `help`, and one whose word has no names here, has all that follows its word under `text`.
 //! 4. The laws say of each answer what its object tells, by the values that are answered, and that the object's text reads as it.
 //!
-//! Stands on `answers`, `tokens`, `script_words`, `json`. A change here also changes specs/ (Lists, Members, Objects, Told, Words), proofs/ and
-//! must-fail/.
+//! 5. Answers that are written in pieces are cut at line feeds. A line that is told behind a reply has the object of the answer to
+//!    `changes`, without its mark `*`.
+//!
+//! Stands on `answers`, `sessions`, `tokens`, `script_words`, `json`. A change here also changes specs/ (Lists, Members, Objects, Streams,
+//! Told, Words), proofs/ and must-fail/.
 #![tactic(auto)]
 
 pub mod laws;
@@ -15,9 +18,11 @@ mod lists;
 mod members;
 pub mod objects;
 pub mod parts;
+pub mod streams;
 mod ways;
 
 pub use laws::{
     fixed_law, object_law, plain_law, refusals_law, replies_law, rows_law, versions_law, why_law,
 };
 pub use objects::{write_object, write_texts};
+pub use streams::Front;

@@ -7,7 +7,7 @@ ghost use Rattle.json.specs.Tree.{json_tokens};
 ghost use Rattle.json.specs.Value.{items_of};
 ghost use Rattle.json_answers.specs.Members.{Adds, member_tokens, object_with};
 ghost use Rattle.json_answers.specs.Lists.{listed, changes};
-ghost use Rattle.json_answers.specs.Objects.{value_names as names_of_values, desk_value_names as names_of_desk_values, check_names as names_of_check, job_names as names_of_job, place_in, refused, reply_names as names_of_reply, is_ok as begins_ok, audit_names as names_of_audit, status_answer, why_answer, list_answer, row_answer, trace_answer, what_if_answer, version_answer, told, members_of, object_text, members_text};
+ghost use Rattle.json_answers.specs.Objects.{value_names as names_of_values, desk_value_names as names_of_desk_values, check_names as names_of_check, job_names as names_of_job, place_in, refused, reply_names as names_of_reply, is_ok as begins_ok, audit_names as names_of_audit, status_answer, why_answer, list_answer, row_answer, trace_answer, with_changes, version_answer, told, members_of, object_text, members_text};
 
 use crate::lists::{put_changes, put_listed};
 use crate::members::{Part, after, put_member, put_named, put_text};
@@ -267,11 +267,11 @@ fn put_change_list(writer: &mut Writer, words: &[&str]) -> Result<(), AllocError
     put_changes(writer, words)
 }
 
-/// Writes what a what-if tells.
-fn put_what_if(writer: &mut Writer, words: &[&str]) -> Result<(), AllocError>
-    ensures { OnOk result (Adds writer.old writer.new (member_tokens (what_if_answer (map (λ w. w.now) words.now)))) }
+/// Writes a word under a name, and the changes behind it.
+fn put_with_changes(writer: &mut Writer, name: &str, words: &[&str]) -> Result<(), AllocError>
+    ensures { OnOk result (Adds writer.old writer.new (member_tokens (with_changes name.now (map (λ w. w.now) words.now)))) }
 {
-    put_named(writer, &["result"], words)?;
+    put_named(writer, &[name], words)?;
     put_change_list(writer, after(words, 1))
 }
 
@@ -286,7 +286,8 @@ fn put_version_answer(
 {
     match word {
         _ if word == "trace" => put_trace(writer, rest),
-        _ if word == "whatif" => put_what_if(writer, rest),
+        _ if word == "whatif" => put_with_changes(writer, "result", rest),
+        _ if word == "changes" => put_with_changes(writer, "published", rest),
         _ if word == "audit" => put_named(writer, audit_names(rest), rest),
         _ => put_row_answer(writer, line, word, rest),
     }

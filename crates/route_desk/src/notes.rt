@@ -171,8 +171,12 @@ impl Notes {
         Ok(())
     }
 
-    /// Ends an answer: the sentence for the line that it answers, if that is refused.
+    /// Ends an answer: the sentence for the line that it answers, if that is refused. What changed, told behind a reply, answers
+    /// no line of its own.
     fn end_answer(&mut self) -> Result<Option<String>, AllocError> {
+        if self.answer.as_slice().starts_with(b"*") {
+            return Ok(None);
+        }
         if self.in_text {
             self.pass_text();
         }

@@ -2,10 +2,9 @@
 
 ghost use Rattle.std.specs.Prelude.{None, Some, is_some, if◌then◌else◌};
 
-use crate::sentences::text_of;
 use console::{Fault, ScriptEnd};
-use json_answers::write_object;
-use std::alloc::{AllocError, Global};
+use json_answers::Front;
+use std::alloc::Global;
 use std::cell::Cell;
 use std::io;
 
@@ -25,7 +24,7 @@ pub struct ObjectWriter<'a, W: io::Write> {
     /// Where it is told that memory was refused, none if the answers stay as they are.
     refused: Option<&'a Cell<bool>>,
     /// The answer that is being written.
-    answer: Vec<u8>,
+    front: Front,
     writer: W,
 }
 
@@ -35,23 +34,9 @@ impl<'a, W: io::Write> ObjectWriter<'a, W> {
         ObjectWriter {
             alloc,
             refused,
-            answer: Vec::new(alloc),
+            front: Front::new(alloc),
             writer,
         }
-    }
-
-    /// The objects of the answers that these bytes end, each on a line.
-    fn objects_of(&mut self, bytes: &[u8]) -> Result<Vec<u8>, AllocError> {
-        let mut objects = Vec::new(self.alloc);
-        for byte in bytes {
-            if *byte == b'\n' {
-                objects = write_object(self.alloc, objects, text_of(self.answer.as_slice()))?;
-                self.answer.clear();
-            } else {
-                self.answer.push(*byte)?;
-            }
-        }
-        Ok(objects)
     }
 }
 
@@ -62,7 +47,7 @@ impl<'a, W: io::Write> io::Write for ObjectWriter<'a, W> {
         let Some(refused) = self.refused else {
             return self.writer.write(buf);
         };
-        match self.objects_of(buf) {
+        match self.front.write(self.alloc, buf) {
             Ok(objects) => {
                 self.writer.write_all(objects.as_slice())?;
                 Ok(buf.len())

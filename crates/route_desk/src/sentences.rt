@@ -11,7 +11,7 @@ use script_words::{Command, read_line};
 use std::alloc::{AllocError, Global};
 
 /// Text bytes as a text, empty if they are none.
-pub fn text_of(bytes: &[u8]) -> &str {
+fn text_of(bytes: &[u8]) -> &str {
     match str::from_utf8(bytes) {
         Ok(text) => text,
         Err(_) => "",

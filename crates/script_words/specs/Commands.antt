@@ -1,5 +1,5 @@
 -- What the words of a line command.
-use Rattle.std.specs.Prelude.{ℕ, ◌<◌, if◌then◌else◌, List, [], ◌∷◌, Option, Some, None, option_map, option_and_then, codes}
+use Rattle.std.specs.Prelude.{ℕ, ◌<◌, Bool, true, false, if◌then◌else◌, List, [], ◌∷◌, Option, Some, None, option_map, option_and_then, codes}
 use Rattle.std.specs.List.{slice_split}
 use Rattle.std.specs.Option.{option_map_or}
 use Rattle.std.specs.Str.{bytes_eq}
@@ -48,6 +48,11 @@ abbrev pub trace_of : List (List ℕ) → Option Command
 trace_of (y ∷ x ∷ s ∷ []) = option_and_then (λ y. option_and_then (λ x. option_map (λ s. Command.Trace y x s) (selection_of s)) (code_of x)) (code_of y)
 trace_of _ = None
 
+-- `on` or `off`
+abbrev pub switch_of : List (List ℕ) → Option Bool
+switch_of (what ∷ []) = if bytes_eq what (codes "on") then Some true else if bytes_eq what (codes "off") then Some false else None
+switch_of _ = None
+
 -- the words before, between and after the words `;`, piece by piece
 abbrev pub pieces_at : List (List ℕ) → List (List (List ℕ))
 pieces_at words = slice_split (λ w. bytes_eq w (codes ";")) words
@@ -69,6 +74,8 @@ desk_word_of text =
     else if bytes_eq text (codes "publish") then Some word.Publish
     else if bytes_eq text (codes "version") then Some word.Version
     else if bytes_eq text (codes "audit") then Some word.Audit
+    else if bytes_eq text (codes "changes") then Some word.Changes
+    else if bytes_eq text (codes "watch") then Some word.Watch
     else None
 
 -- the first word of a command that is no event
@@ -119,6 +126,10 @@ command_by word.Publish rest = alone Command.Publish rest
 command_by word.Version rest = alone Command.Version rest
 -- `audit`
 command_by word.Audit rest = alone Command.Audit rest
+-- `changes`
+command_by word.Changes rest = alone Command.Changes rest
+-- `watch on` and `watch off`
+command_by word.Watch rest = option_map (λ is_on. Command.Watch is_on) (switch_of rest)
 
 -- the command that the words of a line say: by its first word if that is a command's, else the line is an EVENT
 abbrev pub command_of : List (List ℕ) → Option Command

@@ -42,6 +42,10 @@ pub enum CommandWord {
     Version,
     /// `audit`.
     Audit,
+    /// `changes`.
+    Changes,
+    /// `watch`.
+    Watch,
 }
 
 /// The first word of a command that is neither an event nor a question about a row.
@@ -59,6 +63,8 @@ fn read_desk_word(word: &[u8]) -> Option<CommandWord>
         _ if is_word(word, "publish") => Some(CommandWord::Publish),
         _ if is_word(word, "version") => Some(CommandWord::Version),
         _ if is_word(word, "audit") => Some(CommandWord::Audit),
+        _ if is_word(word, "changes") => Some(CommandWord::Changes),
+        _ if is_word(word, "watch") => Some(CommandWord::Watch),
         _ => None,
     }
 }

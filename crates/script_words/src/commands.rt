@@ -67,4 +67,8 @@ pub enum Command {
     WhatIf(Events),
     /// A check of all tables is asked.
     Audit,
+    /// What the last publication changed is asked.
+    Changes,
+    /// What each publication changes is told behind its reply from now on, or no more.
+    Watch(bool),
 }

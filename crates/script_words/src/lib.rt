@@ -18,7 +18,8 @@
 //!
 //! 9. EVENT: an event, posted by collector 0. `post C SEQ EVENT`: a post by the collector C, 0 to 255, with the sequence
 //!    number SEQ, a number of 64 bits.
-//! 10. `open`, `publish`, `sync`, `version` and `audit` stand alone; `take K`, `give K` and `abandon K` name a slot, 0 to 31.
+//! 10. `open`, `publish`, `sync`, `version`, `audit` and `changes` stand alone; `take K`, `give K` and `abandon K` name a slot, 0 to
+//!     31; `watch on` and `watch off`.
 //! 11. `status Y X`, `sls Y X`, `messages Y X`, `octets Y Z X`, `why Y X` and `mend Y X`: a question about the row of the point Y
 //!     in the table of the destination X; `trace Y X S`: the trace of the signalling link selection S, 0 to 15.
 //! 12. `whatif EVENT ; EVENT ..`: what the events would change. `;` is a word of its own between two events, and there is

@@ -2,7 +2,7 @@
 
 ghost use Rattle.std.specs.Prelude.{◌≡◌, ◌≢◌, ◌<◌, map, IfOk, IfSome};
 ghost use Rattle.tokens.specs.Words.{words_of};
-ghost use Rattle.script_words.specs.Commands.{IsWithin, alone, slot_alone, post_of, command_by, command_of};
+ghost use Rattle.script_words.specs.Commands.{IsWithin, alone, slot_alone, switch_of, post_of, command_by, command_of};
 
 use crate::command_words::{CommandWord, read_command_word};
 use crate::commands::Command;
@@ -13,6 +13,7 @@ use crate::questions::Question;
 use crate::read_event;
 use crate::verbs::read_verb;
 use crate::what_ifs::read_events;
+use crate::words::is_word;
 use std::alloc::{AllocError, Global};
 use tokens::split_words;
 
@@ -35,6 +36,21 @@ fn read_only_slot(words: &[&[u8]]) -> Option<u8>
 {
     match words {
         [slot] => read_slot(*slot),
+        [] => None,
+        [_, _, ..] => None,
+    }
+}
+
+/// `on` or `off`.
+fn read_switch(words: &[&[u8]]) -> Option<bool>
+    ensures { result ≡ switch_of (map (λ w. w.now) words.now) }
+{
+    match words {
+        [what] => match *what {
+            _ if is_word(*what, "on") => Some(true),
+            _ if is_word(*what, "off") => Some(false),
+            _ => None,
+        },
         [] => None,
         [_, _, ..] => None,
     }
@@ -85,6 +101,8 @@ fn read_without_events(word: CommandWord, rest: &[&[u8]]) -> Option<Command>
         CommandWord::Publish => only(Command::Publish, rest),
         CommandWord::Version => only(Command::Version, rest),
         CommandWord::Audit => only(Command::Audit, rest),
+        CommandWord::Changes => only(Command::Changes, rest),
+        CommandWord::Watch => read_switch(rest).map(Command::Watch),
         CommandWord::WhatIf | CommandWord::Post => unreachable!(),
     }
 }

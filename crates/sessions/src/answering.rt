@@ -7,7 +7,7 @@ use std::alloc::Global;
 
 /// Who answers the lines of a script, one after the other.
 pub trait Answering: Drop {
-    ghost use Rattle.std.specs.Prelude.{◌≡◌, ℕ, List, IfOk, IfErr};
+    ghost use Rattle.std.specs.Prelude.{ℕ, ◌≤◌, List, IfOk, IfErr};
     ghost use Rattle.net_data.specs.Network.{Network};
     ghost use Rattle.answers.specs.Text.{line_count};
     ghost use Rattle.sessions.specs.Run.{CutsOff};
@@ -21,14 +21,14 @@ pub trait Answering: Drop {
     // Whether it needs a place for a reader, which may be refused.
     ghost needs_place: { Type 0 };
 
-    /// Does what a line says, which is neither too long nor silent, and gives its answer, without a line feed.
+    /// Does what a line says, which is neither too long nor silent, and gives its answer: a line without its line feed, or two.
     ///
     /// # Errors
     ///
     /// A fault that cuts the answers off.
     fn answer(&mut self, alloc: Global, line: &[u8]) -> Result<Answer, Fault>
         ensures command { IfOk result (λ answer. commands line.now self.old answer self.new) }
-        ensures plain { IfOk result (λ answer. line_count answer ≡ 0) }
+        ensures lines { IfOk result (λ answer. line_count answer ≤ 1) }
         ensures fault { IfErr result (CutsOff needs_place) };
 
     /// The network that is left after the last line, given away.

@@ -69,7 +69,7 @@ impl<A: Answering> Session<A> {
 
     /// Answers a last line that no line feed ends.
     fn finish<W: Write>(mut self, alloc: Global, writer: &mut W) -> ScriptEnd
-        requires { self.lines + line_count self.answers.items + 1 < 2 ^ 64 }
+        requires { self.lines + line_count self.answers.items + 2 < 2 ^ 64 }
         ensures { (start : A) (unread left held : Option (List ℕ))
             → HasAnswered A.commands start unread left held (W.contents writer.old) self → IsAtEnd left
             → Ran A.commands A.leaves A.needs_place start unread left held (W.contents writer.new) result.fault result.lines result.net }
@@ -91,7 +91,7 @@ impl<A: Answering> Session<A> {
         writer: &mut W,
         reads: u64,
     ) -> ScriptEnd
-        requires { self.lines + line_count self.answers.items ≤ reads * 65536 }
+        requires { self.lines + line_count self.answers.items ≤ reads * 131072 }
         ensures { (start : A) (unread held : Option (List ℕ))
             → HasAnswered A.commands start unread (R.remaining reader.old) held (W.contents writer.old) self
             → Ran A.commands A.leaves A.needs_place start unread (R.remaining reader.new) held (W.contents writer.new) result.fault result.lines result.net }

@@ -11,7 +11,7 @@ use route_choice::{Choice, Far};
 use std::marker::Model;
 
 /// The class that a row uses, which of its members, and the status.
-#[derive(Clone, Copy, Drop)]
+#[derive(Clone, Copy, PartialEq, Eq, Drop)]
 pub(crate) struct Kept {
     /// The class in four bits, a bit for each place of a member, and the status in two.
     byte: u8,

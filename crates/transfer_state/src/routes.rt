@@ -42,6 +42,24 @@ pub(crate) fn found<'a>(
     }
 }
 
+/// The status of a point's row, if it has one. No row is read for it.
+#[tactic(auto, using(crate::proofs::RouteLemmas::state_none))]
+pub(crate) fn row_status_at(e: &Excerpt, choices: &[Kept], point: PointCode) -> Option<Far>
+    requires { IsChosen e.now choices.now }
+    ensures { result ≡ option_map (λ s. s.choice.status) (state_at e.now point) }
+{
+    e.validity();
+    let rows = rows_of(e);
+    match e.place_by_code(point) {
+        Ok(at) => {
+            // The proof reads the row from this.
+            let _row = &rows[at];
+            Some(choices[at].status())
+        }
+        Err(_) => None,
+    }
+}
+
 /// The status of a point.
 #[tactic(auto, using(crate::proofs::ReasonLemmas::status_told))]
 pub(crate) fn status_at(e: &Excerpt, choices: &[Kept], point: PointCode) -> Far

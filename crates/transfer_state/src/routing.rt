@@ -21,7 +21,8 @@ use crate::complaints::Complaint;
 use crate::following::{choices_after, rests_on_any};
 use crate::kept::Kept;
 use crate::routes::{
-    choice_at, direct_at, found, hop_at, links_at, message_at, messages_at, status_at,
+    choice_at, direct_at, found, hop_at, links_at, message_at, messages_at, row_status_at,
+    status_at,
 };
 use crate::sweep::choices;
 use crate::table::table_by;
@@ -184,6 +185,13 @@ impl Routing {
         ensures { result ≡ option_map (λ s. s.choice) (state_at self.now.excerpt point) }
     {
         choice_at(&self.excerpt, &self.choices, point)
+    }
+
+    /// The status of a point's row, if it has one.
+    pub fn row_status(&self, point: PointCode) -> Option<Far>
+        ensures { result ≡ option_map (λ s. s.choice.status) (state_at self.now.excerpt point) }
+    {
+        row_status_at(&self.excerpt, &self.choices, point)
     }
 
     /// Whether all rows have the statuses that those in their places have in another routing.

@@ -21,7 +21,7 @@ use Rattle.profile.specs.Status.{choice}
 use Rattle.excerpts.specs.declared.turned.Ends.{Ends}
 use Rattle.excerpts.specs.Turned.{HasTurned}
 use Rattle.transfer_state.specs.Following.{KeepsStatuses}
-use Rattle.transfer_state.specs.Routing.{RoutingValue, settled_routing, statuses_of}
+use Rattle.transfer_state.specs.Routing.{RoutingValue, routed_excerpt, settled_routing, statuses_of}
 use Rattle.net_versions.specs.Versions.{routing_at}
 use Rattle.excerpts.specs.Excerpt.{ExcerptValue, IsRight, source_of, content_in, content_of, content_at, excerpt_in, excerpt_at}
 use Rattle.excerpts.proofs.ExcerptLemmas.{extract_right, table_equal}
@@ -82,6 +82,56 @@ found_alike h k p (row ∷ rows) e =
         → option_map (λ row. (h row).status) (cond b (Some row) (find p rows)) ≡ option_map (λ row. (k row).status) (cond b (Some row) (find p rows))
     go true here rest = ap Some here
     go false here rest = rest
+
+first_code : (m n : ℕ) (ms ns : List ℕ) → m ∷ ms ≡ n ∷ ns → m ≡ n
+first_code m n ms ns e = cc
+
+rest_codes : (m n : ℕ) (ms ns : List ℕ) → m ∷ ms ≡ n ∷ ns → ms ≡ ns
+rest_codes m n ms ns e = cc
+
+-- and so rows of the same points
+found_same : (h k : Row → Choice) (y : ℕ) (rows others : List Row) → map (λ (row : Row). row.point) rows ≡ map (λ (row : Row). row.point) others → statuses_of (map h rows) ≡ statuses_of (map k others)
+    → option_map (λ row. (h row).status) (find (λ (row : Row). eqb row.point y) rows) ≡ option_map (λ row. (k row).status) (find (λ (row : Row). eqb row.point y) others)
+found_same h k y [] [] points e = refl
+found_same h k y [] (other ∷ others) points e = absurd (cc)
+found_same h k y (row ∷ rows) [] points e = absurd (cc)
+found_same h k y (row ∷ rows) (other ∷ others) points e =
+    go (eqb row.point y) (first_same (h row).status (k other).status (statuses_of (map h rows)) (statuses_of (map k others)) e)
+    (found_same h k y rows others (rest_codes row.point other.point (map (λ (r : Row). r.point) rows) (map (λ (r : Row). r.point) others) points) (rest_same (h row).status (k other).status (statuses_of (map h rows)) (statuses_of (map k others)) e))
+    ∙ ap (λ (n : ℕ). option_map (λ r. (k r).status) (cond (eqb n y) (Some other) (find (λ (r : Row). eqb r.point y) others))) (first_code row.point other.point (map (λ (r : Row). r.point) rows) (map (λ (r : Row). r.point) others) points)
+  where
+    p : Row → Bool
+    p r = eqb r.point y
+
+    go : (b : Bool) → (h row).status ≡ (k other).status → option_map (λ r. (h r).status) (find p rows) ≡ option_map (λ r. (k r).status) (find p others)
+        → option_map (λ r. (h r).status) (cond b (Some row) (find p rows)) ≡ option_map (λ r. (k r).status) (cond b (Some other) (find p others))
+    go true here rest = ap Some here
+    go false here rest = rest
+
+-- the excerpt of a destination's routing
+routed_at : (net : Network) (dest : ℕ) → routed_excerpt (routing_at net dest) ≡ excerpt_at net dest
+routed_at net dest = go (excerpt_at net dest)
+  where
+    go : (o : Option ExcerptValue) → routed_excerpt (option_map settled_routing o) ≡ o
+    go None = refl
+    go (Some x) = refl
+
+-- what changes between routings is what changes between the networks that they are of
+pub none_between : (old new : Network) (dest : ℕ) (before after : Option RoutingValue) → before ≡ routing_at old dest → after ≡ routing_at new dest
+    → changes_between (routed_excerpt before) (routed_excerpt after) dest ≡ [] → changes_between (excerpt_at old dest) (excerpt_at new dest) dest ≡ []
+none_between old new dest before after one other none =
+    ap (λ (x : Option ExcerptValue). changes_between x (excerpt_at new dest) dest) (sym (ap routed_excerpt one ∙ routed_at old dest))
+    ∙ ap (λ (y : Option ExcerptValue). changes_between (routed_excerpt before) y dest) (sym (ap routed_excerpt other ∙ routed_at new dest)) ∙ none
+
+-- a destination whose routing has rows of the same points, with the same statuses, has no changes
+pub same_rows_unchanged : (r s : RoutingValue) (dest : ℕ) → r ≡ settled_routing r.excerpt → s ≡ settled_routing s.excerpt → map (λ (row : Row). row.point) r.excerpt.plan.rows ≡ map (λ (row : Row). row.point) s.excerpt.plan.rows
+    → statuses_of r.choices ≡ statuses_of s.choices → changes_between (Some r.excerpt) (Some s.excerpt) dest ≡ []
+same_rows_unchanged r s dest one other points same =
+    let x : ExcerptValue = r.excerpt in
+    let y : ExcerptValue = s.excerpt in
+    let both_same : statuses_of (map (choice (source_of x)) x.plan.rows) ≡ statuses_of (map (choice (source_of y)) y.plan.rows)
+    = sym (ap (λ (q : RoutingValue). statuses_of q.choices) one) ∙ same ∙ ap (λ (q : RoutingValue). statuses_of q.choices) other in
+    unchanged x y dest (λ point. found_same (choice (source_of x)) (choice (source_of y)) point x.plan.rows y.plan.rows points both_same)
 
 -- the excerpt of a destination is of that network and destination
 pub excerpt_is : (net : Network) (dest : ℕ) (x : ExcerptValue) → excerpt_at net dest ≡ Some x → (x.network ≡ net) × (x.plan.dest ≡ dest) × (plan_at net.plans dest ≡ Some x.plan)

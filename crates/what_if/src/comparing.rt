@@ -22,10 +22,7 @@ fn status_of(routing: Option<&Routing>, point: PointCode) -> Option<Far>
     ensures { result ≡ the_status (routed_excerpt (option_copied routing.entry)) point }
 {
     match routing {
-        Some(routing) => match routing.choice(point) {
-            Some(choice) => Some(choice.status),
-            None => None,
-        },
+        Some(routing) => routing.row_status(point),
         None => None,
     }
 }
@@ -53,7 +50,7 @@ fn add_change(
 }
 
 /// Adds the changes towards a destination.
-fn add_changes_between(
+pub(crate) fn add_changes_between(
     alloc: Global,
     before: Option<&Routing>,
     after: Option<&Routing>,

@@ -7,8 +7,9 @@
 //! 3. All changes are reported, in rising destination, and of one destination in rising point.
 //! 4. The inhibition of a link is denied if it makes a destination inaccessible to a point that reaches it: where some
 //!    status goes from allowed or restricted to prohibited.
+//! 5. What changed from a version to another is told in the same way, and order.
 //!
-//! 5. A link is restored by taking away all its marks. Told are the fewest links whose restoring makes a point's status not
+//! 6. A link is restored by taking away all its marks. Told are the fewest links whose restoring makes a point's status not
 //!    prohibited, or that no restoring does it. Of several ways with as many links the first is told: vias class by class, and the
 //!    mate last; and of each set the link with the lowest code.
 //!
@@ -20,7 +21,9 @@ mod codes;
 mod comparing;
 pub mod mending;
 pub mod reports;
+pub mod versions;
 
 pub use changes::{Change, Changes};
 pub use mending::{Mend, SetLink, find_mend, mate_row};
 pub use reports::{Refused, Report, what_if};
+pub use versions::changes_since;

@@ -40,6 +40,14 @@ pub returns-clause-help : goal.returns-clause-help
 unfolding told after_number
 returns-clause-help c = λ text. refl
 
+pub returns-clause-watch_on : goal.returns-clause-watch_on
+unfolding told after_number
+returns-clause-watch_on c = refl
+
+pub returns-clause-watch_off : goal.returns-clause-watch_off
+unfolding told after_number
+returns-clause-watch_off c = refl
+
 pub returns-clause-stopped : goal.returns-clause-stopped
 unfolding told after_number
 returns-clause-stopped c = refl

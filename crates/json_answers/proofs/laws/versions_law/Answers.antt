@@ -15,6 +15,7 @@ use Rattle.route_choice.specs.declared.choices.Far.TheVariants.{Allowed, Restric
 use Rattle.transfer_state.specs.declared.complaints.Clause.{Clause}
 use Rattle.transfer_state.specs.declared.complaints.Clause.TheVariants.{Points, Route, Status, Links, Messages}
 use Rattle.answers.specs.Audits.{audit_wrong, clause_letter, complaint_text}
+use Rattle.answers.specs.Changes.{changes_since}
 use Rattle.answers.specs.WhatIfs.{change_text, status_word}
 use Rattle.what_if.specs.declared.changes.Change.{Change}
 use Rattle.json_answers.specs.declared.parts.Separator.TheVariants.{Colon, Angle, Slash, Space}
@@ -22,7 +23,7 @@ use Rattle.json_answers.specs.Members.{object_with}
 use Rattle.json_answers.specs.Words.{value_of}
 use Rattle.json_answers.specs.Lists.{item_of, change, changes}
 use Rattle.json_answers.specs.Objects.{object_of, hop_parts, told}
-use Rattle.json_answers.specs.Told.{HasMembers, word_member, code_member, text_member, hop_item, IsHop, status_value, change_item, IsChange}
+use Rattle.json_answers.specs.Told.{HasMembers, IsU64, word_member, number_member, code_member, text_member, hop_item, IsHop, status_value, change_item, IsChange}
 use Rattle.json_answers.proofs.ToldLemmas.{number_told, code_told, number_word, code_word, ap2, words_told, line_told, last_part, first_part, IsListed, all_listed, each_word, each_item, spaced}
 use Rattle.json_answers.proofs.laws.versions_law.Goals as goal
 
@@ -141,6 +142,21 @@ unfolding after_number
 returns-clause-denied c = λ report denied is.
     ap (λ b. object_of ((if b then codes "whatif denied" else codes "whatif granted") ++ flat_map change_text report.changes)) denied
     ∙ what_if_told (codes "denied") report.changes (lit< tt, refl) refl is
+
+-- the object of what a publication changed
+changed_told : (n : ℕ) (xs : List Change) → IsU64 n → AllByRecursion IsChange xs
+    → object_of ((codes "changes " ++ decimal n) ++ flat_map change_text xs)
+    ≡ object_with (word_member (codes "changes") ∷ number_member (codes "published") n ∷ (codes "changes", array (items_of (map change_item xs))) ∷ [])
+unfolding told
+changed_told n xs small h =
+    ap object_of (append_assoc (codes "changes ") (decimal n) (flat_map change_text xs))
+    ∙ ap (λ t. object_of (codes "changes " ++ (decimal n ++ t))) (changes_spaced xs)
+    ∙ line_told (codes "changes") (decimal n ∷ flat_map change_words xs) (lit< tt, refl) (number_word n small, all_words xs h)
+    ∙ ap2 (λ v js. object_with (word_member (codes "changes") ∷ (codes "published", v) ∷ (codes "changes", array (items_of js)) ∷ [])) _ _ _ _ (number_told n small) (changes_told xs h)
+
+pub returns-clause-changes : goal.returns-clause-changes
+unfolding after_number
+returns-clause-changes c = λ before n net small is. changed_told n (changes_since before net) small is
 
 pub returns-clause-right : goal.returns-clause-right
 unfolding told after_number

@@ -1,4 +1,4 @@
-use Rattle.std.proofs.Common.{◌≡◌, ◌≤◌, sym, subst}
+use Rattle.std.proofs.Common.{◌≡◌, ◌≤◌, ◌∙◌, sym, subst}
 use Rattle.desk_core.specs.Desk.{accepted}
 use Rattle.versions.specs.declared.state.DeskAndChain.{DeskAndChain}
 use Rattle.beside.proofs.BesideLemmas.{looks_later}
@@ -6,6 +6,7 @@ use Rattle.beside.proofs.answering.Beside.wait_synced.Goals as goal
 
 pub loop-preserved : goal.loop-preserved
 loop-preserved g c =
-    let look = c.in_ok-number.ensures.looks in
+    let look = c.in_ok-version.ensures.looks in
     let later = looks_later c.args.self.now c.loop.self c.look_synced.new.self look.0 c.loop.invariant.0 c.loop.invariant.1 look.1 in
-    (later.left, later.seen)
+    let kept = c.look_synced.ensures.kept in
+    (later.left, later.seen, (kept.0 ∙ c.loop.invariant.2.0, kept.1 ∙ c.loop.invariant.2.1))

@@ -22,7 +22,7 @@ loop-front-preserved g c =
           );
       few =
           let few = c.loop-front.invariant.few in
-          let one = c.end_line.ensures.one in
+          let one = c.end_line.ensures.few in
           let less = split_size rest _ _ split in
           omega arith;
       lines = search rules;

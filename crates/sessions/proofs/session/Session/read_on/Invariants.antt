@@ -9,5 +9,5 @@ invariant-loop-turn g l = record {
   answered : (start : g.row.A.Denot) (unread held : Option (List ℕ))
       → HasAnswered g.A.Answering.commands start unread (g.R.Read.remaining l.fn.reader) held (g.W.Write.contents l.fn.writer) l.initial.self
       → HasAnswered g.A.Answering.commands start unread (g.R.Read.remaining l.reader) held (g.W.Write.contents l.writer) l.self;
-  few : l.self.lines + line_count l.self.answers.items ≤ l._turn * 65536;
+  few : l.self.lines + line_count l.self.answers.items ≤ l._turn * 131072;
 }

@@ -1,0 +1,7 @@
+-- `==` of codes decides if they are equal
+use Rattle.std.proofs.lemmas.Bool.Decides.{Decides-eqb}
+use Rattle.std.proofs.lemmas.Slice.Eq.{slice_eq-Decides}
+use Rattle.what_if.proofs.versions.are_same_codes.Goals as goal
+
+pub returns : goal.returns
+returns c = slice_eq-Decides Decides-eqb _ _ _ c.eq.ensures
