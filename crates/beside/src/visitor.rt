@@ -33,7 +33,7 @@ pub(crate) struct Visitor<N: Naming> {
     accepted: u64,
     /// The version that the last `sync` told.
     synced: Arc<Version>,
-    /// The version before that one.
+    /// The version before that one, and whether what changed is told behind replies.
     watch: Watch,
 }
 
