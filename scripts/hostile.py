@@ -126,10 +126,12 @@ def writes(case):
 
 
 def saves(case):
-    """All is answered, the run ends with 64, and the file stays as it was."""
+    """All is answered, the run ends with 64, and the file stays as it was. A picture that can't be written is refused."""
+    without = case.wanted[0].replace(b"picture /dev/null\n", b"refused 64 Write\n")
     for zero in 0, 1:
         for k, got in case.each("write", 0, zero=zero, files=1):
-            case.want(got == (case.wanted[0], WRITE, 1), f"no more than {k} bytes saved, with {zero}", got)
+            right = got[0] in (case.wanted[0], without) and got[1:] == (WRITE, 1)
+            case.want(right, f"no more than {k} bytes saved, with {zero}", got)
 
 
 def calls(case):

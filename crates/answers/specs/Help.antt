@@ -47,6 +47,7 @@ forms =
     record { word = codes "mend"; text = codes "help mend Y X, as mend 2-1-1 2-1-2" } ∷
     record { word = codes "trace"; text = codes "help trace Y X S, as trace 2-1-1 2-1-2 0" } ∷
     record { word = codes "whatif"; text = codes "help whatif EVENT ; EVENT .., as whatif fail 2 0 ; inhibit 1 0 a" } ∷
+    record { word = codes "picture"; text = codes "help picture FILE or picture FILE X, as picture net.svg 2-1-2" } ∷
     record { word = codes "changes"; text = codes "help changes, as changes" } ∷
     record { word = codes "watch"; text = codes "help watch on or watch off, as watch on" } ∷
     record { word = codes "audit"; text = codes "help audit, as audit" } ∷

@@ -135,6 +135,10 @@ const FORMS: &[Form] = &[
         text: "help whatif EVENT ; EVENT .., as whatif fail 2 0 ; inhibit 1 0 a",
     },
     Form {
+        word: "picture",
+        text: "help picture FILE or picture FILE X, as picture net.svg 2-1-2",
+    },
+    Form {
         word: "changes",
         text: "help changes, as changes",
     },
@@ -154,7 +158,7 @@ const FORMS: &[Form] = &[
 
 /// All these words, each after a space.
 const ALL_WORDS: &str =
-    "help fail restore block unblock inhibit uninhibit point pair unpair set link plan tfr post open take give abandon publish sync version status sls messages octets why mend trace whatif changes watch audit help";
+    "help fail restore block unblock inhibit uninhibit point pair unpair set link plan tfr post open take give abandon publish sync version status sls messages octets why mend trace whatif picture changes watch audit help";
 
 fn forms() -> &'static [Form]
     ensures { map value_of result.now ≡ all_forms }

@@ -214,6 +214,7 @@ module _ (line : List ℕ) (old : BesideValue) (text : List ℕ) (new : BesideVa
   obeyed (Some (command.Trace y x s)) e is = looks is.0 (none_taken (Some (command.Trace y x s)) e refl) is.1
   obeyed (Some (command.WhatIf events)) e is = looks is.0 (none_taken (Some (command.WhatIf events)) e refl) is.1
   obeyed (Some command.Audit) e is = looks is.0 (none_taken (Some command.Audit) e refl) is.1
+  obeyed (Some (command.Picture file about)) e is = looks is.0 (none_taken (Some (command.Picture file about)) e refl) is.1
   obeyed (Some command.Changes) e is = stays_same old (taken_by line text) new (none_taken (Some command.Changes) e refl) is.1
   obeyed (Some (command.Watch is_on)) e is =
       stays (none_taken (Some (command.Watch is_on)) e refl) (ap (λ (b : BesideValue). b.left) is.1) (ap (λ (b : BesideValue). b.seen) is.1)

@@ -24,6 +24,7 @@ use Rattle.answers.specs.Replies.{posted_text, synced_text, version_text}
 use Rattle.answers.specs.Rows.{answer_about}
 use Rattle.answers.specs.Traces.{trace_answer}
 use Rattle.answers.specs.WhatIfs.{what_if_text}
+use Rattle.desk_console.specs.Pictures.{picture_told}
 use Rattle.desk_console.specs.Commands.{Commands, Obeys}
 use Rattle.desk_console.specs.Console.{ConsoleValue, opening}
 use Rattle.desk_console.specs.Does.{Calls, Does, PostsAfter, Syncs, Watches}
@@ -321,6 +322,7 @@ module _ (start : DeskValue) (steady : IsSteadyDesk start) (es more : List Event
     obeys_same other (Some (command.Trace p d s)) may is at = asks_same (λ net. trace_answer (trace_at net p d s)) is.0 may is.1 is.2.0 at.0 at.1 is.3
     obeys_same other (Some (command.WhatIf events)) may is at = asks_same (λ net. what_if_text (report_of net events)) is.0 may is.1 is.2.0 at.0 at.1 is.3
     obeys_same other (Some command.Audit) may is at = asks_same (λ net. audit_right (length net.plans)) is.0 may is.1 is.2.0 at.0 at.1 is.3
+    obeys_same other (Some (command.Picture file about)) may is at = asks_same (λ net. picture_told file net about) is.0 may is.1 is.2.0 at.0 at.1 is.3
     obeys_same other (Some command.Changes) may is at = changes_same is at
     obeys_same other (Some (command.Watch is_on)) may is at = watches_same is_on is at
 

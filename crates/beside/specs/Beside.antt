@@ -82,14 +82,6 @@ pub record Looks (old : BesideValue) (version : VersionValue) (new : BesideValue
 abbrev pub showing : VersionValue → ConsoleValue
 showing version = at_console (record { published = version; pending = []; lasts = []; target = None; spare = 0 })
 
--- whether something is asked of the published version
-abbrev pub is_asked : Command → Bool
-is_asked (command.About asked y x) = true
-is_asked (command.Trace y x s) = true
-is_asked (command.WhatIf events) = true
-is_asked command.Audit = true
-is_asked _ = false
-
 -- whether it is about what a `sync` changed
 abbrev pub is_of_changes : Command → Bool
 is_of_changes command.Changes = true
@@ -134,6 +126,7 @@ DoesBeside (command.About asked y x) = Asks (command.About asked y x)
 DoesBeside (command.Trace y x s) = Asks (command.Trace y x s)
 DoesBeside (command.WhatIf events) = Asks (command.WhatIf events)
 DoesBeside command.Audit = Asks command.Audit
+DoesBeside (command.Picture file about) = Asks (command.Picture file about)
 DoesBeside command.Changes = λ old. Tells (changes_told old.watch old.synced) old
 DoesBeside (command.Watch is_on) = WatchesBeside is_on
 

@@ -4,14 +4,16 @@ ghost use Rattle.std.specs.Prelude.{◌≡◌, ◌<◌, ◌||◌, true, IfErr, I
 ghost use Rattle.answers.specs.Text.{line_count};
 ghost use Rattle.sessions.specs.Run.{CutsOff};
 ghost use Rattle.script_words.specs.Commands.{IsWithin};
-ghost use Rattle.beside.specs.Beside.{Asks, DoesBeside, is_asked, is_of_changes};
+ghost use Rattle.desk_console.specs.Does.{is_asked};
+ghost use Rattle.beside.specs.Beside.{Asks, DoesBeside, is_of_changes};
 ghost use Rattle.script_words.specs.declared.commands.Command.TheVariants as command;
 
 use crate::visitor::Visitor;
 use answers::{answer_about, answer_audit, answer_trace, answer_what_if};
+use desk_console::answer_picture;
 use net_data::Event;
 use point_codes::PointCode;
-use script_words::{Command, Question};
+use script_words::{Command, FileName, Question};
 use sessions::Fault;
 use std::alloc::Global;
 use versions::Naming;
@@ -44,6 +46,7 @@ impl<N: Naming> Visitor<N> {
             Command::Trace(point, dest, s) => self.ask_trace(alloc, *point, *dest, *s),
             Command::WhatIf(events) => self.ask_what_if(alloc, events.as_slice()),
             Command::Audit => self.ask_audit(alloc),
+            Command::Picture(file, about) => self.ask_picture(alloc, file, *about),
             _ => unreachable!(),
         }
     }
@@ -113,5 +116,20 @@ impl<N: Naming> Visitor<N> {
     {
         let version = self.look()?;
         Ok(answer_audit(alloc, &version)?)
+    }
+
+    /// A picture for a file.
+    fn ask_picture(
+        &mut self,
+        alloc: Global,
+        file: &FileName,
+        about: Option<PointCode>,
+    ) -> Result<String, Fault>
+        ensures text { IfOk result (λ text. Asks (command.Picture file.now about) self.old (string_bytes text) self.new) }
+        ensures plain { IfOk result (λ text. line_count (string_bytes text) ≡ 0) }
+        ensures fault { IfErr result (CutsOff (Unit {0})) }
+    {
+        let version = self.look()?;
+        Ok(answer_picture(alloc, &version, file.as_str(), about)?)
     }
 }

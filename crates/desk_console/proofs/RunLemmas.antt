@@ -112,6 +112,7 @@ module _ (c : ConsoleValue) (text : List ℕ) (new : ConsoleValue) where
   command_runs (command.Trace y x s) is = told is.1
   command_runs (command.WhatIf events) is = told is.1
   command_runs command.Audit is = told is.1
+  command_runs (command.Picture file about) is = told is.1
   command_runs command.Changes is = told is.1
   command_runs (command.Watch is_on) is = silent (unmoved c.desk new.desk (ap (λ (d : ConsoleValue). d.desk) is.1))
 

@@ -20,6 +20,7 @@ use Rattle.answers.specs.Changes.{watch_text}
 use Rattle.script_words.specs.declared.commands.Command.{Command}
 use Rattle.script_words.specs.declared.commands.Command.TheVariants as command
 use Rattle.desk_console.specs.Console.{ConsoleValue, slot_of}
+use Rattle.desk_console.specs.Pictures.{picture_told}
 use Rattle.desk_console.specs.Watch.{WatchValue, changes_told, reply_watched, watched}
 
 -- ---- what is told
@@ -108,6 +109,15 @@ Watches is_on c text new = (text ≡ watch_text is_on) × (new ≡ record c { wa
 
 -- ---- all commands
 
+-- whether something is asked of the published version
+abbrev pub is_asked : Command → Bool
+is_asked (command.About asked y x) = true
+is_asked (command.Trace y x s) = true
+is_asked (command.WhatIf events) = true
+is_asked command.Audit = true
+is_asked (command.Picture file about) = true
+is_asked _ = false
+
 -- what a command does; what is asked is answered from the published version
 abbrev pub Does : Command → ConsoleValue → List ℕ → ConsoleValue → Type 0
 -- EVENT
@@ -136,6 +146,8 @@ Does (command.Trace y x s) c = Tells (trace_answer (trace_at c.desk.published.ne
 Does (command.WhatIf events) c = Tells (what_if_text (report_of c.desk.published.network events)) c
 -- `audit`
 Does command.Audit c = Tells (audit_right (length c.desk.published.network.plans)) c
+-- `picture FILE` and `picture FILE X`
+Does (command.Picture file about) c = Tells (picture_told file c.desk.published.network about) c
 -- `changes`
 Does command.Changes c = Tells (changes_told c.watch c.desk.published) c
 -- `watch on` and `watch off`

@@ -1,4 +1,5 @@
 pub mod Watch
+pub mod Pictures
 pub mod Console
 pub mod Does
 pub mod Commands

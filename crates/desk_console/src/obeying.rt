@@ -1,6 +1,6 @@
 //! What each command does.
 
-ghost use Rattle.std.specs.Prelude.{◌≡◌, ◌<◌, ◌≤◌, ◌↔◌, [], IfOk, IsTrue, length, string_bytes};
+ghost use Rattle.std.specs.Prelude.{◌≡◌, ◌<◌, ◌≤◌, ◌↔◌, [], true, IfOk, IsTrue, length, string_bytes};
 ghost use Rattle.answers.specs.Audits.{audit_right};
 ghost use Rattle.answers.specs.Rows.{answer_about as row_answer};
 ghost use Rattle.answers.specs.Text.{line_count};
@@ -12,10 +12,12 @@ ghost use Rattle.script_words.specs.Commands.{IsWithin};
 ghost use Rattle.path_trace.specs.Traces.{trace_at};
 ghost use Rattle.what_if.specs.Reports.{report_of};
 ghost use Rattle.desk_console.specs.Taken.{event_of};
-ghost use Rattle.desk_console.specs.Does.{Calls, Does, HasMemory, PostsNext, PublishesTarget, Syncs, Watches, version_of};
+ghost use Rattle.desk_console.specs.Does.{Calls, Does, HasMemory, PostsNext, PublishesTarget, Syncs, Watches, is_asked, version_of};
+ghost use Rattle.desk_console.specs.Pictures.{picture_told};
 ghost use Rattle.desk_console.specs.Watch.{changes_told};
 
 use crate::console::Console;
+use crate::picturing::answer_picture;
 use crate::sync;
 use answers::{
     Answer, answer_about, answer_audit, answer_trace, answer_what_if, write_opened, write_posted,
@@ -24,7 +26,7 @@ use answers::{
 use desk_core::Refusal;
 use net_data::Event;
 use point_codes::PointCode;
-use script_words::{Command, Question};
+use script_words::{Command, FileName, Question};
 use std::alloc::{AllocError, Global};
 use std::sync::Arc;
 
@@ -177,29 +179,66 @@ impl Console {
         answer_audit(alloc, self.desk.published())
     }
 
+    /// A picture for a file.
+    fn ask_picture(
+        &self,
+        alloc: Global,
+        file: &FileName,
+        about: Option<PointCode>,
+    ) -> Result<String, AllocError>
+        ensures text { IfOk result (λ text. string_bytes text ≡ picture_told file.now self.now.desk.published.network about) }
+        ensures plain { IfOk result (λ text. line_count (string_bytes text) ≡ 0) }
+    {
+        answer_picture(alloc, self.desk.published(), file.as_str(), about)
+    }
+
+    /// What a command asks of the published version.
+    fn ask(&self, alloc: Global, command: &Command) -> Result<String, AllocError>
+        requires within { IsWithin command.now }
+        requires asked { is_asked command.now ≡ true }
+        ensures does { IfOk result (λ text. Does command.now self.now (string_bytes text) self.now) }
+        ensures plain { IfOk result (λ text. line_count (string_bytes text) ≡ 0) }
+    {
+        match command {
+            Command::About(asked, point, dest) => self.ask_row(alloc, *asked, *point, *dest),
+            Command::Trace(point, dest, s) => self.ask_trace(alloc, *point, *dest, *s),
+            Command::WhatIf(events) => self.ask_what_if(alloc, events.as_slice()),
+            Command::Audit => self.ask_audit(alloc),
+            Command::Picture(file, about) => self.ask_picture(alloc, file, *about),
+            _ => unreachable!(),
+        }
+    }
+
     /// Does what a command says that posts nothing.
-    fn obey_silently(&mut self, alloc: Global, command: Command) -> Result<String, AllocError>
-        requires within { IsWithin command }
-        requires none { event_of command ≡ [] }
-        ensures does { IfOk result (λ text. Does command self.old (string_bytes text) self.new) }
+    fn obey_silently(&mut self, alloc: Global, command: &Command) -> Result<String, AllocError>
+        requires within { IsWithin command.now }
+        requires none { event_of command.now ≡ [] }
+        ensures does { IfOk result (λ text. Does command.now self.old (string_bytes text) self.new) }
         ensures lines { IfOk result (λ text. line_count (string_bytes text) ≤ 1) }
     {
         match command {
             Command::Event(_) | Command::Post(_, _, _) => unreachable!(),
             Command::Open => self.open(alloc),
-            Command::Take(slot) => self.take(alloc, slot),
-            Command::Give(slot) => self.give(alloc, slot),
-            Command::Abandon(slot) => self.abandon(alloc, slot),
+            Command::Take(slot) => self.take(alloc, *slot),
+            Command::Give(slot) => self.give(alloc, *slot),
+            Command::Abandon(slot) => self.abandon(alloc, *slot),
             Command::Publish => self.publish(alloc),
             Command::Sync => self.sync(alloc),
             Command::Version => self.version(alloc),
-            Command::About(asked, point, dest) => self.ask_row(alloc, asked, point, dest),
-            Command::Trace(point, dest, s) => self.ask_trace(alloc, point, dest, s),
-            Command::WhatIf(events) => self.ask_what_if(alloc, events.as_slice()),
-            Command::Audit => self.ask_audit(alloc),
             Command::Changes => self.changes(alloc),
-            Command::Watch(is_on) => self.set_watch(alloc, is_on),
+            Command::Watch(is_on) => self.set_watch(alloc, *is_on),
+            _ => self.ask(alloc, command),
         }
+    }
+
+    /// Does what a command says that posts nothing, and goes then.
+    fn obey_whole(&mut self, alloc: Global, command: Command) -> Result<Answer, AllocError>
+        requires within { IsWithin command }
+        requires none { event_of command ≡ [] }
+        ensures does { IfOk result (λ answer. Does command self.old answer self.new) }
+        ensures lines { IfOk result (λ answer. line_count answer ≤ 1) }
+    {
+        self.obey_silently(alloc, &command).map(Answer::of_text)
     }
 
     /// Does what a command says.
@@ -211,7 +250,7 @@ impl Console {
         match command {
             Command::Event(event) => self.post_next(alloc, event),
             Command::Post(collector, seq, event) => self.post(alloc, collector, seq, event),
-            other => Ok(Answer::of_text(self.obey_silently(alloc, other)?)),
+            other => self.obey_whole(alloc, other),
         }
     }
 }

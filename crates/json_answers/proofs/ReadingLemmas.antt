@@ -169,7 +169,8 @@ list_readable : (line word : List ℕ) (rest : List (List ℕ)) → AreReadable 
 list_readable line word rest =
     either_readable 3 (bytes_eq word (codes "sls")) _ _ (list_up link_parts rest, tt)
     (either_readable 3 (bytes_eq word (codes "messages")) _ _ (list_up message_parts rest, tt)
-    (either_readable 3 (bytes_eq word (codes "mend")) _ _ (list_up mend_parts rest, tt) (deeper 0 3 _ (omega arith) (string_readable _), tt)))
+    (either_readable 3 (bytes_eq word (codes "mend")) _ _ (list_up mend_parts rest, tt)
+    (either_readable 3 (bytes_eq word (codes "picture")) _ _ (deeper 0 3 _ (omega arith) (string_readable _), tt) (deeper 0 3 _ (omega arith) (string_readable _), tt))))
 
 row_readable : (line word : List ℕ) (rest : List (List ℕ)) → AreReadable 3 (row_answer line word rest)
 row_readable line word rest =

@@ -107,12 +107,13 @@ trace_answer words =
 abbrev pub with_changes : List ℕ → List (List ℕ) → List Member
 with_changes name words = named (name ∷ []) words ++ (codes "changes", array (items_of (changes (drop 1 words)))) ∷ []
 
--- what an answer that lists words with parts tells, and any other answer: its text behind the word
+-- what an answer that lists words with parts tells, the file of `picture FILE`, and of any other answer its text behind the word
 abbrev pub list_answer : List ℕ → List ℕ → List (List ℕ) → List Member
 list_answer line word rest =
     if bytes_eq word (codes "sls") then (codes "links", listed link_parts rest) ∷ []
     else if bytes_eq word (codes "messages") then (codes "messages", listed message_parts rest) ∷ []
     else if bytes_eq word (codes "mend") then (codes "links", listed mend_parts rest) ∷ []
+    else if bytes_eq word (codes "picture") then (codes "file", string (after_first (λ b. b == 32) line)) ∷ []
     else (codes "text", string (after_first (λ b. b == 32) line)) ∷ []
 
 -- what the answer to a question about a row tells

@@ -114,6 +114,7 @@ pub fn fixed_law()
     ensures mend { HasMembers (mend_text None) (word_member (codes "mend") ∷ (codes "links", null) ∷ []) }
     ensures whole { HasMembers (mend_text (Some [])) (word_member (codes "mend") ∷ (codes "links", array (items_of [])) ∷ []) }
     ensures help { (text : List ℕ) → HasMembers (codes "help " ++ text) (word_member (codes "help") ∷ text_member (codes "text") text ∷ []) }
+    ensures picture { (file : List ℕ) → HasMembers (codes "picture " ++ file) (word_member (codes "picture") ∷ text_member (codes "file") file ∷ []) }
     ensures watch_on { HasMembers (watch_text true) (word_member (codes "watch") ∷ text_member (codes "text") (codes "on") ∷ []) }
     ensures watch_off { HasMembers (watch_text false) (word_member (codes "watch") ∷ text_member (codes "text") (codes "off") ∷ []) }
     ensures stopped { HasMembers (trace_text None) (word_member (codes "trace") ∷ text_member (codes "result") (codes "stopped") ∷ (codes "hops", array (items_of [])) ∷ []) }
@@ -126,6 +127,7 @@ pub fn plain_law()
     ensures no_plan { HasMembers no_plan (plain_members (codes "26 NoPlan")) }
     ensures no_row { HasMembers no_row (plain_members (codes "29 NoRow")) }
     ensures bad_line { HasMembers bad_line (plain_members (codes "62 BadLine")) }
+    ensures unwritten { HasMembers (codes "refused 64 Write") (plain_members (codes "64 Write")) }
     ensures place { (r : Refused) → r.refusal ≢ edit.OutOfMemory → refusal_values r.refusal ≡ [] → IsU64 r.place → HasMembers (refused_event_text r)
         (plain_members (refusal_name r.refusal) ++ number_member (codes "at") r.place ∷ []) }
 {}

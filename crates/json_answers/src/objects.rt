@@ -217,7 +217,8 @@ fn put_list(
     put_listed(writer, parts, words)
 }
 
-/// Writes what an answer that lists words with parts tells, and of any other answer its text behind the word.
+/// Writes what an answer that lists words with parts tells, the file of `picture FILE`, and of any other answer its text behind the
+/// word.
 fn put_list_answer(
     writer: &mut Writer,
     line: &str,
@@ -230,6 +231,7 @@ fn put_list_answer(
         _ if word == "sls" => put_list(writer, "links", LINK_PARTS, rest),
         _ if word == "messages" => put_list(writer, "messages", MESSAGE_PARTS, rest),
         _ if word == "mend" => put_list(writer, "links", MEND_PARTS, rest),
+        _ if word == "picture" => put_text(writer, "file", cut(line, Separator::Space).1),
         _ => put_text(writer, "text", cut(line, Separator::Space).1),
     }
 }

@@ -14,7 +14,8 @@
 //!    there are processors, checks each by the local rule, and writes `ok P` for P plans, or `bad X Y c` for the first
 //!    wrong one.
 //! 4. `route_desk picture NET` writes the network as a Graphviz DOT text, or with `--svg` as an SVG document; with `--about X`
-//!    it shows how traffic goes to the destination X.
+//!    it shows how traffic goes to the destination X. The words `picture FILE` and `picture FILE X` of a script write the picture of
+//!    what is published then to a file.
 //! 5. `route_desk import DIR` writes the network text that the tables points.csv, sets.csv and routes.csv of a folder say;
 //!    `route_desk export NET DIR` writes these tables.
 //! 6. If standard input is a terminal, `run NET` says on standard error how large the network is, and prompts for each line there.
@@ -33,6 +34,7 @@
 #![tactic(auto)]
 
 mod drawing;
+mod drawn;
 mod explaining;
 mod files;
 mod missing;

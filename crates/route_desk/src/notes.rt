@@ -1,6 +1,6 @@
 //! What a run reads and what it answers, line by line.
 
-use crate::sentences::{event_in, sentence_of};
+use crate::sentences::{event_in, sentence_of, write_sentence};
 use net_data::Net;
 use script_words::{Command, read_line};
 use sessions::load_text;
@@ -24,6 +24,8 @@ pub struct Notes {
     lost: bool,
     /// The network after all events that were taken, if it is known.
     net: Option<Box<Net>>,
+    /// Why the answer that comes next is a refusal, if that is known already.
+    reason: Option<String>,
 }
 
 /// A line without a carriage return at its end.
@@ -106,6 +108,7 @@ impl Notes {
             in_text,
             lost: false,
             net,
+            reason: None,
         }
     }
 
@@ -117,6 +120,11 @@ impl Notes {
     /// Notes of an input that starts with a network text.
     pub fn of_input(alloc: Global) -> Notes {
         Notes::new(alloc, true, None)
+    }
+
+    /// Notes why the answer that comes next is a refusal, if there was memory for the reason.
+    pub fn explain(&mut self, reason: Result<String, AllocError>) {
+        self.reason = reason.ok();
     }
 
     /// What was read and isn't answered yet.
@@ -171,6 +179,15 @@ impl Notes {
         Ok(())
     }
 
+    /// The sentence for the line that an answer ends, by the reason that is noted or by the answer.
+    fn sentence(&mut self, line: &[u8]) -> Result<Option<String>, AllocError> {
+        if let Some(reason) = self.reason.take() {
+            return Ok(Some(write_sentence(self.alloc, self.lines, reason.as_str())?));
+        }
+        let net = self.net.as_deref();
+        sentence_of(self.alloc, self.lines, line, self.answer.as_slice(), net)
+    }
+
     /// Ends an answer: the sentence for the line that it answers, if that is refused. What changed, told behind a reply, answers
     /// no line of its own.
     fn end_answer(&mut self) -> Result<Option<String>, AllocError> {
@@ -188,14 +205,7 @@ impl Notes {
         if self.answer.as_slice().starts_with(b"taken ") {
             self.take(line.as_slice())?;
         }
-        let net = self.net.as_deref();
-        sentence_of(
-            self.alloc,
-            self.lines,
-            line.as_slice(),
-            self.answer.as_slice(),
-            net,
-        )
+        self.sentence(line.as_slice())
     }
 
     /// Takes one byte that was written: the sentence for a line whose answer it ends, if that is refused.

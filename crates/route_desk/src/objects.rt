@@ -64,21 +64,17 @@ impl<'a, W: io::Write> io::Write for ObjectWriter<'a, W> {
     }
 }
 
-/// A place to tell that memory was refused, if answers are to be objects.
-pub fn place_if(json: bool) -> Option<Cell<bool>> {
+/// Where it is told that memory was refused, if answers are to be objects.
+pub fn place_if(json: bool, refused: &Cell<bool>) -> Option<&Cell<bool>> {
     if json {
-        return Some(Cell::new(false));
+        return Some(refused);
     }
     None
 }
 
-/// The end of a run: if memory for an object was refused, that was its fault.
-pub fn end_with(mut end: ScriptEnd, refused: Option<&Cell<bool>>) -> ScriptEnd {
-    let was_refused = match refused {
-        Some(refused) => refused.get(),
-        None => false,
-    };
-    if was_refused {
+/// The end of a run: if memory for an object or a picture was refused, that was its fault.
+pub fn end_with(mut end: ScriptEnd, refused: &Cell<bool>) -> ScriptEnd {
+    if refused.get() {
         end.fault = Some(Fault::OutOfMemory);
     }
     end

@@ -3,6 +3,7 @@
 use crate::places::{Place, place_at, place_of};
 use console::{Fault, write_fault};
 use explanations::find;
+use std::alloc::{AllocError, Global};
 use std::{fs, io};
 
 /// The number of a fault in its text: `62` of `62 BadLine sets 4`, and `27` of `plans 1: 27 BadRow 2-1-1 a`.
@@ -83,11 +84,18 @@ fn reason_in(text: &str) -> &str {
     }
 }
 
-/// Says why a file can't be read: `nofile: No such file or directory`.
+/// Why a file can't be read or written: `nofile: No such file or directory`.
+pub fn write_reason(alloc: Global, name: &str, error: &io::Error) -> Result<String, AllocError> {
+    let text = format!(in alloc; "{error}")?;
+    let reason = reason_in(text.as_str());
+    format!(in alloc; "{name}: {reason}")
+}
+
+/// Says why a file can't be read.
 pub fn explain_file(rt: &HostRuntime, name: &str, error: &io::Error) {
-    if let Ok(text) = format!(in rt.alloc(); "{error}") {
-        let reason = reason_in(text.as_str());
-        let _ = eprintln!(rt; "{name}: {reason}");
+    if let Ok(text) = write_reason(rt.alloc(), name, error) {
+        let text = text.as_str();
+        let _ = eprintln!(rt; "{text}");
     }
 }
 

@@ -3,8 +3,9 @@
 
 ghost use Rattle.std.specs.Prelude.{◌≤◌};
 
+use crate::drawn::PictureWriter;
 use crate::explaining::{NotedReader, NotedWriter};
-use crate::files::save_text;
+use crate::files::{fault_of, save_text};
 use crate::notes::Notes;
 use crate::objects::{Manner, ObjectWriter, end_with, place_if};
 use crate::reasons::{explain_fault, explain_file, explain_load, explain_text};
@@ -14,7 +15,8 @@ use console::{Fault, ScriptEnd, read_net, run_input, run_script};
 use net_data::Net;
 use net_saving::save;
 use std::alloc::Global;
-use std::cell::RefCell;
+use std::cell::{Cell, RefCell};
+use std::io::Printer;
 use std::sync::Wait;
 use std::thread::Threads;
 use std::{fs, io};
@@ -53,6 +55,22 @@ fn input_notes(alloc: Global, explained: bool) -> Option<RefCell<Notes>> {
     None
 }
 
+/// Standard output, with what is done to the answers on their way there: pictures go to their files, the rest is noted and made
+/// objects of JSON if that is wanted.
+type Answers<'a> = PictureWriter<'a, NotedWriter<'a, ObjectWriter<'a, Printer<'a, HostRuntime>>>>;
+
+/// The writer of a run's answers, with the notes that it keeps, and where it tells that memory was refused.
+fn answers_to<'a>(
+    rt: &'a HostRuntime,
+    notes: Option<&'a RefCell<Notes>>,
+    refused: &'a Cell<bool>,
+    json: bool,
+) -> Answers<'a> {
+    let objects = ObjectWriter::new(rt.alloc(), place_if(json, refused), io::writer(rt));
+    let noted = NotedWriter::new(rt, notes, objects);
+    PictureWriter::new(rt, refused, notes, noted)
+}
+
 /// Runs the script of a reader from a network, in line or beside that many workers.
 fn run_over<R: io::Read + Drop, W: io::Write + Drop>(
     rt: &HostRuntime,
@@ -86,12 +104,11 @@ fn run_from(
         greet(rt, &net);
     }
     let notes = script_notes(alloc, &net, manner.explained);
-    let refused = place_if(manner.json);
+    let refused = Cell::new(false);
     let reader = NotedReader::new(notes.as_ref(), Prompting::new(rt, rt.reader(), wanted));
-    let objects = ObjectWriter::new(alloc, refused.as_ref(), io::writer(rt));
-    let writer = NotedWriter::new(rt, notes.as_ref(), objects);
+    let writer = answers_to(rt, notes.as_ref(), &refused, manner.json);
     let end = run_over(rt, threads, net, workers, reader, writer);
-    end_with(end, refused.as_ref())
+    end_with(end, &refused)
 }
 
 /// Runs the network text and the script of an input, in line or beside that many workers.
@@ -127,12 +144,11 @@ fn run_whole(
     requires { workers ≤ 32 }
 {
     let notes = input_notes(rt.alloc(), manner.explained);
-    let refused = place_if(manner.json);
+    let refused = Cell::new(false);
     let reader = NotedReader::new(notes.as_ref(), rt.reader());
-    let objects = ObjectWriter::new(rt.alloc(), refused.as_ref(), io::writer(rt));
-    let writer = NotedWriter::new(rt, notes.as_ref(), objects);
+    let writer = answers_to(rt, notes.as_ref(), &refused, manner.json);
     let end = run_input_from(rt, threads, workers, reader, writer);
-    let end = end_with(end, refused.as_ref());
+    let end = end_with(end, &refused);
     if let (Some(notes), Some(Fault::Load(fault))) = (&notes, end.fault) {
         explain_input(rt, notes, Fault::Load(fault));
     }
@@ -147,12 +163,11 @@ fn play_from<R: io::Read + Drop>(
     manner: Manner,
 ) -> ScriptEnd {
     let notes = script_notes(rt.alloc(), &net, manner.explained);
-    let refused = place_if(manner.json);
+    let refused = Cell::new(false);
     let mut reader = NotedReader::new(notes.as_ref(), script);
-    let objects = ObjectWriter::new(rt.alloc(), refused.as_ref(), io::writer(rt));
-    let mut writer = NotedWriter::new(rt, notes.as_ref(), objects);
+    let mut writer = answers_to(rt, notes.as_ref(), &refused, manner.json);
     let end = run_script(rt.alloc(), &mut reader, &mut writer, net);
-    end_with(end, refused.as_ref())
+    end_with(end, &refused)
 }
 
 /// Runs the script of a file from the network of another.
@@ -194,7 +209,7 @@ pub fn run_net(
 /// Writes the network to a file.
 fn save_net(rt: &HostRuntime, net: &Net, name: &str) -> Result<(), Fault> {
     match save(rt.alloc(), net) {
-        Ok(text) => save_text(rt, name, text.as_str()),
+        Ok(text) => save_text(rt, name, text.as_str()).map_err(|error| fault_of(&error)),
         Err(_) => Err(Fault::OutOfMemory),
     }
 }

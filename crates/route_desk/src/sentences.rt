@@ -253,6 +253,11 @@ fn write_reason(
     write_refused(alloc, line, title, net)
 }
 
+/// The sentence for the line of a number.
+pub fn write_sentence(alloc: Global, number: u64, reason: &str) -> Result<String, AllocError> {
+    format!(in alloc; "line {number}: {reason}")
+}
+
 /// The sentence for a line by its answer, if that is a refusal.
 pub fn sentence_of(
     alloc: Global,
@@ -266,6 +271,5 @@ pub fn sentence_of(
     };
     let title = refusal.split_ascii_whitespace().next().unwrap_or("");
     let reason = write_reason(alloc, text_of(line), title, net)?;
-    let reason = reason.as_str();
-    Ok(Some(format!(in alloc; "line {number}: {reason}")?))
+    Ok(Some(write_sentence(alloc, number, reason.as_str())?))
 }

@@ -1,6 +1,6 @@
 //! The three tables of a folder, which a spreadsheet reads and writes.
 
-use crate::files::save_text;
+use crate::files::{fault_of, save_text};
 use answers::put_refusal;
 use console::Fault;
 use net_data::Net;
@@ -95,7 +95,9 @@ fn write_sheet(
     text: Result<String, AllocError>,
 ) -> Result<(), Fault> {
     match (path_of(rt.alloc(), dir, sheet), text) {
-        (Ok(path), Ok(text)) => save_text(rt, path.as_str(), text.as_str()),
+        (Ok(path), Ok(text)) => {
+            save_text(rt, path.as_str(), text.as_str()).map_err(|error| fault_of(&error))
+        }
         _ => Err(Fault::OutOfMemory),
     }
 }

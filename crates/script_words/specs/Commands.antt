@@ -2,7 +2,7 @@
 use Rattle.std.specs.Prelude.{ℕ, ◌<◌, Bool, true, false, if◌then◌else◌, List, [], ◌∷◌, Option, Some, None, option_map, option_and_then, codes}
 use Rattle.std.specs.List.{slice_split}
 use Rattle.std.specs.Option.{option_map_or}
-use Rattle.std.specs.Str.{bytes_eq}
+use Rattle.std.specs.Str.{bytes_eq, is_utf8}
 use Rattle.point_codes.specs.Codes.{code_of}
 use Rattle.net_data.specs.declared.events.Event.{Event}
 use Rattle.tokens.specs.Pieces.{all_of}
@@ -53,6 +53,21 @@ abbrev pub switch_of : List (List ℕ) → Option Bool
 switch_of (what ∷ []) = if bytes_eq what (codes "on") then Some true else if bytes_eq what (codes "off") then Some false else None
 switch_of _ = None
 
+-- the name of a file: a text in UTF-8
+abbrev pub name_of : List ℕ → Option (List ℕ)
+name_of word = if is_utf8 word then Some word else None
+
+-- no word, or `X`
+abbrev pub destination_of : List (List ℕ) → Option (Option ℕ)
+destination_of [] = Some None
+destination_of (x ∷ []) = option_map (λ x. Some x) (code_of x)
+destination_of _ = None
+
+-- `FILE` or `FILE X`
+abbrev pub picture_of : List (List ℕ) → Option Command
+picture_of (file ∷ rest) = option_and_then (λ about. option_map (λ name. Command.Picture name about) (name_of file)) (destination_of rest)
+picture_of [] = None
+
 -- the words before, between and after the words `;`, piece by piece
 abbrev pub pieces_at : List (List ℕ) → List (List (List ℕ))
 pieces_at words = slice_split (λ w. bytes_eq w (codes ";")) words
@@ -76,6 +91,7 @@ desk_word_of text =
     else if bytes_eq text (codes "audit") then Some word.Audit
     else if bytes_eq text (codes "changes") then Some word.Changes
     else if bytes_eq text (codes "watch") then Some word.Watch
+    else if bytes_eq text (codes "picture") then Some word.Picture
     else None
 
 -- the first word of a command that is no event
@@ -130,6 +146,8 @@ command_by word.Audit rest = alone Command.Audit rest
 command_by word.Changes rest = alone Command.Changes rest
 -- `watch on` and `watch off`
 command_by word.Watch rest = option_map (λ is_on. Command.Watch is_on) (switch_of rest)
+-- `picture FILE` and `picture FILE X`
+command_by word.Picture rest = picture_of rest
 
 -- the command that the words of a line say: by its first word if that is a command's, else the line is an EVENT
 abbrev pub command_of : List (List ℕ) → Option Command

@@ -46,6 +46,8 @@ pub enum CommandWord {
     Changes,
     /// `watch`.
     Watch,
+    /// `picture`.
+    Picture,
 }
 
 /// The first word of a command that is neither an event nor a question about a row.
@@ -65,6 +67,7 @@ fn read_desk_word(word: &[u8]) -> Option<CommandWord>
         _ if is_word(word, "audit") => Some(CommandWord::Audit),
         _ if is_word(word, "changes") => Some(CommandWord::Changes),
         _ if is_word(word, "watch") => Some(CommandWord::Watch),
+        _ if is_word(word, "picture") => Some(CommandWord::Picture),
         _ => None,
     }
 }

@@ -1,6 +1,6 @@
-//! Commands, and lists of events.
+//! Commands, lists of events, and names of files.
 
-ghost use Rattle.std.specs.Prelude.{◌≡◌};
+ghost use Rattle.std.specs.Prelude.{◌≡◌, string_bytes};
 
 use crate::questions::Question;
 use net_data::Event;
@@ -38,6 +38,36 @@ impl Events {
     }
 }
 
+/// The name of a file. Contracts see its bytes.
+#[derive(Drop)]
+pub struct FileName {
+    text: String,
+}
+
+impl Model for FileName {
+    ghost use Rattle.std.specs.Prelude.{ℕ, List, string_bytes};
+
+    ghost Value = { List ℕ };
+
+    ghost view = { λ name. string_bytes name.text };
+}
+
+impl FileName {
+    /// The name that a text is.
+    pub fn from_string(text: String) -> FileName
+        ensures { result ≡ string_bytes text }
+    {
+        FileName { text }
+    }
+
+    /// The name as a text.
+    pub fn as_str(&self) -> &str
+        ensures { result.now ≡ self.now }
+    {
+        self.text.as_str()
+    }
+}
+
 /// What a line commands.
 #[derive(Drop)]
 pub enum Command {
@@ -71,4 +101,6 @@ pub enum Command {
     Changes,
     /// What each publication changes is told behind its reply from now on, or no more.
     Watch(bool),
+    /// A picture of the published network is asked, for a file, about a destination if one is named.
+    Picture(FileName, Option<PointCode>),
 }

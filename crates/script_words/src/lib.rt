@@ -21,7 +21,8 @@
 //! 10. `open`, `publish`, `sync`, `version`, `audit` and `changes` stand alone; `take K`, `give K` and `abandon K` name a slot, 0 to
 //!     31; `watch on` and `watch off`.
 //! 11. `status Y X`, `sls Y X`, `messages Y X`, `octets Y Z X`, `why Y X` and `mend Y X`: a question about the row of the point Y
-//!     in the table of the destination X; `trace Y X S`: the trace of the signalling link selection S, 0 to 15.
+//!     in the table of the destination X; `trace Y X S`: the trace of the signalling link selection S, 0 to 15; `picture FILE` and
+//!     `picture FILE X`: a picture for a file, whose name is a text in UTF-8.
 //! 12. `whatif EVENT ; EVENT ..`: what the events would change. `;` is a word of its own between two events, and there is
 //!     at least one EVENT.
 //! 13. Words are read exactly if they are what is written of their event or command: no other word, and none too many or
@@ -40,13 +41,14 @@ pub mod laws;
 mod lines;
 mod lists;
 mod numbers;
+mod pictures;
 mod queries;
 pub mod questions;
 mod verbs;
 mod what_ifs;
 mod words;
 
-pub use commands::{Command, Events};
+pub use commands::{Command, Events, FileName};
 pub use edits::{read_added_point, read_pair, read_plan};
 pub use events::read_event;
 pub use laws::{event_law, sequence_law};

@@ -8,6 +8,7 @@ use crate::command_words::{CommandWord, read_command_word};
 use crate::commands::Command;
 use crate::events::read_event_by;
 use crate::numbers::{read_collector, read_sequence, read_slot};
+use crate::pictures::read_picture;
 use crate::queries::{read_about, read_octets, read_trace};
 use crate::questions::Question;
 use crate::read_event;
@@ -79,9 +80,9 @@ fn read_post(alloc: Global, words: &[&[u8]]) -> Result<Option<Command>, AllocErr
     }
 }
 
-/// The command of a first word that no event follows, and the words after it.
-fn read_without_events(word: CommandWord, rest: &[&[u8]]) -> Option<Command>
-    requires { (word ≢ CommandWord.WhatIf) × (word ≢ CommandWord.Post) }
+/// The command of a first word that neither an event nor a file follows, and the words after it.
+fn read_plain(word: CommandWord, rest: &[&[u8]]) -> Option<Command>
+    requires { (word ≢ CommandWord.WhatIf) × (word ≢ CommandWord.Post) × (word ≢ CommandWord.Picture) }
     ensures value { result ≡ command_by word (map (λ w. w.now) rest.now) }
     ensures within { IfSome result IsWithin }
 {
@@ -103,7 +104,7 @@ fn read_without_events(word: CommandWord, rest: &[&[u8]]) -> Option<Command>
         CommandWord::Audit => only(Command::Audit, rest),
         CommandWord::Changes => only(Command::Changes, rest),
         CommandWord::Watch => read_switch(rest).map(Command::Watch),
-        CommandWord::WhatIf | CommandWord::Post => unreachable!(),
+        CommandWord::WhatIf | CommandWord::Post | CommandWord::Picture => unreachable!(),
     }
 }
 
@@ -115,7 +116,8 @@ fn read_by(alloc: Global, word: CommandWord, rest: &[&[u8]]) -> Result<Option<Co
     match word {
         CommandWord::WhatIf => Ok(read_events(alloc, rest)?.map(Command::WhatIf)),
         CommandWord::Post => read_post(alloc, rest),
-        _ => Ok(read_without_events(word, rest)),
+        CommandWord::Picture => read_picture(alloc, rest),
+        _ => Ok(read_plain(word, rest)),
     }
 }
 

@@ -40,6 +40,10 @@ pub returns-clause-help : goal.returns-clause-help
 unfolding told after_number
 returns-clause-help c = λ text. refl
 
+pub returns-clause-picture : goal.returns-clause-picture
+unfolding told after_number
+returns-clause-picture c = λ file. refl
+
 pub returns-clause-watch_on : goal.returns-clause-watch_on
 unfolding told after_number
 returns-clause-watch_on c = refl

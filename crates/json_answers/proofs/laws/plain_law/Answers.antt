@@ -74,6 +74,10 @@ pub returns-clause-bad_line : goal.returns-clause-bad_line
 unfolding after_number
 returns-clause-bad_line c = refl
 
+pub returns-clause-unwritten : goal.returns-clause-unwritten
+unfolding after_number
+returns-clause-unwritten c = refl
+
 -- the object of a refusal in a what-if
 placed : List ℕ → List ℕ → Json → List (List ℕ × Json)
 placed digits name v = (codes "refused", number digits) ∷ text_member (codes "name") name ∷ (codes "at", v) ∷ []

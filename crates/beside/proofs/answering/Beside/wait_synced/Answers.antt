@@ -1,6 +1,4 @@
-use Rattle.std.proofs.Common.{◌≡◌, ◌≤◌, ◌∙◌, sym, subst}
-use Rattle.desk_core.specs.Desk.{accepted}
-use Rattle.versions.specs.declared.state.DeskAndChain.{DeskAndChain}
+use Rattle.std.proofs.Common.{◌∙◌}
 use Rattle.beside.proofs.BesideLemmas.{looks_later}
 use Rattle.beside.proofs.answering.Beside.wait_synced.Goals as goal
 
