@@ -17,9 +17,9 @@ use script_words::{Command, read_line};
 use sessions::{Answering, Fault};
 use std::alloc::{AllocError, Global};
 use std::marker::Model;
-use std::sync::{Arc, Condvar, Mutex, Wait};
+use std::sync::{Arc, Mutex, Wait};
 use versions::{ByClient, Hub, Naming, Version};
-use worker_pool::lend_a_hand;
+use worker_pool::{Signals, is_at_rest, lend_a_hand};
 
 /// Who answers a script beside workers: it comes to their hub under its lock, and reads what is published without it. Contracts
 /// see how it left the hub, and what it has seen.
@@ -27,7 +27,7 @@ use worker_pool::lend_a_hand;
 pub struct Beside<'a, N: Naming, R: Wait> {
     pub(crate) rt: &'a R,
     pub(crate) hub: &'a Mutex<Hub<N, ByClient>>,
-    pub(crate) changed: &'a Condvar,
+    pub(crate) signals: &'a Signals,
     pub(crate) visitor: Visitor<N>,
 }
 
@@ -46,10 +46,11 @@ impl<'a, N: Naming, R: Wait> Beside<'a, N, R> {
         ensures plain { IfOk result (λ answer. line_count answer ≡ 0) }
         ensures fault { IfErr result (CutsOff (Unit {0})) }
     {
-        let answer = self
-            .visitor
-            .post_next(self.rt, alloc, &mut *self.hub.lock(self.rt), event);
-        self.changed.notify_all();
+        let mut guard = self.hub.lock(self.rt);
+        let rested = is_at_rest(&guard);
+        let answer = self.visitor.post_next(self.rt, alloc, &mut *guard, event);
+        drop(guard);
+        self.signals.tell_post(rested);
         answer
     }
 
@@ -65,15 +66,13 @@ impl<'a, N: Naming, R: Wait> Beside<'a, N, R> {
         ensures plain { IfOk result (λ answer. line_count answer ≡ 0) }
         ensures fault { IfErr result (CutsOff (Unit {0})) }
     {
-        let answer = self.visitor.post(
-            self.rt,
-            alloc,
-            &mut *self.hub.lock(self.rt),
-            collector,
-            seq,
-            event,
-        );
-        self.changed.notify_all();
+        let mut guard = self.hub.lock(self.rt);
+        let rested = is_at_rest(&guard);
+        let answer = self
+            .visitor
+            .post(self.rt, alloc, &mut *guard, collector, seq, event);
+        drop(guard);
+        self.signals.tell_post(rested);
         answer
     }
 
@@ -87,18 +86,18 @@ impl<'a, N: Naming, R: Wait> Beside<'a, N, R> {
             .version(self.rt, alloc, &mut *self.hub.lock(self.rt))
     }
 
-    /// Waits for a change, unless all that was accepted is published; does a piece of the workers' work if there are none.
+    /// Waits for a publication, unless all that was accepted is published; does a piece of the workers' work if there are none.
     fn wait(&self, alloc: Global) -> Result<(), AllocError> {
         let guard = self.hub.lock(self.rt);
         if guard.desk().published().number() >= self.visitor.accepted() {
             return Ok(());
         }
         if guard.living() > 0 {
-            drop(self.changed.wait(self.rt, guard));
+            drop(self.signals.wait_for_news(self.rt, guard));
             return Ok(());
         }
         drop(guard);
-        lend_a_hand(self.rt, alloc, self.hub, self.changed)
+        lend_a_hand(self.rt, alloc, self.hub, self.signals)
     }
 
     /// Looks, and waits for a change if not all that was accepted is shown: the version that shows it.
@@ -207,7 +206,7 @@ impl<'a, N: Naming, R: Wait> Answering for Beside<'a, N, R> {
         let Beside {
             rt,
             hub,
-            changed: _,
+            signals: _,
             visitor,
         } = self;
         visitor.leave(rt, alloc, &mut *hub.lock(rt))

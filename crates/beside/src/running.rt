@@ -17,10 +17,10 @@ use sessions::{Fault, ended_by, load_text, read_text};
 use std::alloc::{AllocError, Global};
 use std::io::{Read, Write};
 use std::marker::Brand;
-use std::sync::{Condvar, Mutex, Wait};
+use std::sync::{Mutex, Wait};
 use std::thread::Threads;
 use versions::{ByClient, Client, Hub, Naming, UnnamedWithClient};
-use worker_pool::{Gate, run_pool};
+use worker_pool::{Gate, Signals, run_pool};
 
 /// A hub and its client that have no name yet, over a new desk.
 fn open_hub<R: Wait>(rt: &R, alloc: Global, net: Net) -> Result<UnnamedWithClient, AllocError>
@@ -65,11 +65,11 @@ fn read_beside<
     requires ready { S.ready script }
     ensures { S.ran script visitor (R.remaining reader) (R.remaining result.reader) (W.contents writer) (W.contents result.writer) result.end }
 {
-    let changed = Condvar::new();
+    let signals = Signals::new();
     let beside = Beside {
         rt,
         hub,
-        changed: &changed,
+        signals: &signals,
         visitor,
     };
     let (_, end) = run_pool(
@@ -77,7 +77,7 @@ fn read_beside<
         alloc,
         n,
         hub,
-        &changed,
+        &signals,
         gate,
         || -> BesideEnd<R, W>
             requires { S.ready script }

@@ -5,13 +5,13 @@ use net_data::Event;
 use std::alloc::Global;
 use std::process::ExitCode;
 use std::sync::atomic::{AtomicBool, AtomicU64, Ordering};
-use std::sync::{Condvar, Mutex, Wait};
+use std::sync::{Mutex, Wait};
 use std::thread::Threads;
 use std::time::Instant;
 use std::{io, thread};
 use versions::{Hub, Naming, Reader};
 use work_units::Refusal;
-use worker_pool::{Plain, run_pool};
+use worker_pool::{Plain, Signals, is_at_rest, run_pool};
 
 /// How many threads there are of each kind, and how many events they post in all.
 #[derive(Clone, Copy)]
@@ -35,25 +35,26 @@ struct Tally {
     again: AtomicU64,
 }
 
-/// One post of a collector: whether it was accepted. If too many events wait it waits for a change.
+/// One post of a collector: whether it was accepted. If too many events wait it waits for a publication.
 fn post_one<N: Naming, R: Wait>(
     rt: &R,
     alloc: Global,
     hub: &Mutex<Hub<N>>,
-    changed: &Condvar,
+    signals: &Signals,
     collector: u8,
     seq: u64,
     event: Event,
 ) -> bool {
     let mut guard = hub.lock(rt);
+    let rested = is_at_rest(&guard);
     match guard.post(alloc, collector, seq, event) {
         Err(Refusal::BacklogFull) => {
-            drop(changed.wait(rt, guard));
+            drop(signals.wait_for_news(rt, guard));
             false
         }
         _ => {
             drop(guard);
-            changed.notify_all();
+            signals.tell_post(rested);
             true
         }
     }
@@ -73,7 +74,7 @@ fn collect<N: Naming, R: Wait>(
     rt: &R,
     alloc: Global,
     hub: &Mutex<Hub<N>>,
-    changed: &Condvar,
+    signals: &Signals,
     tally: &Tally,
     collector: u8,
     id: u16,
@@ -85,7 +86,7 @@ fn collect<N: Naming, R: Wait>(
             return;
         }
         let next = seq.saturating_add(1);
-        if post_one(rt, alloc, hub, changed, collector, next, change(id, next)) {
+        if post_one(rt, alloc, hub, signals, collector, next, change(id, next)) {
             seq = next;
         } else {
             tally.again.fetch_add(1, Ordering::SeqCst);
@@ -133,13 +134,13 @@ pub(crate) fn reader_at<N: Naming, R: Wait>(rt: &R, hub: &Mutex<Hub<N>>) -> Opti
 }
 
 /// Waits until that many events are published.
-fn wait_for<N: Naming, R: Wait>(rt: &R, hub: &Mutex<Hub<N>>, changed: &Condvar, number: u64) {
+fn wait_for<N: Naming, R: Wait>(rt: &R, hub: &Mutex<Hub<N>>, signals: &Signals, number: u64) {
     for _ in rt.forever() {
         let guard = hub.lock(rt);
         if guard.desk().published().number() >= number {
             return;
         }
-        drop(changed.wait(rt, guard));
+        drop(signals.wait_for_news(rt, guard));
     }
     unreachable!()
 }
@@ -168,7 +169,7 @@ fn post_all<N: Naming + Send + Sync, R: Threads + Wait + Sync>(
     rt: &R,
     alloc: Global,
     hub: &Mutex<Hub<N>>,
-    changed: &Condvar,
+    signals: &Signals,
     tally: &Tally,
     load: Soak,
     ids: &[u16],
@@ -178,10 +179,10 @@ fn post_all<N: Naming + Send + Sync, R: Threads + Wait + Sync>(
         for collector in 0..load.collectors {
             let id = set_of(ids, collector);
             let started = scope.spawn(move || {
-                collect(rt, alloc, hub, changed, tally, collector, id, share)
+                collect(rt, alloc, hub, signals, tally, collector, id, share)
             });
             if started.is_err() {
-                collect(rt, alloc, hub, changed, tally, collector, id, share);
+                collect(rt, alloc, hub, signals, tally, collector, id, share);
             }
         }
     });
@@ -192,14 +193,14 @@ fn post_and_wait<N: Naming + Send + Sync, R: Threads + Wait + Sync>(
     rt: &R,
     alloc: Global,
     hub: &Mutex<Hub<N>>,
-    changed: &Condvar,
+    signals: &Signals,
     tally: &Tally,
     load: Soak,
     ids: &[u16],
 ) {
-    post_all(rt, alloc, hub, changed, tally, load, ids);
+    post_all(rt, alloc, hub, signals, tally, load, ids);
     let accepted = hub.lock(rt).desk().accepted();
-    wait_for(rt, hub, changed, accepted);
+    wait_for(rt, hub, signals, accepted);
     tally.done.store(true, Ordering::SeqCst);
 }
 
@@ -208,7 +209,7 @@ fn drive<N: Naming + Send + Sync, R: Threads + Wait + Sync>(
     rt: &R,
     alloc: Global,
     hub: &Mutex<Hub<N>>,
-    changed: &Condvar,
+    signals: &Signals,
     tally: &Tally,
     load: Soak,
     ids: &[u16],
@@ -219,7 +220,7 @@ fn drive<N: Naming + Send + Sync, R: Threads + Wait + Sync>(
                 let _ = scope.spawn(move || watch(rt, reader, tally));
             }
         }
-        post_and_wait(rt, alloc, hub, changed, tally, load, ids);
+        post_and_wait(rt, alloc, hub, signals, tally, load, ids);
     });
 }
 
@@ -272,9 +273,9 @@ fn run_threads<N: Naming + Send + Sync, R: Threads + Wait + Sync>(
 ) {
     let workers = load.workers.clamp(1, 32);
     let ids = set_ids(alloc, &*hub.lock(threads));
-    let changed = Condvar::new();
-    run_pool(threads, alloc, workers, hub, &changed, &Plain, || {
-        drive(threads, alloc, hub, &changed, tally, load, ids.as_slice())
+    let signals = Signals::new();
+    run_pool(threads, alloc, workers, hub, &signals, &Plain, || {
+        drive(threads, alloc, hub, &signals, tally, load, ids.as_slice())
     });
 }
 

@@ -5,11 +5,12 @@ use link_state::LinkChange;
 use net_data::Event;
 use std::alloc::Global;
 use std::process::ExitCode;
-use std::sync::{Condvar, Mutex, Wait};
+use std::sync::{Mutex, Wait};
 use std::thread::Threads;
 use std::time::Instant;
 use std::{io, thread};
 use versions::{Hub, Naming, Reader};
+use worker_pool::{Signals, is_at_rest};
 
 /// Which way a reader looks.
 #[derive(Clone, Copy)]
@@ -66,12 +67,15 @@ fn post<N: Naming, R: Wait>(
     rt: &R,
     alloc: Global,
     hub: &Mutex<Hub<N>>,
-    changed: &Condvar,
+    signals: &Signals,
     seq: u64,
     event: Event,
 ) {
-    let _ = hub.lock(rt).post(alloc, 0, seq, event);
-    changed.notify_all();
+    let mut guard = hub.lock(rt);
+    let rested = is_at_rest(&guard);
+    let _ = guard.post(alloc, 0, seq, event);
+    drop(guard);
+    signals.tell_post(rested);
 }
 
 /// Posts one after the other.
@@ -79,12 +83,12 @@ fn post_all<N: Naming, R: Wait>(
     rt: &R,
     alloc: Global,
     hub: &Mutex<Hub<N>>,
-    changed: &Condvar,
+    signals: &Signals,
     count: u64,
 ) {
     for seq in 0..count {
         let event = Event::Link(1, 0, LinkChange::Fail);
-        post(rt, alloc, hub, changed, seq + 1, event);
+        post(rt, alloc, hub, signals, seq + 1, event);
     }
 }
 
@@ -95,9 +99,9 @@ pub(crate) fn time_posts<N: Naming, R: Wait>(
     hub: &Mutex<Hub<N>>,
     count: u64,
 ) -> io::Result<u128> {
-    let changed = Condvar::new();
+    let signals = Signals::new();
     let start = Instant::now(rt)?;
-    post_all(threads, rt.alloc(), hub, &changed, count);
+    post_all(threads, rt.alloc(), hub, &signals, count);
     Ok(start.elapsed(rt)?.as_nanos())
 }
 

@@ -7,25 +7,27 @@ use desk_core::{Posted, Refusal};
 use std::alloc::Global;
 use std::marker::Brand;
 use std::process::Abort;
-use std::sync::{Condvar, Mutex, Wait};
+use std::sync::{Mutex, Wait};
 use std::thread::Threads;
 use versions::{ByClient, Client, Hub, Naming, UnnamedWithClient};
-use worker_pool::{Plain, run_pool};
+use worker_pool::{Plain, Signals, is_at_rest, run_pool};
 
-/// The client posts a change of the link 4 0.
+/// The client posts a change of the link 4 0. Whether all was published before is told too.
 fn post<N: Naming, R: Wait>(
     rt: &R,
     alloc: Global,
     hub: &Mutex<Hub<N, ByClient>>,
     client: &mut Client<N>,
     seq: u64,
-) -> Result<Posted, Refusal> {
+) -> (bool, Result<Posted, Refusal>) {
     let event = if seq % 2 == 1 {
         fail(4, 0)
     } else {
         restore(4, 0)
     };
-    client.post(rt, alloc, &mut *hub.lock(rt), 0, seq, event)
+    let mut guard = hub.lock(rt);
+    let rested = is_at_rest(&guard);
+    (rested, client.post(rt, alloc, &mut *guard, 0, seq, event))
 }
 
 /// The client's post is taken, and the workers are told.
@@ -33,12 +35,12 @@ fn expect_taken<N: Naming, R: Wait + Abort>(
     rt: &R,
     alloc: Global,
     hub: &Mutex<Hub<N, ByClient>>,
-    changed: &Condvar,
+    signals: &Signals,
     client: &mut Client<N>,
     seq: u64,
 ) {
-    let posted = post(rt, alloc, hub, client, seq);
-    changed.notify_all();
+    let (rested, posted) = post(rt, alloc, hub, client, seq);
+    signals.tell_post(rested);
     assert_eq!(rt; posted, Ok(Posted::Taken(seq)));
 }
 
@@ -47,12 +49,12 @@ fn drive<N: Naming, R: Wait + Abort>(
     rt: &R,
     alloc: Global,
     hub: &Mutex<Hub<N, ByClient>>,
-    changed: &Condvar,
+    signals: &Signals,
     client: &mut Client<N>,
 ) {
     for seq in 1..21u64 {
-        expect_taken(rt, alloc, hub, changed, client, seq);
-        wait_for(rt, hub, changed, seq);
+        expect_taken(rt, alloc, hub, signals, client, seq);
+        wait_for(rt, hub, signals, seq);
         client.visit(rt, &mut *hub.lock(rt));
     }
 }
@@ -64,9 +66,9 @@ fn run_client<N: Naming + Send + Sync, R: Threads + Wait + Abort + Sync>(
     hub: &Mutex<Hub<N, ByClient>>,
     client: &mut Client<N>,
 ) {
-    let changed = Condvar::new();
-    run_pool(rt, alloc, 2, hub, &changed, &Plain, || {
-        drive(rt, alloc, hub, &changed, client)
+    let signals = Signals::new();
+    run_pool(rt, alloc, 2, hub, &signals, &Plain, || {
+        drive(rt, alloc, hub, &signals, client)
     });
 }
 

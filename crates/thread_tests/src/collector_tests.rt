@@ -3,23 +3,41 @@
 ghost use Rattle.std.specs.Prelude.{◌≡◌};
 
 use crate::samples::{expect_ended, fail, restore, wait_for, worked_desk};
+use net_data::Event;
 use profile::Table;
 use route_choice::Far;
 use sample_nets::code;
 use std::alloc::Global;
 use std::marker::Brand;
 use std::process::Abort;
-use std::sync::{Condvar, Mutex, Wait};
+use std::sync::{Mutex, Wait};
 use std::thread::{Threads, join};
 use versions::{Hub, Naming, Note, Reader, Unnamed, Version};
-use worker_pool::{Plain, run_pool};
+use worker_pool::{Plain, Signals, is_at_rest, run_pool};
+
+/// A collector posts an event, and the workers are told.
+fn post<N: Naming, R: Wait>(
+    rt: &R,
+    alloc: Global,
+    hub: &Mutex<Hub<N>>,
+    signals: &Signals,
+    collector: u8,
+    seq: u64,
+    event: Event,
+) {
+    let mut guard = hub.lock(rt);
+    let rested = is_at_rest(&guard);
+    let _ = guard.post(alloc, collector, seq, event);
+    drop(guard);
+    signals.tell_post(rested);
+}
 
 /// A collector posts changes of the link 3 0 in turn.
 fn collect<N: Naming, R: Wait>(
     rt: &R,
     alloc: Global,
     hub: &Mutex<Hub<N>>,
-    changed: &Condvar,
+    signals: &Signals,
     collector: u8,
 ) {
     for seq in 1..1001u64 {
@@ -28,8 +46,7 @@ fn collect<N: Naming, R: Wait>(
         } else {
             restore(3, 0)
         };
-        let _ = hub.lock(rt).post(alloc, collector, seq, event);
-        changed.notify_all();
+        post(rt, alloc, hub, signals, collector, seq, event);
     }
 }
 
@@ -38,13 +55,13 @@ fn collect_all<N: Naming + Sync, R: Threads + Wait + Sync>(
     rt: &R,
     alloc: Global,
     hub: &Mutex<Hub<N>>,
-    changed: &Condvar,
+    signals: &Signals,
 ) {
-    let post = |collector: u8| collect(rt, alloc, hub, changed, collector);
+    let run = |collector: u8| collect(rt, alloc, hub, signals, collector);
     join(
         rt,
-        || join(rt, || post(0), || post(1)),
-        || join(rt, || post(2), || post(3)),
+        || join(rt, || run(0), || run(1)),
+        || join(rt, || run(2), || run(3)),
     );
 }
 
@@ -53,12 +70,11 @@ fn drive<N: Naming + Sync, R: Threads + Wait + Abort + Sync>(
     rt: &R,
     alloc: Global,
     hub: &Mutex<Hub<N>>,
-    changed: &Condvar,
+    signals: &Signals,
 ) -> Note<N> {
-    collect_all(rt, alloc, hub, changed);
-    let _ = hub.lock(rt).post(alloc, 4, 1, fail(4, 0));
-    changed.notify_all();
-    wait_for(rt, hub, changed, 4001);
+    collect_all(rt, alloc, hub, signals);
+    post(rt, alloc, hub, signals, 4, 1, fail(4, 0));
+    wait_for(rt, hub, signals, 4001);
     hub.lock(rt).note().expect(rt, "a note")
 }
 
@@ -103,9 +119,9 @@ fn run_collectors<N: Naming + Send + Sync, R: Threads + Wait + Abort + Sync>(
     alloc: Global,
     hub: &Mutex<Hub<N>>,
 ) -> Note<N> {
-    let changed = Condvar::new();
-    run_pool(rt, alloc, 2, hub, &changed, &Plain, || {
-        drive(rt, alloc, hub, &changed)
+    let signals = Signals::new();
+    run_pool(rt, alloc, 2, hub, &signals, &Plain, || {
+        drive(rt, alloc, hub, &signals)
     })
     .1
 }

@@ -8,11 +8,11 @@ use sample_nets::code;
 use std::alloc::Global;
 use std::marker::Brand;
 use std::process::Abort;
-use std::sync::{Condvar, Mutex, Wait};
+use std::sync::{Mutex, Wait};
 use std::thread::Threads;
 use versions::{Hub, Naming, Unnamed};
 use work_units::{Settled, settle};
-use worker_pool::{PoolEnd, run_pool};
+use worker_pool::{PoolEnd, Signals, run_pool};
 
 /// Two workers beside a wait for the first version.
 fn run_two<N: Naming + Send + Sync, R: Threads + Wait + Sync>(
@@ -21,9 +21,9 @@ fn run_two<N: Naming + Send + Sync, R: Threads + Wait + Sync>(
     hub: &Mutex<Hub<N>>,
     gate: &Holding,
 ) -> PoolEnd {
-    let changed = Condvar::new();
-    run_pool(rt, alloc, 2, hub, &changed, gate, || {
-        wait_for(rt, hub, &changed, 1)
+    let signals = Signals::new();
+    run_pool(rt, alloc, 2, hub, &signals, gate, || {
+        wait_for(rt, hub, &signals, 1)
     })
     .0
 }
@@ -60,13 +60,13 @@ fn two_workers_work_at_once(rt: HostRuntime) {
 }
 
 /// Waits until no worker lives.
-fn wait_alone<N: Naming, R: Wait>(rt: &R, hub: &Mutex<Hub<N>>, changed: &Condvar) {
+fn wait_alone<N: Naming, R: Wait>(rt: &R, hub: &Mutex<Hub<N>>, signals: &Signals) {
     for _ in rt.forever() {
         let guard = hub.lock(rt);
         if guard.living() == 0 {
             return;
         }
-        drop(changed.wait(rt, guard));
+        drop(signals.wait_for_news(rt, guard));
     }
     unreachable!()
 }
@@ -77,9 +77,9 @@ fn run_refused<N: Naming + Send + Sync, R: Threads + Wait + Sync>(
     alloc: Global,
     hub: &Mutex<Hub<N>>,
 ) -> PoolEnd {
-    let changed = Condvar::new();
-    run_pool(rt, alloc, 2, hub, &changed, &Refusing, || {
-        wait_alone(rt, hub, &changed)
+    let signals = Signals::new();
+    run_pool(rt, alloc, 2, hub, &signals, &Refusing, || {
+        wait_alone(rt, hub, &signals)
     })
     .0
 }

@@ -9,9 +9,10 @@ use sample_nets::worked;
 use script_words::read_event;
 use std::alloc::Global;
 use std::process::Abort;
-use std::sync::{Condvar, Mutex, Wait};
+use std::sync::{Mutex, Wait};
 use tokens::split_words;
 use versions::{Hub, Naming, Posters, Unnamed};
+use worker_pool::Signals;
 
 /// A failure of a link.
 pub(crate) fn fail(id: u16, slc: u8) -> Event {
@@ -85,7 +86,7 @@ pub(crate) fn expect_ended<N: Naming, P: Posters, R: Wait + Abort>(
 pub(crate) fn wait_for<N: Naming, P: Posters, R: Wait>(
     rt: &R,
     hub: &Mutex<Hub<N, P>>,
-    changed: &Condvar,
+    signals: &Signals,
     number: u64,
 ) {
     for _ in rt.forever() {
@@ -93,7 +94,7 @@ pub(crate) fn wait_for<N: Naming, P: Posters, R: Wait>(
         if guard.desk().published().number() >= number {
             return;
         }
-        drop(changed.wait(rt, guard));
+        drop(signals.wait_for_news(rt, guard));
     }
     unreachable!()
 }
