@@ -4,7 +4,7 @@
 A row of a table with a column "What it means" has a title in backquotes, and the values behind it: `27 BadRow CODE c`. Each such
 row wants an explanation of that title, and each explanation a row, with its values, what it means and what to do; a cell begins
 small and has no full stop. Of two rows with one title the first has the words, and one of them the values. Each explanation is asked
-for by its title, its number and its name. The last line is 'N passed, M failed'."""
+for by its title, its number and its name, and the first of those with one letter by that letter. The last line is 'N passed, M failed'."""
 import os
 import re
 import subprocess
@@ -41,7 +41,7 @@ def ask(program, *words):
     return ran.stdout.splitlines() if ran.returncode == 0 else []
 
 
-def faults_of(program, title, told):
+def faults_of(program, title, told, titles):
     """What is wrong with an explanation, by its rows."""
     lines = ask(program, title)
     if len(lines) not in (3, 4):
@@ -55,9 +55,9 @@ def faults_of(program, title, told):
     if lines[-1] != f"What to do: {action}":
         yield f"what to do: {lines[-1]!r}, and in the page {action!r}"
     for word in title.split(" "):
-        if len(word) > 1 or word.isdigit():
-            if ask(program, word) != lines:
-                yield f"{word!r} doesn't call it"
+        called = next(it for it in titles if word in it.split(" "))
+        if called == title and ask(program, word) != lines:
+            yield f"{word!r} doesn't call it"
 
 
 def main():
@@ -76,7 +76,7 @@ def main():
         if title not in told:
             wrong.append(f"{title}: an explanation without a row")
             continue
-        said = list(faults_of(program, title, told[title]))
+        said = list(faults_of(program, title, told[title], titles))
         if said:
             wrong.append(f"{title}: " + "; ".join(said))
     for it in wrong:

@@ -2,9 +2,9 @@
 """hostile.py [--short] PROGRAM: takes memory away from the program, and breaks what it reads and writes.
 
 scripts/refuse.c, which is compiled with `cc` and loaded before the C library, refuses the k-th request for memory (alone, and with
-all after it), stops reading or writing after k bytes, lets one byte through a call, and interrupts the k-th call. Each k has a run of
-its own, until none is reached. What such a run may do is said at `memory`, `reads`, `writes`, `saves` and `calls`; nothing else may
-happen. The inputs are a script that uses every word, networks that aren't loaded, command lines, and the worked examples, of
+all after it), stops reading or writing after k bytes, lets one byte through a call, interrupts the k-th call, and refuses to keep a file
+or to change its name. Each k has a run of its own, until none is reached. What such a run may do is said at `memory`, `reads`, `writes`,
+`saves`, `names` and `calls`; nothing else may happen. The inputs are a script that uses every word, networks that aren't loaded, command lines, and the worked examples, of
 which --short leaves out most; for the few long ones k grows by a tenth at a time. The last line is
 'N cases, M failed': a case is an input and a way of breaking."""
 import os
@@ -17,6 +17,8 @@ sys.dont_write_bytecode = True
 from worked import HERE, examples_of, synced
 
 MEMORY, READ, WRITE, PLACE = (b"route_desk: " + fault + b"\n" for fault in (b"1 OutOfMemory", b"63 Read", b"64 Write", b"50 NoPlace"))
+# the file to which the script with every word draws a picture
+PICTURE = "now.dot"
 # what `clap` says if the words of the command line can't be read for want of memory
 CLAP = (b"", b"error: out of memory\n", 2)
 # what is said of a word that isn't UTF-8
@@ -63,6 +65,12 @@ class Case:
         """Whether the files are those of a whole run. For want of memory a saved text may be laid out otherwise, if it says the same."""
         return left == self.written or Case(self.name, ["run", "kept", "--save", "kept"], files=left).written == self.written
 
+    def without_picture(self, left):
+        """The files but the picture that the script draws, which is whole if it is there: a DOT text, of which no part ends as it does."""
+        if not left.get(PICTURE, b"}\n").endswith(b"}\n"):
+            raise Wrong(self, "a part of a picture is left", self.wanted, left)
+        return {name: text for name, text in left.items() if name != PICTURE}
+
     def each(self, way, start=1, **more):
         """Runs with each k from the start until none is reached, wants the files to be right, and gives k and how the run ended."""
         k = start
@@ -73,7 +81,7 @@ class Case:
                     raise Wrong(self, f"{way} {k} isn't reached", got, left)
                 return
             # a run that did all has saved its network; any other leaves the files as they were
-            if not (self.is_saved(left) if got == self.wanted else left == self.files):
+            if not (self.is_saved(left) if got == self.wanted else self.without_picture(left) == self.files):
                 raise Wrong(self, f"{way} {k} {more}", got, left)
             yield k, got
             k += 1 + (k // 10 if self.large else 0)
@@ -127,11 +135,31 @@ def writes(case):
 
 def saves(case):
     """All is answered, the run ends with 64, and the file stays as it was. A picture that can't be written is refused."""
-    without = case.wanted[0].replace(b"picture /dev/null\n", b"refused 64 Write\n")
+    without = case.wanted[0].replace(b"picture now.dot\n", b"refused 64 Write\n")
     for zero in 0, 1:
         for k, got in case.each("write", 0, zero=zero, files=1):
             right = got[0] in (case.wanted[0], without) and got[1:] == (WRITE, 1)
             case.want(right, f"no more than {k} bytes saved, with {zero}", got)
+
+
+def names(case):
+    """A file that the system doesn't keep, or doesn't give its name, is told, and what was there stays. That it doesn't keep the folder
+    is no fault: the file is in its place. A picture is refused."""
+    without = case.wanted[0].replace(b"picture now.dot\n", b"refused 64 Write\n")
+    for way in "sync", "rename":
+        for k in range(1, 10):
+            got, left, reached = case.run(**{way: k})
+            if got == case.wanted:
+                right = left == case.written
+            elif got == (without, b"", 0):
+                right = left == case.without_picture(case.written)
+            else:
+                right = reached and got == (case.wanted[0], WRITE, 1) and case.without_picture(left) == case.files
+            if not right:
+                raise Wrong(case, f"{way} {k}", got, left)
+            if not reached:
+                break
+        case.want(1 < k < 10, f"{way} is reached {k - 1} times", got)
 
 
 def calls(case):
@@ -171,7 +199,7 @@ def case_of(example, form):
 def cases(short):
     """Each case, with the ways in which it is broken."""
     every_word = examples_of(os.path.join(HERE, "every-word.txt"))[0]
-    for form, ways in ("run", (memory, reads, writes, calls)), ("play", (memory, reads, calls)), ("save", (memory, reads, saves, calls)):
+    for form, ways in ("run", (memory, reads, writes, calls)), ("play", (memory, reads, calls)), ("save", (memory, reads, saves, names, calls)):
         yield case_of(every_word, form), ways
     example = examples_of(os.path.join(HERE, "messages.txt"))[0]
     script = "".join(line + "\n" for _, line, _ in synced(example.lines))

@@ -4,17 +4,20 @@
      REFUSE_WRITE=K        the same of a write to standard output (or to files); with REFUSE_ZERO=1 it takes no byte instead
      REFUSE_SINGLE=1       a read or write moves one byte a call
      REFUSE_INTERRUPT=K    the K-th read or write is interrupted once, EINTR
+     REFUSE_SYNC=K         the K-th call that has the system keep a file fails, EIO
+     REFUSE_RENAME=K       the K-th change of a file's name fails, EIO
    If something was refused, broken or interrupted, the file REFUSE_NOTE is made. */
 #define _GNU_SOURCE
 #include <errno.h>
 #include <fcntl.h>
+#include <stdio.h>
 #include <stdlib.h>
 #include <sys/syscall.h>
 #include <unistd.h>
 
 extern void *__libc_malloc(size_t), *__libc_calloc(size_t, size_t), *__libc_realloc(void *, size_t), *__libc_memalign(size_t, size_t);
 
-static long memory, interrupt;             /* requests and calls up to the one that fails; 0 is none */
+static long memory, interrupt, syncs, names; /* requests and calls up to the one that fails; 0 is none */
 static long can_read = -1, can_write = -1; /* bytes that still go through; below 0 is all */
 static int all, files, zero, single;
 static const char *note;
@@ -26,6 +29,7 @@ __attribute__((constructor)) static void begin(void) {
     all = number("REFUSE_ALL", 0), files = number("REFUSE_FILES", 0), zero = number("REFUSE_ZERO", 0), single = number("REFUSE_SINGLE", 0);
     can_read = number("REFUSE_READ", -1), can_write = number("REFUSE_WRITE", -1);
     interrupt = number("REFUSE_INTERRUPT", 0), memory = number("REFUSE_MEMORY", 0);
+    syncs = number("REFUSE_SYNC", 0), names = number("REFUSE_RENAME", 0);
 }
 
 static void tell(void) {
@@ -74,3 +78,12 @@ ssize_t write(int file, const void *from, size_t count) {
     return some;
 }
 ssize_t __write(int file, const void *from, size_t count) { return write(file, from, count); }
+
+int fsync(int file) {
+    if (syncs && --syncs == 0) return tell(), errno = EIO, -1;
+    return syscall(SYS_fsync, file);
+}
+int rename(const char *old, const char *new) {
+    if (names && --names == 0) return tell(), errno = EIO, -1;
+    return syscall(SYS_rename, old, new);
+}

@@ -152,10 +152,10 @@ def answer_of(pipe, place):
     return got
 
 
-def byte_by_byte(program, example, *options):
+def byte_by_byte(program, example, folder, *options):
     """Standard output, standard error and status if each byte is sent by itself, and each answer awaited."""
     with tempfile.TemporaryFile() as errors:
-        process = subprocess.Popen([program, "run", "-", *options], stdin=subprocess.PIPE, stdout=subprocess.PIPE, stderr=errors, bufsize=0)
+        process = subprocess.Popen([program, "run", "-", *options], stdin=subprocess.PIPE, stdout=subprocess.PIPE, stderr=errors, bufsize=0, cwd=folder)
         got = b""
         head = [(None, line, None) for line in (example.network + "%%").split("\n")]
         try:
@@ -185,13 +185,13 @@ def entry_words(text):
 def try_saving(program, example, folder):
     """Saves the network before and after the script, and wants the saved text to say the same and to save as itself."""
     first, second = os.path.join(folder, "first"), os.path.join(folder, "second")
-    run([program, "run", "-", "--save", first], example.network)
+    run([program, "run", "-", "--save", first], example.network, cwd=folder)
     with open(first, encoding="latin-1") as it:
         if entry_words(it.read()) != entry_words(example.network):
             raise Failure(f"{example.place}: the saved text has other entries")
     asked = "sync\n" + "".join(line.strip() + "\n" for _, line, _ in example.lines if line.split(" ")[0] in QUESTIONS)
-    before = run([program, "run", "-", "--save", first], example.network + "%%\n" + example.script() + asked)
-    after = run([program, "run", first, "--save", second], asked)
+    before = run([program, "run", "-", "--save", first], example.network + "%%\n" + example.script() + asked, cwd=folder)
+    after = run([program, "run", first, "--save", second], asked, cwd=folder)
     said = after[0].split("\n")[1:]  # the answers to the questions alone: the number that `sync` tells starts anew
     if before[0].split("\n")[-len(said):] != said:
         raise Failure(f"{example.place}: the saved network answers otherwise")
@@ -217,34 +217,34 @@ def synced(lines):
     return found
 
 
-def try_beside(program, example):
+def try_beside(program, example, folder):
     """Runs a script beside four workers, at once and byte by byte, and wants what it writes in line."""
     beside = Example(example.place, None)
     beside.network, beside.lines = example.network, synced(example.lines)
     if beside.lines:
         text = beside.network + "%%\n" + beside.script()
-        wanted = run([program, "run", "-"], text)
-        compare(beside, run([program, "run", "-", "--workers", "4"], text), wanted)
-        compare(beside, byte_by_byte(program, beside, "--workers", "4"), wanted)
+        wanted = run([program, "run", "-"], text, cwd=folder)
+        compare(beside, run([program, "run", "-", "--workers", "4"], text, cwd=folder), wanted)
+        compare(beside, byte_by_byte(program, beside, folder, "--workers", "4"), wanted)
 
 
 def try_script(program, example):
-    """Runs a script over a network in each way."""
+    """Runs a script over a network in each way, in a folder of its own."""
     wanted = (example.answers(), example.errors, example.status)
     text = example.network + "%%\n" + example.script()
-    compare(example, run([program, "run", "-"], text), wanted)
-    compare(example, run([program, "run", "-"], re.sub("(?<!\r)\n", "\r\n", text)), wanted)
-    compare(example, byte_by_byte(program, example), wanted)
     with tempfile.TemporaryDirectory() as folder:
+        compare(example, run([program, "run", "-"], text, cwd=folder), wanted)
+        compare(example, run([program, "run", "-"], re.sub("(?<!\r)\n", "\r\n", text), cwd=folder), wanted)
+        compare(example, byte_by_byte(program, example, folder), wanted)
         network, script = os.path.join(folder, "network"), os.path.join(folder, "script")
         with open(network, "w", encoding="latin-1", newline="") as it:
             it.write(example.network)
         with open(script, "w", encoding="latin-1", newline="") as it:
             it.write(example.script().rstrip("\n"))
-        compare(example, run([program, "play", network, script], ""), wanted)
+        compare(example, run([program, "play", network, script], "", cwd=folder), wanted)
         if example.status == 0:
             try_saving(program, example, folder)
-            try_beside(program, example)
+            try_beside(program, example, folder)
 
 
 def try_command(program, example):

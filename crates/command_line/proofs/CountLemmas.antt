@@ -53,10 +53,10 @@ count_within None n is = omega arith
 count_within (Some text) n is = is.1
 
 pub order_within : (order : Order) (found : Option (Text × List Row)) → IsOrder order found → IsWithin order
-order_within (Run net workers save explained json) found is = count_within _ workers is.3
-order_within (Play net steps save explained json) found is = tt
-order_within (Check net json) found is = tt
-order_within (Picture net about svg) found is = tt
-order_within (Import dir) found is = tt
-order_within (Export net dir) found is = tt
+order_within (Run net workers save explained json strict) found is = count_within _ workers is.3
+order_within (Play net steps save explained json strict) found is = tt
+order_within (Check net explained json) found is = tt
+order_within (Picture net about svg explained) found is = tt
+order_within (Import dir explained) found is = tt
+order_within (Export net dir explained) found is = tt
 order_within (Explain what json) found is = tt

@@ -12,7 +12,7 @@ use Rattle.clap.specs.Takes.{is_given}
 use Rattle.clap.specs.Faults.{built_fault, check_fault, entered_fault, fault_of, level_fault, other_fault, step_fault, turn_fault, walk_fault, word_fault}
 use Rattle.clap.specs.declared.error.Error.{Error}
 use Rattle.clap.specs.declared.error.kind.ErrorKind.TheVariants.{DisplayHelp, InvalidSubcommand, MissingSubcommand}
-use Rattle.command_line.specs.Words.{net_rule, steps_rule, dir_rule, workers_rule, save_rule, explained_rule, json_rule, about_rule, svg_rule, check_app, desk_app, explain_app, export_app, import_app, picture_app, play_app, run_app, is_whole, IsWordFault}
+use Rattle.command_line.specs.Words.{net_rule, steps_rule, dir_rule, workers_rule, save_rule, explained_rule, json_rule, strict_rule, about_rule, svg_rule, check_app, desk_app, explain_app, export_app, import_app, picture_app, play_app, run_app, is_whole, IsWordFault}
 use Rattle.command_line.specs.declared.words.WordFault.TheVariants.{Clap}
 use Rattle.command_line.proofs.RowLemmas.{AllFill, Fills, none_of_both, set_fills, set_true_fills, help_fills, level_filled, given_value}
 
@@ -163,6 +163,9 @@ json_fills = set_true_fills (rule_at 2 json_rule) refl refl
 explained_fills : Fills (rule_at 2 explained_rule)
 explained_fills = set_true_fills (rule_at 2 explained_rule) refl refl
 
+strict_fills : Fills (rule_at 2 strict_rule)
+strict_fills = set_true_fills (rule_at 2 strict_rule) refl refl
+
 about_fills : Fills (rule_at 2 about_rule)
 about_fills = set_fills (rule_at 2 about_rule) refl refl
 
@@ -173,22 +176,22 @@ asks_fills : Fills (rule_at 2 help_rule)
 asks_fills = help_fills (rule_at 2 help_rule) refl
 
 run_fills : AllFill run_built.rules
-run_fills = (net_fills, (workers_fills, (save_fills, (explained_fills, (json_fills, (asks_fills, tt))))))
+run_fills = (net_fills, (workers_fills, (save_fills, (explained_fills, (json_fills, (strict_fills, (asks_fills, tt)))))))
 
 play_fills : AllFill play_built.rules
-play_fills = (net_fills, (steps_fills, (save_fills, (explained_fills, (json_fills, (asks_fills, tt))))))
+play_fills = (net_fills, (steps_fills, (save_fills, (explained_fills, (json_fills, (strict_fills, (asks_fills, tt)))))))
 
 check_fills : AllFill check_built.rules
-check_fills = (net_fills, (json_fills, (asks_fills, tt)))
+check_fills = (net_fills, (explained_fills, (json_fills, (asks_fills, tt))))
 
 picture_fills : AllFill picture_built.rules
-picture_fills = (net_fills, (about_fills, (svg_fills, (asks_fills, tt))))
+picture_fills = (net_fills, (about_fills, (svg_fills, (explained_fills, (asks_fills, tt)))))
 
 import_fills : AllFill import_built.rules
-import_fills = (dir_fills, (asks_fills, tt))
+import_fills = (dir_fills, (explained_fills, (asks_fills, tt)))
 
 export_fills : AllFill export_built.rules
-export_fills = (net_fills, (second_dir_fills, (asks_fills, tt)))
+export_fills = (net_fills, (second_dir_fills, (explained_fills, (asks_fills, tt))))
 
 -- the last check of a command has no fault only if each of its required arguments is given
 one_given : (given : Bool) → check_kinds false false (not given || false) ≡ [] → given ≡ true

@@ -31,6 +31,10 @@ explained_rule = record (new_rule (codes "explain")) { long = Some (codes "expla
 abbrev pub json_rule : Rule
 json_rule = record (new_rule (codes "json")) { long = Some (codes "json"); action = Some SetTrue }
 
+-- `--strict`, which has no value
+abbrev pub strict_rule : Rule
+strict_rule = record (new_rule (codes "strict")) { long = Some (codes "strict"); action = Some SetTrue }
+
 -- a command of this name with NET
 abbrev pub net_app : Text → App
 net_app name = with_rule (new_app name) net_rule
@@ -48,8 +52,12 @@ abbrev pub explained_run_app : App
 explained_run_app = with_rule saved_run_app explained_rule
 
 -- `run NET --workers N --save FILE --explain --json`
+abbrev pub json_run_app : App
+json_run_app = with_rule explained_run_app json_rule
+
+-- `run NET --workers N --save FILE --explain --json --strict`
 abbrev pub run_app : App
-run_app = with_rule explained_run_app json_rule
+run_app = with_rule json_run_app strict_rule
 
 -- STEPS is required
 abbrev pub steps_rule : Rule
@@ -68,12 +76,20 @@ abbrev pub explained_play_app : App
 explained_play_app = with_rule saved_play_app explained_rule
 
 -- `play NET STEPS --save FILE --explain --json`
-abbrev pub play_app : App
-play_app = with_rule explained_play_app json_rule
+abbrev pub json_play_app : App
+json_play_app = with_rule explained_play_app json_rule
 
--- `check NET --json`
+-- `play NET STEPS --save FILE --explain --json --strict`
+abbrev pub play_app : App
+play_app = with_rule json_play_app strict_rule
+
+-- `check NET --explain`
+abbrev pub explained_check_app : App
+explained_check_app = with_rule (net_app (codes "check")) explained_rule
+
+-- `check NET --explain --json`
 abbrev pub check_app : App
-check_app = with_rule (net_app (codes "check")) json_rule
+check_app = with_rule explained_check_app json_rule
 
 -- `--about X`
 abbrev pub about_rule : Rule
@@ -88,20 +104,32 @@ abbrev pub about_app : App
 about_app = with_rule (net_app (codes "picture")) about_rule
 
 -- `picture NET --about X --svg`
+abbrev pub svg_picture_app : App
+svg_picture_app = with_rule about_app svg_rule
+
+-- `picture NET --about X --svg --explain`
 abbrev pub picture_app : App
-picture_app = with_rule about_app svg_rule
+picture_app = with_rule svg_picture_app explained_rule
 
 -- DIR is required
 abbrev pub dir_rule : Rule
 dir_rule = record (new_rule (codes "dir")) { required = true; value_names = 1 }
 
 -- `import DIR`
+abbrev pub dir_import_app : App
+dir_import_app = with_rule (new_app (codes "import")) dir_rule
+
+-- `import DIR --explain`
 abbrev pub import_app : App
-import_app = with_rule (new_app (codes "import")) dir_rule
+import_app = with_rule dir_import_app explained_rule
 
 -- `export NET DIR`
+abbrev pub dir_export_app : App
+dir_export_app = with_rule (net_app (codes "export")) dir_rule
+
+-- `export NET DIR --explain`
 abbrev pub export_app : App
-export_app = with_rule (net_app (codes "export")) dir_rule
+export_app = with_rule dir_export_app explained_rule
 
 -- WHAT may be left out
 abbrev pub what_rule : Rule
@@ -158,36 +186,41 @@ HasFlag id rows = first_of id rows ≡ Some (codes "true")
 
 -- the order is what the subcommand's matches say
 abbrev pub IsOrder : Order → Option (Text × List Row) → Type 0
-IsOrder (Run net workers save explained json) found =
+IsOrder (Run net workers save explained json strict) found =
     (rows : List Row) × (found ≡ Some (codes "run", rows)) × (first_of (codes "net") rows ≡ Some net.now)
     × IsWorkers (first_of (codes "workers") rows) workers × (first_of (codes "save") rows ≡ option_map (λ s. s.now) save)
     × (IsTrue explained ↔ HasFlag (codes "explain") rows) × (IsTrue json ↔ HasFlag (codes "json") rows)
-IsOrder (Play net steps save explained json) found =
+    × (IsTrue strict ↔ HasFlag (codes "strict") rows)
+IsOrder (Play net steps save explained json strict) found =
     (rows : List Row) × (found ≡ Some (codes "play", rows)) × (first_of (codes "net") rows ≡ Some net.now)
     × (first_of (codes "steps") rows ≡ Some steps.now) × (first_of (codes "save") rows ≡ option_map (λ s. s.now) save)
     × (IsTrue explained ↔ HasFlag (codes "explain") rows) × (IsTrue json ↔ HasFlag (codes "json") rows)
-IsOrder (Check net json) found =
-    (rows : List Row) × (found ≡ Some (codes "check", rows)) × (first_of (codes "net") rows ≡ Some net.now) × (IsTrue json ↔ HasFlag (codes "json") rows)
-IsOrder (Picture net about svg) found =
+    × (IsTrue strict ↔ HasFlag (codes "strict") rows)
+IsOrder (Check net explained json) found =
+    (rows : List Row) × (found ≡ Some (codes "check", rows)) × (first_of (codes "net") rows ≡ Some net.now)
+    × (IsTrue explained ↔ HasFlag (codes "explain") rows) × (IsTrue json ↔ HasFlag (codes "json") rows)
+IsOrder (Picture net about svg explained) found =
     (rows : List Row) × (found ≡ Some (codes "picture", rows)) × (first_of (codes "net") rows ≡ Some net.now)
     × (first_of (codes "about") rows ≡ option_map (λ s. s.now) about)
-    × (IsTrue svg ↔ HasFlag (codes "svg") rows)
-IsOrder (Import dir) found = (rows : List Row) × (found ≡ Some (codes "import", rows)) × (first_of (codes "dir") rows ≡ Some dir.now)
-IsOrder (Export net dir) found =
+    × (IsTrue svg ↔ HasFlag (codes "svg") rows) × (IsTrue explained ↔ HasFlag (codes "explain") rows)
+IsOrder (Import dir explained) found =
+    (rows : List Row) × (found ≡ Some (codes "import", rows)) × (first_of (codes "dir") rows ≡ Some dir.now)
+    × (IsTrue explained ↔ HasFlag (codes "explain") rows)
+IsOrder (Export net dir explained) found =
     (rows : List Row) × (found ≡ Some (codes "export", rows)) × (first_of (codes "net") rows ≡ Some net.now)
-    × (first_of (codes "dir") rows ≡ Some dir.now)
+    × (first_of (codes "dir") rows ≡ Some dir.now) × (IsTrue explained ↔ HasFlag (codes "explain") rows)
 IsOrder (Explain what json) found =
     (rows : List Row) × (found ≡ Some (codes "explain", rows)) × (first_of (codes "what") rows ≡ option_map (λ s. s.now) what)
     × (IsTrue json ↔ HasFlag (codes "json") rows)
 
 -- there are at most 32 workers
 abbrev pub IsWithin : Order → Type 0
-IsWithin (Run net workers save explained json) = workers ≤ 32
-IsWithin (Play net steps save explained json) = Unit {0}
-IsWithin (Check net json) = Unit {0}
-IsWithin (Picture net about svg) = Unit {0}
-IsWithin (Import dir) = Unit {0}
-IsWithin (Export net dir) = Unit {0}
+IsWithin (Run net workers save explained json strict) = workers ≤ 32
+IsWithin (Play net steps save explained json strict) = Unit {0}
+IsWithin (Check net explained json) = Unit {0}
+IsWithin (Picture net about svg explained) = Unit {0}
+IsWithin (Import dir explained) = Unit {0}
+IsWithin (Export net dir explained) = Unit {0}
 IsWithin (Explain what json) = Unit {0}
 
 -- whether the argument has a value
@@ -215,12 +248,13 @@ IsNoCount text = (n : ℕ) → n ≤ 32 → text ≢ decimal n
 abbrev pub HasBadCount : List Row → Type 0
 HasBadCount rows = (text : Text) × (first_of (codes "workers") rows ≡ Some text) × IsNoCount text
 
--- the subcommand is `run`, with such an N
-abbrev pub HasBadWorkers : Option (Text × List Row) → Type 0
-HasBadWorkers found = (rows : List Row) × (found ≡ Some (codes "run", rows)) × HasBadCount rows
+-- the subcommand is `run`, with such an N, and asks for faults to be explained exactly if this is true
+abbrev pub HasBadWorkers : Bool → Option (Text × List Row) → Type 0
+HasBadWorkers explained found =
+    (rows : List Row) × (found ≡ Some (codes "run", rows)) × HasBadCount rows × (IsTrue explained ↔ HasFlag (codes "explain") rows)
 
 -- Clap: memory was wanting, or the words have one of these faults, or they have none and name no subcommand
--- Workers: the words have no fault, and N of `run` says no number of workers
+-- Workers: the words have no fault, N of `run` says no number of workers, and whether they ask for faults to be explained
 abbrev pub IsWordFault : Kinds → Option (Text × List Row) → WordFault → Type 0
 IsWordFault kinds found (Clap e) = HasKind kinds e ⊎ ((kinds ≡ []) × (found ≡ None) × (kind_of e ≡ MissingSubcommand))
-IsWordFault kinds found Workers = (kinds ≡ []) × HasBadWorkers found
+IsWordFault kinds found (Workers explained) = (kinds ≡ []) × HasBadWorkers explained found

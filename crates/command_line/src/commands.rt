@@ -3,13 +3,20 @@
 ghost use Rattle.std.specs.Prelude.{◌≡◌, IfOk, false};
 ghost use Rattle.clap.specs.declared.builder.command.Command.TheViews.{out-Command};
 ghost use Rattle.clap.specs.Words.{app_of, rule_of};
-ghost use Rattle.command_line.specs.Words.{explained_rule, json_rule, net_rule, steps_rule, dir_rule, workers_rule, save_rule, about_rule, svg_rule, what_rule, net_app, workers_app, saved_run_app, explained_run_app, run_app, files_app, saved_play_app, explained_play_app, play_app, check_app, about_app, picture_app, import_app, export_app, what_app, explain_app, bare_app, desk_app_up_to_run, desk_app_up_to_play, desk_app_up_to_check, desk_app_up_to_picture, desk_app_up_to_import, desk_app_up_to_export, desk_app};
+ghost use Rattle.command_line.specs.Words.{explained_rule, json_rule, strict_rule, net_rule, steps_rule, dir_rule, workers_rule, save_rule, about_rule, svg_rule, what_rule, net_app, workers_app, saved_run_app, explained_run_app, json_run_app, run_app, files_app, saved_play_app, explained_play_app, json_play_app, play_app, explained_check_app, check_app, about_app, svg_picture_app, picture_app, dir_import_app, import_app, dir_export_app, export_app, what_app, explain_app, bare_app, desk_app_up_to_run, desk_app_up_to_play, desk_app_up_to_check, desk_app_up_to_picture, desk_app_up_to_import, desk_app_up_to_export, desk_app};
 
 use clap::{Arg, ArgAction, Command};
 use std::alloc::{AllocError, Global};
 
 /// The version that is told, with the kit by which the program is proved.
 const VERSION: &str = "1.0.0, proved with rattle-kit-13f";
+
+/// What `--explain` does where a script is answered.
+const SCRIPT_EXPLAINED: &str =
+    "Say of each refused line and of a fault, on standard error, what is wrong";
+
+/// What `--explain` does where no script is answered.
+const FAULT_EXPLAINED: &str = "Say on standard error what is wrong, and where";
 
 /// The argument NET, which is required.
 fn net_argument<'a>(alloc: Global, help: &'a str) -> Arg<'a>
@@ -66,14 +73,14 @@ fn save_argument<'a>(alloc: Global) -> Arg<'a>
 }
 
 /// The flag `--explain`, which has no value.
-fn explained_argument<'a>(alloc: Global) -> Arg<'a>
+fn explained_argument<'a>(alloc: Global, help: &'a str) -> Arg<'a>
     ensures rule { rule_of result ≡ explained_rule }
     ensures local { result.global ≡ false }
 {
     Arg::new(alloc, "explain")
         .long("explain")
         .action(ArgAction::SetTrue)
-        .help("Say of each refused line and of a fault, on standard error, what is wrong")
+        .help(help)
 }
 
 /// The flag `--json`, which has no value.
@@ -85,6 +92,17 @@ fn json_argument<'a>(alloc: Global) -> Arg<'a>
         .long("json")
         .action(ArgAction::SetTrue)
         .help("Write each answer as a JSON object")
+}
+
+/// The flag `--strict`, which has no value.
+fn strict_argument<'a>(alloc: Global) -> Arg<'a>
+    ensures rule { rule_of result ≡ strict_rule }
+    ensures local { result.global ≡ false }
+{
+    Arg::new(alloc, "strict")
+        .long("strict")
+        .action(ArgAction::SetTrue)
+        .help("If a line is refused, save nothing and end with status 1")
 }
 
 /// The option `--about X`.
@@ -156,13 +174,22 @@ fn saved_run_command<'a>(alloc: Global) -> Result<Command<'a>, AllocError>
     command.arg(save_argument(alloc))
 }
 
-/// The command `run` with all but its last flag.
+/// The command `run` with all but its last two flags.
 fn explained_run_command<'a>(alloc: Global) -> Result<Command<'a>, AllocError>
     ensures app { IfOk result (λ c. app_of c ≡ explained_run_app) }
     ensures local { IfOk result (λ c. (out-Command c).has_globals ≡ false) }
 {
     let command = saved_run_command(alloc)?;
-    command.arg(explained_argument(alloc))
+    command.arg(explained_argument(alloc, SCRIPT_EXPLAINED))
+}
+
+/// The command `run` with all but its last flag.
+fn json_run_command<'a>(alloc: Global) -> Result<Command<'a>, AllocError>
+    ensures app { IfOk result (λ c. app_of c ≡ json_run_app) }
+    ensures local { IfOk result (λ c. (out-Command c).has_globals ≡ false) }
+{
+    let command = explained_run_command(alloc)?;
+    command.arg(json_argument(alloc))
 }
 
 /// The command `run`.
@@ -170,8 +197,8 @@ fn run_command<'a>(alloc: Global) -> Result<Command<'a>, AllocError>
     ensures app { IfOk result (λ c. app_of c ≡ run_app) }
     ensures local { IfOk result (λ c. (out-Command c).has_globals ≡ false) }
 {
-    let command = explained_run_command(alloc)?;
-    command.arg(json_argument(alloc))
+    let command = json_run_command(alloc)?;
+    command.arg(strict_argument(alloc))
 }
 
 /// The command `play` with its two files.
@@ -197,13 +224,22 @@ fn saved_play_command<'a>(alloc: Global) -> Result<Command<'a>, AllocError>
     command.arg(save_argument(alloc))
 }
 
-/// The command `play` with all but its last flag.
+/// The command `play` with all but its last two flags.
 fn explained_play_command<'a>(alloc: Global) -> Result<Command<'a>, AllocError>
     ensures app { IfOk result (λ c. app_of c ≡ explained_play_app) }
     ensures local { IfOk result (λ c. (out-Command c).has_globals ≡ false) }
 {
     let command = saved_play_command(alloc)?;
-    command.arg(explained_argument(alloc))
+    command.arg(explained_argument(alloc, SCRIPT_EXPLAINED))
+}
+
+/// The command `play` with all but its last flag.
+fn json_play_command<'a>(alloc: Global) -> Result<Command<'a>, AllocError>
+    ensures app { IfOk result (λ c. app_of c ≡ json_play_app) }
+    ensures local { IfOk result (λ c. (out-Command c).has_globals ≡ false) }
+{
+    let command = explained_play_command(alloc)?;
+    command.arg(json_argument(alloc))
 }
 
 /// The command `play`.
@@ -211,13 +247,13 @@ fn play_command<'a>(alloc: Global) -> Result<Command<'a>, AllocError>
     ensures app { IfOk result (λ c. app_of c ≡ play_app) }
     ensures local { IfOk result (λ c. (out-Command c).has_globals ≡ false) }
 {
-    let command = explained_play_command(alloc)?;
-    command.arg(json_argument(alloc))
+    let command = json_play_command(alloc)?;
+    command.arg(strict_argument(alloc))
 }
 
-/// The command `check`.
-fn check_command<'a>(alloc: Global) -> Result<Command<'a>, AllocError>
-    ensures app { IfOk result (λ c. app_of c ≡ check_app) }
+/// The command `check` with all but its last flag.
+fn explained_check_command<'a>(alloc: Global) -> Result<Command<'a>, AllocError>
+    ensures app { IfOk result (λ c. app_of c ≡ explained_check_app) }
     ensures local { IfOk result (λ c. (out-Command c).has_globals ≡ false) }
 {
     let command = net_command(
@@ -226,6 +262,15 @@ fn check_command<'a>(alloc: Global) -> Result<Command<'a>, AllocError>
         "Work out the tables of all destinations, and check each by the local rule",
         "File with the network",
     )?;
+    command.arg(explained_argument(alloc, FAULT_EXPLAINED))
+}
+
+/// The command `check`.
+fn check_command<'a>(alloc: Global) -> Result<Command<'a>, AllocError>
+    ensures app { IfOk result (λ c. app_of c ≡ check_app) }
+    ensures local { IfOk result (λ c. (out-Command c).has_globals ≡ false) }
+{
+    let command = explained_check_command(alloc)?;
     command.arg(json_argument(alloc))
 }
 
@@ -243,18 +288,27 @@ fn about_command<'a>(alloc: Global) -> Result<Command<'a>, AllocError>
     command.arg(about_argument(alloc))
 }
 
-/// The command `picture`.
-fn picture_command<'a>(alloc: Global) -> Result<Command<'a>, AllocError>
-    ensures app { IfOk result (λ c. app_of c ≡ picture_app) }
+/// The command `picture` with all but its last flag.
+fn svg_picture_command<'a>(alloc: Global) -> Result<Command<'a>, AllocError>
+    ensures app { IfOk result (λ c. app_of c ≡ svg_picture_app) }
     ensures local { IfOk result (λ c. (out-Command c).has_globals ≡ false) }
 {
     let command = about_command(alloc)?;
     command.arg(svg_argument(alloc))
 }
 
-/// The command `import`.
-fn import_command<'a>(alloc: Global) -> Result<Command<'a>, AllocError>
-    ensures app { IfOk result (λ c. app_of c ≡ import_app) }
+/// The command `picture`.
+fn picture_command<'a>(alloc: Global) -> Result<Command<'a>, AllocError>
+    ensures app { IfOk result (λ c. app_of c ≡ picture_app) }
+    ensures local { IfOk result (λ c. (out-Command c).has_globals ≡ false) }
+{
+    let command = svg_picture_command(alloc)?;
+    command.arg(explained_argument(alloc, FAULT_EXPLAINED))
+}
+
+/// The command `import` with its folder.
+fn dir_import_command<'a>(alloc: Global) -> Result<Command<'a>, AllocError>
+    ensures app { IfOk result (λ c. app_of c ≡ dir_import_app) }
     ensures local { IfOk result (λ c. (out-Command c).has_globals ≡ false) }
 {
     Command::new(alloc, "import")
@@ -264,9 +318,18 @@ fn import_command<'a>(alloc: Global) -> Result<Command<'a>, AllocError>
         .arg(dir_argument(alloc, "Folder with the three tables"))
 }
 
-/// The command `export`.
-fn export_command<'a>(alloc: Global) -> Result<Command<'a>, AllocError>
-    ensures app { IfOk result (λ c. app_of c ≡ export_app) }
+/// The command `import`.
+fn import_command<'a>(alloc: Global) -> Result<Command<'a>, AllocError>
+    ensures app { IfOk result (λ c. app_of c ≡ import_app) }
+    ensures local { IfOk result (λ c. (out-Command c).has_globals ≡ false) }
+{
+    let command = dir_import_command(alloc)?;
+    command.arg(explained_argument(alloc, FAULT_EXPLAINED))
+}
+
+/// The command `export` with its network and its folder.
+fn dir_export_command<'a>(alloc: Global) -> Result<Command<'a>, AllocError>
+    ensures app { IfOk result (λ c. app_of c ≡ dir_export_app) }
     ensures local { IfOk result (λ c. (out-Command c).has_globals ≡ false) }
 {
     let command = net_command(
@@ -276,6 +339,15 @@ fn export_command<'a>(alloc: Global) -> Result<Command<'a>, AllocError>
         "File with the network",
     )?;
     command.arg(dir_argument(alloc, "Folder that gets the three tables"))
+}
+
+/// The command `export`.
+fn export_command<'a>(alloc: Global) -> Result<Command<'a>, AllocError>
+    ensures app { IfOk result (λ c. app_of c ≡ export_app) }
+    ensures local { IfOk result (λ c. (out-Command c).has_globals ≡ false) }
+{
+    let command = dir_export_command(alloc)?;
+    command.arg(explained_argument(alloc, FAULT_EXPLAINED))
 }
 
 /// The command `explain` with its word.

@@ -10,9 +10,12 @@
 //! 5. `route_desk import DIR` makes a network text from the three tables of the folder DIR.
 //! 6. `route_desk export NET DIR` writes the network NET as three tables in the folder DIR.
 //! 7. `route_desk explain WHAT` tells what the number or name WHAT means; WHAT may be left out, and is any word here.
-//! 8. With the flag `--json` the commands run, play, check and explain write JSON objects.
-//! 9. NET is a file, or in `run` alone `-` for standard input. An N that is no such number is refused by a fault of its own.
-//!    Any other words are told by `clap`, as are `--help` and `--version`.
+//! 8. With the flag `--explain` the commands run, play, check, picture, import and export say on standard error what is wrong.
+//! 9. With the flag `--json` the commands run, play, check and explain write JSON objects.
+//! 10. With the flag `--strict` the commands run and play save nothing, and end with status 1, if a line was refused.
+//! 11. NET is a file, or in `run` alone `-` for standard input. An N that is no such number is refused by a fault of its own,
+//!     whose `explained` is true exactly if the flag `--explain` is given. Any other words are told by `clap`, as are `--help`
+//!     and `--version`.
 //!
 //! Stands on `clap`. A change here also changes specs/ (Words), proofs/ and must-fail/.
 #![tactic(auto)]

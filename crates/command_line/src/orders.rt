@@ -1,6 +1,6 @@
 //! The order that matches say.
 
-ghost use Rattle.std.specs.Prelude.{◌≡◌, ◌≤◌, ◌↔◌, IsTrue, Some, codes, IfOk, IfSome, option_map, false};
+ghost use Rattle.std.specs.Prelude.{◌≡◌, ◌≤◌, ◌↔◌, Bool, IsTrue, Some, codes, IfOk, IfSome, option_map, false};
 ghost use Rattle.std.specs.Fmt.{decimal};
 ghost use Rattle.clap.specs.Words.{first_of, found_of, rows_of, subcommand_rows_of};
 ghost use Rattle.command_line.specs.Words.{HasFlag, IsOrder, IsWorkers, IsPadded, IsNoCount, HasBadCount, HasBadWorkers, is_whole};
@@ -13,8 +13,8 @@ use clap::ArgMatches;
 pub(crate) enum NoOrder {
     /// They name no subcommand of the desk's, or not each file or folder that it needs.
     NotWhole,
-    /// A text is given that says no number of workers.
-    Workers,
+    /// A text is given that says no number of workers; and whether faults are to be explained.
+    Workers { explained: bool },
 }
 
 /// The subcommand that the words name, with its own matches.
@@ -78,23 +78,25 @@ fn flag_at(matches: &ArgMatches, id: &str) -> bool
 fn run_order<'a>(matches: &ArgMatches<'a>) -> Result<Order<'a>, NoOrder>
     ensures order { IfOk result (λ order. IsOrder order (Some (codes "run", rows_of (found_of matches.now)))) }
     ensures not_whole { result ≡ Err NoOrder.NotWhole → is_whole (codes "run", rows_of (found_of matches.now)) ≡ false }
-    ensures workers { result ≡ Err NoOrder.Workers → HasBadWorkers (Some (codes "run", rows_of (found_of matches.now))) }
+    ensures workers { (explained : Bool) → result ≡ Err (NoOrder.Workers explained) → HasBadWorkers explained (Some (codes "run", rows_of (found_of matches.now))) }
 {
     let Some(net) = value_at(matches, "net") else {
         return Err(NoOrder::NotWhole);
     };
+    let explained = flag_at(matches, "explain");
     let Some(workers) = workers_at(matches) else {
-        return Err(NoOrder::Workers);
+        return Err(NoOrder::Workers { explained });
     };
     let save = value_at(matches, "save");
-    let explained = flag_at(matches, "explain");
     let json = flag_at(matches, "json");
+    let strict = flag_at(matches, "strict");
     Ok(Order::Run {
         net,
         workers,
         save,
         explained,
         json,
+        strict,
     })
 }
 
@@ -111,6 +113,7 @@ fn play_order<'a>(matches: &ArgMatches<'a>) -> Option<Order<'a>>
         save: value_at(matches, "save"),
         explained: flag_at(matches, "explain"),
         json: flag_at(matches, "json"),
+        strict: flag_at(matches, "strict"),
     })
 }
 
@@ -120,8 +123,13 @@ fn check_order<'a>(matches: &ArgMatches<'a>) -> Option<Order<'a>>
     ensures none { result ≡ None → is_whole (codes "check", rows_of (found_of matches.now)) ≡ false }
 {
     let net = value_at(matches, "net")?;
+    let explained = flag_at(matches, "explain");
     let json = flag_at(matches, "json");
-    Some(Order::Check { net, json })
+    Some(Order::Check {
+        net,
+        explained,
+        json,
+    })
 }
 
 /// What the matches of `picture` order.
@@ -132,7 +140,13 @@ fn picture_order<'a>(matches: &ArgMatches<'a>) -> Option<Order<'a>>
     let net = value_at(matches, "net")?;
     let about = value_at(matches, "about");
     let svg = flag_at(matches, "svg");
-    Some(Order::Picture { net, about, svg })
+    let explained = flag_at(matches, "explain");
+    Some(Order::Picture {
+        net,
+        about,
+        svg,
+        explained,
+    })
 }
 
 /// What the matches of `import` order.
@@ -141,7 +155,8 @@ fn import_order<'a>(matches: &ArgMatches<'a>) -> Option<Order<'a>>
     ensures none { result ≡ None → is_whole (codes "import", rows_of (found_of matches.now)) ≡ false }
 {
     let dir = value_at(matches, "dir")?;
-    Some(Order::Import { dir })
+    let explained = flag_at(matches, "explain");
+    Some(Order::Import { dir, explained })
 }
 
 /// What the matches of `export` order.
@@ -151,7 +166,12 @@ fn export_order<'a>(matches: &ArgMatches<'a>) -> Option<Order<'a>>
 {
     let net = value_at(matches, "net")?;
     let dir = value_at(matches, "dir")?;
-    Some(Order::Export { net, dir })
+    let explained = flag_at(matches, "explain");
+    Some(Order::Export {
+        net,
+        dir,
+        explained,
+    })
 }
 
 /// What the matches of `explain` order.
@@ -167,7 +187,7 @@ fn explain_order<'a>(matches: &ArgMatches<'a>) -> Order<'a>
 pub(crate) fn order_of<'a>(matches: &ArgMatches<'a>) -> Result<Order<'a>, NoOrder>
     ensures order { IfOk result (λ order. IsOrder order (subcommand_rows_of matches.now)) }
     ensures not_whole { result ≡ Err NoOrder.NotWhole → IfSome (subcommand_rows_of matches.now) (λ found. is_whole found ≡ false) }
-    ensures workers { result ≡ Err NoOrder.Workers → HasBadWorkers (subcommand_rows_of matches.now) }
+    ensures workers { (explained : Bool) → result ≡ Err (NoOrder.Workers explained) → HasBadWorkers explained (subcommand_rows_of matches.now) }
 {
     let Some((name, inner)) = entered(matches) else {
         return Err(NoOrder::NotWhole);

@@ -16,43 +16,52 @@ use std::alloc::Global;
 pub enum Order<'a> {
     /// To answer the script on standard input from the network of a file, or of standard input itself where the file's
     /// name is `-`, with this many worker threads beside it, 0 to 32, to write the network to a file then, if one is named,
-    /// to explain refused lines and faults, and to answer with JSON objects, if that is wanted.
+    /// to explain refused lines and faults, if that is wanted, to answer with JSON objects, if that is wanted, and to save
+    /// nothing and to end with status 1 if a line was refused, if that is wanted.
     Run {
         net: &'a str,
         workers: u32,
         save: Option<&'a str>,
         explained: bool,
         json: bool,
+        strict: bool,
     },
     /// To answer the script of the file STEPS from the network of a file, to write the network to a file then, if one is named,
-    /// to explain refused lines and faults, and to answer with JSON objects, if that is wanted.
+    /// to explain refused lines and faults, if that is wanted, to answer with JSON objects, if that is wanted, and to save
+    /// nothing and to end with status 1 if a line was refused, if that is wanted.
     Play {
         net: &'a str,
         steps: &'a str,
         save: Option<&'a str>,
         explained: bool,
         json: bool,
+        strict: bool,
     },
-    /// To check the settled tables of the network of a file, and to tell what was found as a JSON object, if that is wanted.
+    /// To check the settled tables of the network of a file, to explain a fault, if that is wanted, and to tell what was found
+    /// as a JSON object, if that is wanted.
     Check {
         net: &'a str,
+        explained: bool,
         json: bool,
     },
     /// To draw the network of a file, as an SVG text or else as a Graphviz DOT text, with the traffic to this destination if
-    /// one is named.
+    /// one is named, and to explain a fault, if that is wanted.
     Picture {
         net: &'a str,
         about: Option<&'a str>,
         svg: bool,
+        explained: bool,
     },
-    /// To make a network text from the three tables of a folder.
+    /// To make a network text from the three tables of a folder, and to explain a fault, if that is wanted.
     Import {
         dir: &'a str,
+        explained: bool,
     },
-    /// To write the network of a file as three tables in a folder.
+    /// To write the network of a file as three tables in a folder, and to explain a fault, if that is wanted.
     Export {
         net: &'a str,
         dir: &'a str,
+        explained: bool,
     },
     /// To tell what this number or name means, or what each of them means if none is given, in JSON objects if that is wanted.
     Explain {
@@ -66,8 +75,9 @@ pub enum Order<'a> {
 pub enum WordFault {
     /// It isn't one of the desk's, or asks for help; `clap` has the text and the exit status.
     Clap(Error),
-    /// The number of workers isn't a number 0 to 32, written without sign or leading zeros.
-    Workers,
+    /// The number of workers isn't a number 0 to 32, written without sign or leading zeros; and whether the command line asks
+    /// for faults to be explained.
+    Workers { explained: bool },
 }
 
 /// What `clap` makes of the words.
@@ -118,6 +128,6 @@ pub fn read_words<'a>(alloc: Global, words: &'a [&'a str]) -> Result<Order<'a>, 
     match order_of(&matches) {
         Ok(order) => Ok(order),
         Err(NoOrder::NotWhole) => Err(WordFault::Clap(missing(alloc))),
-        Err(NoOrder::Workers) => Err(WordFault::Workers),
+        Err(NoOrder::Workers { explained }) => Err(WordFault::Workers { explained }),
     }
 }

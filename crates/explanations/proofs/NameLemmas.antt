@@ -1,7 +1,9 @@
--- Titles stand in the texts that are printed.
-use Rattle.std.proofs.Common.{◌++◌, ◌∷◌, [], codes, refl, sym, append_assoc}
+-- Titles stand in the texts that are printed, and letters find causes.
+use Rattle.std.proofs.Common.{◌≡◌, ◌++◌, ◌∷◌, [], true, codes, refl, sym, append_assoc}
 use Rattle.std.specs.Fmt.{decimal}
-use Rattle.answers.specs.Refusals.{refusal_name, refusal_values}
+use Rattle.answers.specs.Refusals.{refusal_name, refusal_values, cause_letter}
+use Rattle.plan_rows.specs.declared.causes.Cause.{Cause}
+use Rattle.plan_rows.specs.declared.causes.Cause.TheVariants as cause
 use Rattle.answers.specs.DeskRefusals.{desk_refusal_text, target_text}
 use Rattle.sessions.specs.Faults.{key_text, place_text, load_text, fault_text}
 use Rattle.work_units.specs.declared.replies.Refusal.{Refusal}
@@ -10,8 +12,8 @@ use Rattle.net_text.specs.declared.faults.LoadFault.{LoadFault}
 use Rattle.net_text.specs.declared.faults.LoadFault.TheVariants as load
 use Rattle.sessions.specs.declared.faults.Fault.{Fault}
 use Rattle.sessions.specs.declared.faults.Fault.TheVariants as fault
-use Rattle.explanations.specs.Names.{desk_name, load_name, fault_name}
-use Rattle.explanations.specs.Titles.{BeginsWith, StandsIn}
+use Rattle.explanations.specs.Names.{cause_title, desk_name, load_name, fault_name}
+use Rattle.explanations.specs.Titles.{BeginsWith, StandsIn, is_found_by}
 
 -- what is printed of a refusal of the desk begins with its title
 pub desk_begins : (refusal : Refusal) → BeginsWith (desk_refusal_text refusal) (desk_name refusal)
@@ -47,3 +49,14 @@ fault_stands fault.Read = ([], [], refl)
 fault_stands fault.Write = ([], [], refl)
 fault_stands fault.NoPlace = ([], [], refl)
 fault_stands (fault.Load e) = load_stands e
+
+-- the letter of a cause finds it
+pub letter_finds : (one : Cause) → is_found_by (cause_title one) (cause_letter one) ≡ true
+letter_finds cause.IsDest = refl
+letter_finds cause.Twice = refl
+letter_finds cause.NotJoined = refl
+letter_finds cause.ViaTwice = refl
+letter_finds cause.NotLower = refl
+letter_finds cause.ViaMate = refl
+letter_finds cause.BadMate = refl
+letter_finds cause.NoRoute = refl

@@ -43,10 +43,10 @@ name_of title = after_first (λ b. b == 32) title
 abbrev pub is_number_text : List ℕ → Bool
 is_number_text text = nat_le 48 (slice_index text 0) && nat_le (slice_index text 0) 57
 
--- whether a word calls an explanation of that title: it is the title, its number, or its name
+-- whether a word calls an explanation of that title: it is the title, its number or its letter, or its name
 abbrev pub is_called_by : List ℕ → List ℕ → Bool
 is_called_by word title =
-    bytes_eq word title || (is_number_text word && bytes_eq word (mark_of title)) || (not (length word == 0) && bytes_eq word (name_of title))
+    bytes_eq word title || (not (length word == 0) && (bytes_eq word (mark_of title) || bytes_eq word (name_of title)))
 
 -- the first title whose explanation a word calls
 abbrev pub title_found : List ℕ → Option (List ℕ)

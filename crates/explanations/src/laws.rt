@@ -8,13 +8,20 @@ ghost use Rattle.sessions.specs.Faults.{load_text, fault_text};
 ghost use Rattle.work_units.specs.declared.replies.Refusal.{Refusal};
 ghost use Rattle.net_text.specs.declared.faults.LoadFault.{LoadFault};
 ghost use Rattle.sessions.specs.declared.faults.Fault.{Fault};
-ghost use Rattle.explanations.specs.Names.{desk_name, load_name, fault_name};
-ghost use Rattle.explanations.specs.Titles.{titles, is_listed, is_reached, BeginsWith, StandsIn};
+ghost use Rattle.answers.specs.Refusals.{cause_letter};
+ghost use Rattle.plan_rows.specs.declared.causes.Cause.{Cause};
+ghost use Rattle.explanations.specs.Names.{cause_title, desk_name, load_name, fault_name};
+ghost use Rattle.explanations.specs.Titles.{titles, is_found_by, is_listed, is_reached, BeginsWith, StandsIn};
 
 /// The law: each title is found by itself, by its name, and by its number if it has one. So no two explanations have the same
 /// number or the same name.
 pub fn titles_law()
     ensures { list_all is_reached titles ≡ true }
+{}
+
+/// The law: the letter of a cause finds the cause.
+pub fn letters_law()
+    ensures { (cause : Cause) → is_found_by (cause_title cause) (cause_letter cause) ≡ true }
 {}
 
 /// The law: the title of a refusal of the desk begins what is printed of it, and that of a fault stands in it.

@@ -1,7 +1,7 @@
 //! All explanations, and the one that a word calls.
 
 ghost use Rattle.std.specs.Prelude.{◌≡◌, option_map, map, find as first_that};
-ghost use Rattle.explanations.specs.Titles.{titles, title_found, is_number_text, is_called_by};
+ghost use Rattle.explanations.specs.Titles.{titles, title_found, is_called_by};
 
 use crate::causes::{
     BAD_MATE, IS_DEST, NO_ROUTE, NOT_JOINED, NOT_LOWER, TWICE, VIA_MATE, VIA_TWICE,
@@ -85,14 +85,7 @@ pub fn explanations() -> &'static [Explanation]
     EXPLANATIONS
 }
 
-/// Whether a text begins with a digit.
-fn is_number(text: &str) -> bool
-    ensures { result ≡ is_number_text text.now }
-{
-    matches!(text.as_bytes(), [b'0'..=b'9', ..])
-}
-
-/// Whether a word calls the explanation of that title: it is the title, the number in it, or the name in it.
+/// Whether a word calls the explanation of that title: it is the title, or the number, the letter or the name in it.
 fn is_called(word: &str, title: &str) -> bool
     ensures { result ≡ is_called_by word.now title.now }
 {
@@ -100,8 +93,7 @@ fn is_called(word: &str, title: &str) -> bool
         return true;
     }
     match title.split_once(' ') {
-        Some((number, name)) => (is_number(word) && word == number)
-            || (!word.is_empty() && word == name),
+        Some((mark, name)) => !word.is_empty() && (word == mark || word == name),
         None => false,
     }
 }
@@ -120,8 +112,8 @@ fn find_among<'a>(list: &'a [Explanation], word: &str) -> Option<&'a Explanation
     None
 }
 
-/// The first explanation whose number or name is a word, as `27` or `BadRow`, or a letter and its name, as `a IsDest`. A letter
-/// alone calls none, since causes and complaints have the same.
+/// The first explanation that a word calls: by its number or its name, as `27` or `BadRow`, by both, or by its letter, as `e`. Causes
+/// and complaints have the same letters, and a letter alone is of the cause, which stands first.
 pub fn find(word: &str) -> Option<&'static Explanation>
     ensures { option_map (λ e. e.now.title.now) result ≡ title_found word.now }
 {

@@ -4,7 +4,7 @@ ghost use Rattle.std.specs.Prelude.{◌≢◌, slice_index_or};
 ghost use Rattle.std.specs.Io.{WritesAtMost};
 ghost use Rattle.std.specs.Io.KnownBytes.{WriteAppends};
 
-use crate::files::save_text;
+use crate::files::{Devices, save_text};
 use crate::notes::Notes;
 use crate::reasons::write_reason;
 use desk_console::read_picture;
@@ -57,7 +57,7 @@ fn draw(rt: &HostRuntime, notes: Option<&RefCell<Notes>>, answer: &[u8]) -> io::
     let Some((file, picture)) = read_picture(rt.alloc(), line)? else {
         return Err(io::Error::from(ErrorKind::InvalidData));
     };
-    match save_text(rt, file, picture.as_str()) {
+    match save_text(rt, file, picture.as_str(), Devices::Refused) {
         Ok(()) => Ok(format!(in rt.alloc(); "picture {file}\n")?),
         Err(error) => refuse(rt, notes, file, error),
     }

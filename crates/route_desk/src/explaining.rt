@@ -2,6 +2,7 @@
 //! on standard error.
 
 use crate::notes::Notes;
+use crate::saying::say;
 use std::cell::RefCell;
 use std::io;
 
@@ -65,8 +66,7 @@ fn note_written(rt: &HostRuntime, notes: &RefCell<Notes>, bytes: &[u8]) {
     let notes = &mut *notes;
     for byte in bytes {
         if let Some(sentence) = notes.write(*byte) {
-            let text = sentence.as_str();
-            let _ = eprintln!(rt; "{text}");
+            say(rt, &[sentence.as_str()]);
         }
     }
 }

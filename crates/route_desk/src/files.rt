@@ -1,69 +1,113 @@
-//! Files that are written: beside the file first, so that one that was there stays as it was where writing fails.
+//! Files that are written: each is made beside the one whose place it takes, so that one that was there stays as it was where
+//! writing fails. What others made is never opened for writing, removed or followed, but for the name that the user gives.
 
+use crate::fresh::{Fresh, Kept};
+use crate::saying::say;
+use crate::targets::{Target, target_of};
 use console::Fault;
-use std::io::ErrorKind;
-use std::{fs, io};
+use std::fs::{Metadata, OpenOptions};
+use std::io;
+use std::io::{ErrorKind, Write};
 
-/// What a system says of a name, none if it says that there is nothing of that name, or nothing that can be looked at. It fails if
-/// memory is refused.
-fn found<T>(told: io::Result<T>) -> io::Result<Option<T>> {
-    match told {
-        Ok(found) => Ok(Some(found)),
-        Err(error) if error.kind() == ErrorKind::OutOfMemory => Err(error),
-        Err(_) => Ok(None),
+/// What is done with a device.
+#[derive(Clone, Copy, PartialEq, Eq)]
+pub enum Devices {
+    /// It is written straight away: the user named it on the command line.
+    Written,
+    /// It is refused.
+    Refused,
+}
+
+/// Says what a file that took the place of another has not of it.
+fn tell_kept(rt: &HostRuntime, name: &str, kept: Kept) {
+    match kept {
+        Kept::All => {}
+        Kept::NotOwner => say(
+            rt,
+            &["route_desk: ", name, ": its owner or its group isn't kept"],
+        ),
+        Kept::NotMode => say(rt, &["route_desk: ", name, ": its mode isn't kept"]),
     }
 }
 
-/// Whether a name is that of something else than a file, or leads to it, as to a device.
-fn is_no_file(rt: &HostRuntime, name: &str) -> io::Result<bool> {
-    match found(fs::metadata(rt, name))? {
-        Some(it) => Ok(!it.is_file()),
-        None => Ok(false),
+/// Writes a text into a file that was just made, and puts it in the place of another.
+fn fill_and_put(
+    rt: &HostRuntime,
+    fresh: &mut Fresh,
+    path: &str,
+    there: Option<&Metadata>,
+    text: &str,
+) -> io::Result<Kept> {
+    let kept = fresh.fill(text, there)?;
+    fresh.put(rt, path)?;
+    Ok(kept)
+}
+
+/// Puts a text in the place of a file. If that fails, what this run made is taken away again.
+fn replace(rt: &HostRuntime, path: &str, there: Option<&Metadata>, text: &str) -> io::Result<Kept> {
+    let mut fresh = Fresh::beside(rt, path, there)?;
+    let kept = fill_and_put(rt, &mut fresh, path, there, text);
+    if kept.is_err() {
+        fresh.remove(rt);
+    }
+    kept
+}
+
+/// Writes a text to a device.
+fn write_device(rt: &HostRuntime, name: &str, text: &str) -> io::Result<()> {
+    let mut how = OpenOptions::new();
+    how.write(true);
+    let mut device = how.open(rt, name)?;
+    device.write_all(text.as_bytes())
+}
+
+/// What stands against a device where none is written.
+fn no_device() -> io::Error {
+    io::Error::new(ErrorKind::InvalidInput, "a device isn't written")
+}
+
+/// Puts a text in the place of the file that a name leads to. What a new file has not of the one whose place it takes is said on
+/// standard error.
+///
+/// # Errors
+///
+/// What the system says; the file is then as it was.
+pub fn save_text(rt: &HostRuntime, name: &str, text: &str, devices: Devices) -> io::Result<()> {
+    match target_of(rt, name)? {
+        Target::Device if devices == Devices::Written => write_device(rt, name, text),
+        Target::Device => Err(no_device()),
+        Target::File { path, there } => {
+            let kept = replace(rt, path.as_str(), there.as_ref(), text)?;
+            tell_kept(rt, name, kept);
+            Ok(())
+        }
     }
 }
 
-/// Whether a name is that of a symbolic link.
-fn is_link(rt: &HostRuntime, name: &str) -> io::Result<bool> {
-    match found(fs::symlink_metadata(rt, name))? {
-        Some(it) => Ok(it.is_symlink()),
-        None => Ok(false),
+/// Tries whether a file can be made beside the one that is there, and whether it may take its place.
+fn try_beside(rt: &HostRuntime, path: &str, there: Option<&Metadata>) -> io::Result<()> {
+    let fresh = Fresh::beside(rt, path, there)?;
+    let may_replace = match there {
+        Some(there) => fresh.may_replace(rt, path, there),
+        None => Ok(true),
+    };
+    fresh.remove(rt);
+    if !may_replace? {
+        return Err(io::Error::from(ErrorKind::PermissionDenied));
     }
+    Ok(())
 }
 
-/// Puts a text in the place of a file. It is written beside the file first, so that a file that was there stays as it was
-/// where writing fails.
-fn replace_file(rt: &HostRuntime, name: &str, text: &str) -> io::Result<()> {
-    let beside = format!(in rt.alloc(); "{name}.new")?;
-    let beside = beside.as_str();
-    let mut replaced = fs::write(rt, beside, text);
-    if replaced.is_ok() {
-        replaced = fs::rename(rt, beside, name);
+/// Tries whether a file can be written, before there is anything to lose: a file is made in its folder, and taken away again.
+///
+/// # Errors
+///
+/// What the system says.
+pub fn try_saving(rt: &HostRuntime, name: &str) -> io::Result<()> {
+    match target_of(rt, name)? {
+        Target::Device => Ok(()),
+        Target::File { path, there } => try_beside(rt, path.as_str(), there.as_ref()),
     }
-    if replaced.is_err() {
-        let _ = fs::remove_file(rt, beside);
-    }
-    replaced
-}
-
-/// Puts a text in the place of the file that a link leads to. One that leads to none makes it.
-fn replace_linked(rt: &HostRuntime, link: &str, text: &str) -> io::Result<()> {
-    match fs::canonicalize(rt, link) {
-        Ok(file) => replace_file(rt, file.as_str(), text),
-        Err(error) if error.kind() == ErrorKind::NotFound => fs::write(rt, link, text),
-        Err(error) => Err(error),
-    }
-}
-
-/// Puts a text in the place of a file, or of the file that a link leads to. What is no file, as a device, is written
-/// straight away.
-pub fn save_text(rt: &HostRuntime, name: &str, text: &str) -> io::Result<()> {
-    if is_no_file(rt, name)? {
-        return fs::write(rt, name, text);
-    }
-    if is_link(rt, name)? {
-        return replace_linked(rt, name, text);
-    }
-    replace_file(rt, name, text)
 }
 
 /// The fault of a run whose file can't be written.

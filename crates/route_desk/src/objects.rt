@@ -2,20 +2,10 @@
 
 ghost use Rattle.std.specs.Prelude.{None, Some, is_some, if◌then◌else◌};
 
-use console::{Fault, ScriptEnd};
 use json_answers::Front;
 use std::alloc::Global;
 use std::cell::Cell;
 use std::io;
-
-/// How a run tells what it does.
-#[derive(Clone, Copy)]
-pub struct Manner {
-    /// Whether each refused line and a fault is explained on standard error.
-    pub explained: bool,
-    /// Whether each answer is an object of JSON.
-    pub json: bool,
-}
 
 /// A writer that gets each answer as an object of JSON, if that is wanted.
 #[derive(Drop)]
@@ -70,12 +60,4 @@ pub fn place_if(json: bool, refused: &Cell<bool>) -> Option<&Cell<bool>> {
         return Some(refused);
     }
     None
-}
-
-/// The end of a run: if memory for an object or a picture was refused, that was its fault.
-pub fn end_with(mut end: ScriptEnd, refused: &Cell<bool>) -> ScriptEnd {
-    if refused.get() {
-        end.fault = Some(Fault::OutOfMemory);
-    }
-    end
 }

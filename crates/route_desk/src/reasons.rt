@@ -1,79 +1,224 @@
-//! Why a run ends early, in a sentence on standard error.
+//! Why a run ends early, in a sentence on standard error: what is wrong, where, and what to do.
 
+use crate::keys::{KeyForm, entry_at, entry_without_text, form_of, name_of, nearest};
 use crate::places::{Place, place_at, place_of};
+use crate::saying::say;
+use crate::sentences::front_of;
 use console::{Fault, write_fault};
-use explanations::find;
+use explanations::{explain_cause, explain_edit, find};
+use net_data::Refusal;
+use net_text::{Key, LoadFault};
+use plan_rows::Cause;
+use point_codes::PointCode;
 use std::alloc::{AllocError, Global};
-use std::{fs, io};
+use std::io;
+use toml::Table;
 
-/// The number of a fault in its text: `62` of `62 BadLine sets 4`, and `27` of `plans 1: 27 BadRow 2-1-1 a`.
-fn number_in(text: &str) -> &str {
-    let fault = match text.split_once(": ") {
-        Some((_, refusal)) => refusal,
-        None => text,
-    };
-    fault.split_ascii_whitespace().next().unwrap_or("")
+/// Where in a text something is wrong, and what.
+#[derive(Drop)]
+struct Wrong {
+    place: Option<Place>,
+    sentence: String,
 }
 
-/// What the fault of a text means.
-fn meaning_of(text: &str) -> &'static str {
-    match find(number_in(text)) {
-        Some(explanation) => explanation.meaning,
-        None => "",
+/// Says what is wrong with a text, and where, if that is known.
+fn tell(rt: &HostRuntime, name: &str, wrong: Result<Wrong, AllocError>) {
+    let Ok(wrong) = wrong else {
+        return;
+    };
+    let sentence = wrong.sentence.as_str();
+    let Some(Place { line, column }) = wrong.place else {
+        return say(rt, &[name, ": ", sentence]);
+    };
+    if let Ok(place) = format!(in rt.alloc(); ": line {line}, column {column}: ") {
+        say(rt, &[name, place.as_str(), sentence]);
     }
 }
 
-/// The key that the text of a fault names, and the place of an entry, 0 if it names none.
-fn entry_in(text: &str) -> Option<(&str, usize)> {
-    let named = match text.split_once(": ") {
-        Some((entry, _)) => entry,
-        None => text
-            .strip_prefix("62 BadLine ")
-            .or(text.strip_prefix("61 BadKey "))?,
-    };
-    match named.split_once(' ') {
-        Some((key, place)) => Some((key, place.parse::<usize>().ok()?)),
-        None => Some((named, 0)),
-    }
+/// That a text is no TOML document: why, and where.
+fn write_document(
+    alloc: Global,
+    bytes: &[u8],
+    error: &toml::de::Error,
+) -> Result<Wrong, AllocError> {
+    let (why, start) = (error.message(), error.span().map_or(0, |span| span.start));
+    Ok(Wrong {
+        place: Some(place_at(bytes, start)),
+        sentence: format!(in alloc; "{why}; mend the text there")?,
+    })
 }
 
 /// Where a text is no TOML document, and why.
-fn explain_toml(rt: &HostRuntime, name: &str, bytes: &[u8]) {
-    if let Err(error) = toml::table_from_slice(rt.alloc(), bytes) {
-        let (why, at) = (error.message(), error.span());
-        let start = match at {
-            Some(span) => span.start,
-            None => 0,
-        };
-        let Place { line, column } = place_at(bytes, start);
-        let _ = eprintln!(rt; "{name}: line {line}, column {column}: {why}");
+fn wrong_document(alloc: Global, bytes: &[u8]) -> Result<Wrong, AllocError> {
+    match toml::table_from_slice(alloc, bytes) {
+        Ok(_) => Err(AllocError),
+        Err(error) => write_document(alloc, bytes, &error),
     }
 }
 
-/// Says what is wrong with a network text, and where, if that is known.
-fn tell(rt: &HostRuntime, name: &str, place: Option<Place>, meaning: &str) {
-    let _ = match place {
-        Some(Place { line, column }) => {
-            eprintln!(rt; "{name}: line {line}, column {column}: {meaning}")
-        }
-        None => eprintln!(rt; "{name}: {meaning}"),
-    };
+/// What there is to say of a key that isn't known.
+fn write_unknown(alloc: Global, name: &str) -> Result<String, AllocError> {
+    let keys = "the keys are format, ni, tfr, points, pairs, sets and plans";
+    if name == "tfr" {
+        return String::from_str(
+            alloc,
+            "tfr is a key of format 2 alone: write format = 2, or leave it out",
+        );
+    }
+    match nearest(name) {
+        Some(nearest) => format!(in alloc; "there is no key {name}; is {nearest} meant? {keys}"),
+        None => format!(in alloc; "there is no key {name}; {keys}"),
+    }
 }
 
-/// Says what is wrong with a network text, and where.
-pub fn explain_text(rt: &HostRuntime, name: &str, bytes: &[u8], fault: Fault) {
-    let Ok(text) = write_fault(rt.alloc(), fault) else {
-        return;
-    };
-    let text = text.as_str();
-    if text == "60 NotToml" {
-        return explain_toml(rt, name, bytes);
+/// Whether a key of a document is none that it may have: any key is known, but `tfr` only if the format isn't 1.
+fn is_unknown(table: &Table, name: &str) -> bool {
+    if form_of(name).is_none() {
+        return true;
     }
-    let place = match entry_in(text) {
-        Some((key, entry)) => place_of(bytes, key, entry),
+    let format = match table.get("format") {
+        Some(value) => value.as_integer(),
         None => None,
     };
-    tell(rt, name, place, meaning_of(text));
+    name == "tfr" && format == Some(1)
+}
+
+/// Whether a place stands before another, or the other isn't known.
+fn is_before(place: Option<Place>, other: Option<Place>) -> bool {
+    match (place, other) {
+        (Some(one), Some(other)) => one.line < other.line,
+        (Some(_), None) => true,
+        _ => false,
+    }
+}
+
+/// The first key of a text that isn't known.
+fn wrong_name(alloc: Global, bytes: &[u8], table: &Table) -> Result<Wrong, AllocError> {
+    let (mut found, mut first): (Option<&String>, Option<Place>) = (None, None);
+    for name in table.keys() {
+        let place = place_of(bytes, name.as_str(), 0);
+        if is_unknown(table, name.as_str()) && (found.is_none() || is_before(place, first)) {
+            found = Some(name);
+            first = place;
+        }
+    }
+    let name = found.map_or("", |name| name.as_str());
+    Ok(Wrong {
+        place: first,
+        sentence: write_unknown(alloc, name)?,
+    })
+}
+
+/// What is wrong with the value of a key.
+fn write_value(alloc: Global, table: &Table, form: &KeyForm) -> Result<String, AllocError> {
+    let (name, value, example) = (form.name, form.value, form.example);
+    let Some(given) = table.get(name) else {
+        return format!(in alloc; "the key {name} is missing: it has to be {value}, as {example}");
+    };
+    match entry_without_text(given) {
+        Some(place) => {
+            format!(in alloc; "{name} has to be {value}, and entry {place} is none, as {example}")
+        }
+        None => format!(in alloc; "{name} has to be {value}, as {example}"),
+    }
+}
+
+/// What is wrong with a key of a text.
+fn wrong_key(alloc: Global, bytes: &[u8], key: Key) -> Result<Wrong, AllocError> {
+    let table = match toml::table_from_slice(alloc, bytes) {
+        Ok(table) => table,
+        Err(_) => return Err(AllocError),
+    };
+    let Some(form) = name_of(key).and_then(|name| form_of(name)) else {
+        return wrong_name(alloc, bytes, &table);
+    };
+    Ok(Wrong {
+        place: place_of(bytes, form.name, 0),
+        sentence: write_value(alloc, &table, form)?,
+    })
+}
+
+/// What is wrong with a row of a plan, and what to do.
+fn write_row(alloc: Global, point: PointCode, cause: Cause) -> Result<String, AllocError> {
+    let explained = explain_cause(cause);
+    let (meaning, action) = (explained.meaning, explained.action);
+    let mut text = String::from_str(alloc, "the row of ")?;
+    point.put_text(alloc, &mut text)?;
+    let rest = format!(in alloc; " can't be in that plan. {meaning} {action}")?;
+    text.push_str(rest.as_str())?;
+    Ok(text)
+}
+
+/// What an entry of a network text, or a line of a table, is refused for, and what to do there.
+pub fn write_refused(alloc: Global, refusal: &Refusal) -> Result<String, AllocError> {
+    let explained = explain_edit(refusal);
+    let (meaning, action) = (explained.meaning, explained.action);
+    match refusal {
+        Refusal::BadRow(point, cause) => write_row(alloc, *point, *cause),
+        Refusal::Joined(id) => {
+            format!(in alloc;
+                "set {id} joins the two points already. Add the links to it: there is one set between two points."
+            )
+        }
+        Refusal::NoPoint => String::from_str(
+            alloc,
+            "a point that it names is not in the network. Add it to the points, or mend the code.",
+        ),
+        Refusal::Paired => String::from_str(
+            alloc,
+            "a point that it names has a mate already. Name each point in one pair.",
+        ),
+        _ => format!(in alloc; "{meaning} {action}"),
+    }
+}
+
+/// What is wrong with an entry of a text: the entry, and a sentence.
+fn wrong_entry(
+    alloc: Global,
+    bytes: &[u8],
+    key: Key,
+    place: usize,
+    sentence: Result<String, AllocError>,
+) -> Result<Wrong, AllocError> {
+    let sentence = sentence?;
+    let (name, sentence) = (name_of(key).unwrap_or(""), sentence.as_str());
+    let entry = match toml::table_from_slice(alloc, bytes) {
+        Ok(table) => String::from_str(
+            alloc,
+            front_of(entry_at(&table, name, place).unwrap_or("")),
+        )?,
+        Err(_) => return Err(AllocError),
+    };
+    let entry = entry.as_str();
+    Ok(Wrong {
+        place: place_of(bytes, name, place),
+        sentence: format!(in alloc; "{name} {place} (\"{entry}\"): {sentence}")?,
+    })
+}
+
+/// That an entry can't be read, and what one is.
+fn write_unread(alloc: Global, key: Key) -> Result<String, AllocError> {
+    let name = name_of(key).unwrap_or("");
+    let entry = form_of(name).map_or("", |form| form.entry);
+    format!(in alloc; "the entry can't be read; an entry of {name} is {entry}")
+}
+
+/// Says what is wrong with a network text, where, and what to do.
+pub fn explain_text(rt: &HostRuntime, name: &str, bytes: &[u8], fault: Fault) {
+    let alloc = rt.alloc();
+    match fault {
+        Fault::Load(LoadFault::NotToml) => tell(rt, name, wrong_document(alloc, bytes)),
+        Fault::Load(LoadFault::BadKey(key)) => tell(rt, name, wrong_key(alloc, bytes, key)),
+        Fault::Load(LoadFault::BadLine(key, place)) => {
+            let sentence = write_unread(alloc, key);
+            tell(rt, name, wrong_entry(alloc, bytes, key, place, sentence))
+        }
+        Fault::Load(LoadFault::Refused(key, place, refusal)) => {
+            let sentence = write_refused(alloc, &refusal);
+            tell(rt, name, wrong_entry(alloc, bytes, key, place, sentence))
+        }
+        _ => explain_fault(rt, fault),
+    }
 }
 
 /// The reason in the text of a system's error, without its number.
@@ -91,26 +236,26 @@ pub fn write_reason(alloc: Global, name: &str, error: &io::Error) -> Result<Stri
     format!(in alloc; "{name}: {reason}")
 }
 
-/// Says why a file can't be read.
+/// Says why a file can't be read or written.
 pub fn explain_file(rt: &HostRuntime, name: &str, error: &io::Error) {
     if let Ok(text) = write_reason(rt.alloc(), name, error) {
-        let text = text.as_str();
-        let _ = eprintln!(rt; "{text}");
+        say(rt, &[text.as_str()]);
     }
 }
 
-/// Says why the network of a file isn't loaded: the system's reason, or what is wrong with its text, and where.
-pub fn explain_load(rt: &HostRuntime, name: &str, fault: Fault) {
-    match fs::read(rt, name) {
-        Ok(bytes) => explain_text(rt, name, bytes.as_slice(), fault),
-        Err(error) => explain_file(rt, name, &error),
-    }
+/// The number of a fault in its text: `62` of `62 BadLine sets 4`, and `27` of `plans 1: 27 BadRow 2-1-1 a`.
+fn number_in(text: &str) -> &str {
+    let fault = match text.split_once(": ") {
+        Some((_, refusal)) => refusal,
+        None => text,
+    };
+    fault.split_ascii_whitespace().next().unwrap_or("")
 }
 
 /// Says what a fault of a run means.
 pub fn explain_fault(rt: &HostRuntime, fault: Fault) {
     if let Ok(text) = write_fault(rt.alloc(), fault) {
-        let meaning = meaning_of(text.as_str());
-        let _ = eprintln!(rt; "{meaning}");
+        let meaning = find(number_in(text.as_str())).map_or("", |explained| explained.meaning);
+        say(rt, &[meaning]);
     }
 }

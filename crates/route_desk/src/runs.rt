@@ -5,38 +5,48 @@ ghost use Rattle.std.specs.Prelude.{◌≤◌};
 
 use crate::drawn::PictureWriter;
 use crate::explaining::{NotedReader, NotedWriter};
-use crate::files::{fault_of, save_text};
+use crate::loading::{explain_input, load_file, open_file};
 use crate::notes::Notes;
-use crate::objects::{Manner, ObjectWriter, end_with, place_if};
-use crate::reasons::{explain_fault, explain_file, explain_load, explain_text};
+use crate::objects::{ObjectWriter, place_if};
+use crate::streams::{CountingWriter, Seen, SeenReader, SeenWriter};
 use crate::terminal::{Prompting, greet, is_terminal};
 use beside::{run_beside, run_input_beside};
-use console::{Fault, ScriptEnd, read_net, run_input, run_script};
+use console::{Fault, ScriptEnd, run_input, run_script};
 use net_data::Net;
-use net_saving::save;
 use std::alloc::Global;
-use std::cell::{Cell, RefCell};
+use std::cell::RefCell;
+use std::io;
 use std::io::Printer;
 use std::sync::Wait;
 use std::thread::Threads;
-use std::{fs, io};
 use worker_pool::Plain;
 
-/// Loads the network of a file.
-pub fn load_file(rt: &HostRuntime, name: &str) -> Result<Net, Fault> {
-    match fs::open(rt, name) {
-        Ok(mut file) => read_net(rt.alloc(), &mut file),
-        Err(_) => Err(Fault::Read),
-    }
+/// How a run tells what it does.
+#[derive(Clone, Copy)]
+pub struct Manner {
+    /// Whether each refused line and a fault is explained on standard error.
+    pub explained: bool,
+    /// Whether each answer is an object of JSON.
+    pub json: bool,
+    /// Whether nothing is saved, and the run doesn't end with 0, if a line was refused.
+    pub strict: bool,
 }
 
-/// Loads the network of a file, and says why it isn't loaded if that is wanted.
-fn load_explained(rt: &HostRuntime, name: &str, explained: bool) -> Result<Net, Fault> {
-    let net = load_file(rt, name);
-    if let (true, Err(fault)) = (explained, &net) {
-        explain_load(rt, name, *fault);
+/// How a run ended, and what was seen of it.
+#[derive(Drop)]
+pub struct Ended {
+    pub end: ScriptEnd,
+    pub seen: Seen,
+}
+
+impl Ended {
+    /// The end of a run of which this was seen.
+    fn new(end: ScriptEnd, seen: Seen) -> Ended {
+        Ended {
+            end: seen.end_of(end),
+            seen,
+        }
     }
-    net
 }
 
 /// Notes of a script that starts from a network, if refused lines are to be explained.
@@ -55,20 +65,26 @@ fn input_notes(alloc: Global, explained: bool) -> Option<RefCell<Notes>> {
     None
 }
 
-/// Standard output, with what is done to the answers on their way there: pictures go to their files, the rest is noted and made
-/// objects of JSON if that is wanted.
-type Answers<'a> = PictureWriter<'a, NotedWriter<'a, ObjectWriter<'a, Printer<'a, HostRuntime>>>>;
+/// Standard output, with what is done to the answers on their way there: pictures go to their files, the rest is noted, refusals are
+/// counted, and it is made objects of JSON if that is wanted.
+type Answers<'a> = PictureWriter<
+    'a,
+    NotedWriter<'a, CountingWriter<'a, ObjectWriter<'a, SeenWriter<'a, Printer<'a, HostRuntime>>>>>,
+>;
 
-/// The writer of a run's answers, with the notes that it keeps, and where it tells that memory was refused.
+/// The writer of a run's answers, with the notes that it keeps, and where it tells what is seen of it.
 fn answers_to<'a>(
     rt: &'a HostRuntime,
     notes: Option<&'a RefCell<Notes>>,
-    refused: &'a Cell<bool>,
-    json: bool,
+    seen: &'a Seen,
+    manner: Manner,
 ) -> Answers<'a> {
-    let objects = ObjectWriter::new(rt.alloc(), place_if(json, refused), io::writer(rt));
-    let noted = NotedWriter::new(rt, notes, objects);
-    PictureWriter::new(rt, refused, notes, noted)
+    let output = SeenWriter::new(seen, io::writer(rt));
+    let place = place_if(manner.json, &seen.is_out_of_memory);
+    let objects = ObjectWriter::new(rt.alloc(), place, output);
+    let counted = CountingWriter::new(manner.strict.then_some(seen), objects);
+    let noted = NotedWriter::new(rt, notes, counted);
+    PictureWriter::new(rt, &seen.is_out_of_memory, notes, noted)
 }
 
 /// Runs the script of a reader from a network, in line or beside that many workers.
@@ -95,7 +111,7 @@ fn run_from(
     net: Net,
     workers: u32,
     manner: Manner,
-) -> ScriptEnd
+) -> Ended
     requires { workers ≤ 32 }
 {
     let alloc = rt.alloc();
@@ -104,11 +120,12 @@ fn run_from(
         greet(rt, &net);
     }
     let notes = script_notes(alloc, &net, manner.explained);
-    let refused = Cell::new(false);
-    let reader = NotedReader::new(notes.as_ref(), Prompting::new(rt, rt.reader(), wanted));
-    let writer = answers_to(rt, notes.as_ref(), &refused, manner.json);
+    let seen = Seen::new();
+    let input = SeenReader::new(&seen, Prompting::new(rt, rt.reader(), wanted));
+    let reader = NotedReader::new(notes.as_ref(), input);
+    let writer = answers_to(rt, notes.as_ref(), &seen, manner);
     let end = run_over(rt, threads, net, workers, reader, writer);
-    end_with(end, &refused)
+    Ended::new(end, seen)
 }
 
 /// Runs the network text and the script of an input, in line or beside that many workers.
@@ -127,47 +144,45 @@ fn run_input_from<R: io::Read + Drop, W: io::Write + Drop>(
     run_input_beside(threads, rt.alloc(), workers, &Plain, reader, writer).end
 }
 
-/// Says what is wrong with the network text of an input, by what was noted of it.
-fn explain_input(rt: &HostRuntime, notes: &RefCell<Notes>, fault: Fault) {
-    if let Ok(notes) = notes.try_borrow() {
-        explain_text(rt, "standard input", notes.text(), fault);
-    }
-}
-
 /// Runs the network text and the script on standard input, in line or beside that many workers.
 fn run_whole(
     rt: &HostRuntime,
     threads: &(impl Threads + Wait + Sync),
     workers: u32,
     manner: Manner,
-) -> ScriptEnd
+) -> Ended
     requires { workers ≤ 32 }
 {
     let notes = input_notes(rt.alloc(), manner.explained);
-    let refused = Cell::new(false);
-    let reader = NotedReader::new(notes.as_ref(), rt.reader());
-    let writer = answers_to(rt, notes.as_ref(), &refused, manner.json);
+    let seen = Seen::new();
+    let reader = NotedReader::new(notes.as_ref(), SeenReader::new(&seen, rt.reader()));
+    let writer = answers_to(rt, notes.as_ref(), &seen, manner);
     let end = run_input_from(rt, threads, workers, reader, writer);
-    let end = end_with(end, &refused);
     if let (Some(notes), Some(Fault::Load(fault))) = (&notes, end.fault) {
         explain_input(rt, notes, Fault::Load(fault));
     }
-    end
+    Ended::new(end, seen)
 }
 
-/// Runs the script of a reader from a network, in line.
-fn play_from<R: io::Read + Drop>(
+/// Runs the script of a reader from a network, in line, of which it is seen how it goes.
+fn play_seen<R: io::Read + Drop>(
     rt: &HostRuntime,
     net: Net,
     script: R,
+    seen: &Seen,
     manner: Manner,
 ) -> ScriptEnd {
     let notes = script_notes(rt.alloc(), &net, manner.explained);
-    let refused = Cell::new(false);
     let mut reader = NotedReader::new(notes.as_ref(), script);
-    let mut writer = answers_to(rt, notes.as_ref(), &refused, manner.json);
-    let end = run_script(rt.alloc(), &mut reader, &mut writer, net);
-    end_with(end, &refused)
+    let mut writer = answers_to(rt, notes.as_ref(), seen, manner);
+    run_script(rt.alloc(), &mut reader, &mut writer, net)
+}
+
+/// Runs the script of a reader from a network, in line.
+fn play_from<R: io::Read + Drop>(rt: &HostRuntime, net: Net, script: R, manner: Manner) -> Ended {
+    let seen = Seen::new();
+    let end = play_seen(rt, net, script, &seen, manner);
+    Ended::new(end, seen)
 }
 
 /// Runs the script of a file from the network of another.
@@ -176,17 +191,10 @@ pub fn play_file(
     name: &str,
     steps: &str,
     manner: Manner,
-) -> Result<ScriptEnd, Fault> {
-    let net = load_explained(rt, name, manner.explained)?;
-    match fs::open(rt, steps) {
-        Ok(file) => Ok(play_from(rt, net, file, manner)),
-        Err(error) => {
-            if manner.explained {
-                explain_file(rt, steps, &error);
-            }
-            Err(Fault::Read)
-        }
-    }
+) -> Result<Ended, Fault> {
+    let net = load_file(rt, name, manner.explained)?;
+    let script = open_file(rt, steps, manner.explained)?;
+    Ok(play_from(rt, net, script, manner))
 }
 
 /// Runs the script on standard input, from the network of a file or from that of the text before the script.
@@ -196,68 +204,12 @@ pub fn run_net(
     net: &str,
     workers: u32,
     manner: Manner,
-) -> Result<ScriptEnd, Fault>
+) -> Result<Ended, Fault>
     requires { workers ≤ 32 }
 {
     if net == "-" {
         return Ok(run_whole(rt, threads, workers, manner));
     }
-    let net = load_explained(rt, net, manner.explained)?;
+    let net = load_file(rt, net, manner.explained)?;
     Ok(run_from(rt, threads, net, workers, manner))
-}
-
-/// Writes the network to a file.
-fn save_net(rt: &HostRuntime, net: &Net, name: &str) -> Result<(), Fault> {
-    match save(rt.alloc(), net) {
-        Ok(text) => save_text(rt, name, text.as_str()).map_err(|error| fault_of(&error)),
-        Err(_) => Err(Fault::OutOfMemory),
-    }
-}
-
-/// The fault that ended a script, or the writing of its network to a file, if one is named.
-fn end_of(rt: &HostRuntime, end: ScriptEnd, file: Option<&str>) -> Option<Fault> {
-    if let (Some(net), Some(name)) = (&end.net, file) {
-        return save_net(rt, net, name).err();
-    }
-    end.fault
-}
-
-/// Says what the fault of a run means, if that is wanted. That of a network text is explained where it is read.
-fn tell_fault(rt: &HostRuntime, fault: Fault, explained: bool) {
-    match (explained, fault) {
-        (false, _) | (_, Fault::Load(_)) => {}
-        _ => explain_fault(rt, fault),
-    }
-}
-
-/// The same, if there was a fault.
-fn tell_end(rt: &HostRuntime, fault: &Option<Fault>, explained: bool) {
-    if let Some(fault) = fault {
-        tell_fault(rt, *fault, explained);
-    }
-}
-
-/// The fault that ended a script, or the writing of its network, of which it says what it means if that is wanted.
-fn told_end(
-    rt: &HostRuntime,
-    end: ScriptEnd,
-    file: Option<&str>,
-    explained: bool,
-) -> Option<Fault> {
-    let fault = end_of(rt, end, file);
-    tell_end(rt, &fault, explained);
-    fault
-}
-
-/// Writes the network after a run if a file is named. The answer is the fault, if there was one.
-pub fn finish(
-    rt: &HostRuntime,
-    end: Result<ScriptEnd, Fault>,
-    file: Option<&str>,
-    explained: bool,
-) -> Option<Fault> {
-    match end {
-        Ok(end) => told_end(rt, end, file, explained),
-        Err(fault) => Some(fault),
-    }
 }

@@ -2,6 +2,7 @@
 
 use crate::missing::put_missing_row;
 use crate::notes::LINE_LIMIT;
+use crate::saying::write_bytes;
 use crate::standing::put_standing;
 use answers::answer_other;
 use explanations::find;
@@ -10,11 +11,17 @@ use point_codes::PointCode;
 use script_words::{Command, read_line};
 use std::alloc::{AllocError, Global};
 
-/// Text bytes as a text, empty if they are none.
-fn text_of(bytes: &[u8]) -> &str {
-    match str::from_utf8(bytes) {
-        Ok(text) => text,
-        Err(_) => "",
+/// What a script begins with that some editors put there.
+const BYTE_ORDER_MARK: char = '\u{feff}';
+
+/// So much of a word is shown.
+const SHOWN: usize = 60;
+
+/// The front of a text that is shown.
+pub fn front_of(text: &str) -> &str {
+    match text.char_indices().nth(SHOWN) {
+        Some((end, _)) => text.get(..end).unwrap_or(text),
+        None => text,
     }
 }
 
@@ -136,12 +143,15 @@ fn write_by_help(alloc: Global, told: &str, word: &str, line: &str) -> Result<St
 
 /// Why a line is no command.
 fn write_no_command(alloc: Global, line: &str) -> Result<String, AllocError> {
-    let word = line.split_ascii_whitespace().next().unwrap_or("");
-    if word.is_empty() {
-        return String::from_str(alloc, "the line isn't UTF-8");
+    if line.starts_with(BYTE_ORDER_MARK) {
+        return String::from_str(
+            alloc,
+            "the line begins with a byte order mark; save the script without one",
+        );
     }
+    let word = line.split_ascii_whitespace().next().unwrap_or("");
     let told = help_on(alloc, word)?;
-    write_by_help(alloc, told.as_str(), word, line)
+    write_by_help(alloc, told.as_str(), front_of(word), line)
 }
 
 /// Why a command is answered `62 BadLine`.
@@ -258,6 +268,23 @@ pub fn write_sentence(alloc: Global, number: u64, reason: &str) -> Result<String
     format!(in alloc; "line {number}: {reason}")
 }
 
+/// What is wrong with a refused line of bytes, by the number of its refusal.
+fn write_reason_of(
+    alloc: Global,
+    line: &[u8],
+    title: &str,
+    net: Option<&Net>,
+) -> Result<String, AllocError> {
+    match str::from_utf8(line) {
+        Ok(line) => write_reason(alloc, line, title, net),
+        Err(_) => {
+            let shown = write_bytes(alloc, line)?;
+            let shown = front_of(shown.as_str());
+            format!(in alloc; "the line isn't UTF-8: {shown}")
+        }
+    }
+}
+
 /// The sentence for a line by its answer, if that is a refusal.
 pub fn sentence_of(
     alloc: Global,
@@ -266,10 +293,13 @@ pub fn sentence_of(
     answer: &[u8],
     net: Option<&Net>,
 ) -> Result<Option<String>, AllocError> {
-    let Some(refusal) = text_of(answer).strip_prefix("refused ") else {
+    let Some(refusal) = str::from_utf8(answer)
+        .unwrap_or("")
+        .strip_prefix("refused ")
+    else {
         return Ok(None);
     };
     let title = refusal.split_ascii_whitespace().next().unwrap_or("");
-    let reason = write_reason(alloc, text_of(line), title, net)?;
+    let reason = write_reason_of(alloc, line, title, net)?;
     Ok(Some(write_sentence(alloc, number, reason.as_str())?))
 }

@@ -1,0 +1,195 @@
+//! What the command line asks for besides runs: checks, pictures, tables and explanations.
+
+use crate::drawing::{NoPicture, picture_of, read_about};
+use crate::loading::load_file;
+use crate::reports::{report, tell, tell_bytes};
+use crate::saying::say;
+use crate::sheets::{FolderFault, describe, explain_folder, read_folder, write_folder};
+use console::{CheckEnd, Fault, check_net};
+use excerpts::Frozen;
+use explanations::{Explanation, explanations, find, write_explanation, write_titles};
+use json_answers::{write_object, write_texts};
+use net_data::Net;
+use net_saving::save;
+use std::alloc::{AllocError, Global};
+use std::io;
+use std::process::ExitCode;
+use std::thread::Threads;
+
+/// Works out and checks all tables of a network.
+fn check_tables(
+    threads: &(impl Threads + Sync),
+    alloc: Global,
+    net: Result<Net, Fault>,
+) -> Result<CheckEnd, Fault> {
+    let Ok(net) = Frozen::new(alloc, net?) else {
+        return Err(Fault::OutOfMemory);
+    };
+    match check_net(threads, alloc, &net) {
+        Ok(end) => Ok(end),
+        Err(_) => Err(Fault::OutOfMemory),
+    }
+}
+
+/// A line with a text, as an object of JSON if that is wanted.
+fn line_of(alloc: Global, text: &str, json: bool) -> Result<Vec<u8>, AllocError> {
+    let mut line = Vec::new(alloc);
+    if json {
+        return write_object(alloc, line, text);
+    }
+    line.extend_from_slice(text.as_bytes())?;
+    line.push(b'\n')?;
+    Ok(line)
+}
+
+/// Says what a check found.
+fn report_check(
+    rt: &HostRuntime,
+    end: &CheckEnd,
+    explained: bool,
+    json: bool,
+) -> io::Result<ExitCode> {
+    let told = tell_bytes(rt, line_of(rt.alloc(), end.text.as_str(), json), explained)?;
+    if end.right {
+        return Ok(told);
+    }
+    Ok(ExitCode::from(1))
+}
+
+/// Checks the tables of the network of a file.
+pub fn check(
+    rt: &HostRuntime,
+    threads: &(impl Threads + Sync),
+    net: &str,
+    explained: bool,
+    json: bool,
+) -> io::Result<ExitCode> {
+    match check_tables(threads, rt.alloc(), load_file(rt, net, explained)) {
+        Ok(end) => report_check(rt, &end, explained, json),
+        Err(fault) => report(rt, Some(fault)),
+    }
+}
+
+/// Explanations as objects of JSON, each on a line.
+fn objects_of(alloc: Global, list: &[Explanation]) -> Result<Vec<u8>, AllocError> {
+    let mut objects = Vec::new(alloc);
+    for explanation in list {
+        objects = write_texts(
+            objects,
+            &[
+                ("word", "explain"),
+                ("title", explanation.title),
+                ("values", explanation.values),
+                ("legend", explanation.legend),
+                ("meaning", explanation.meaning),
+                ("action", explanation.action),
+            ],
+        )?;
+    }
+    Ok(objects)
+}
+
+/// Writes the explanation that a word calls.
+fn explain_word(rt: &HostRuntime, word: &str, json: bool) -> io::Result<ExitCode> {
+    let alloc = rt.alloc();
+    match find(word) {
+        Some(explanation) if json => tell_bytes(rt, objects_of(alloc, &[*explanation]), false),
+        Some(explanation) => tell(rt, write_explanation(alloc, explanation), false),
+        None => {
+            say(rt, &["route_desk: nothing is called ", word]);
+            Ok(ExitCode::from(2))
+        }
+    }
+}
+
+/// Writes the explanation that a word calls, or a line for each if there is no word.
+pub fn explain(rt: &HostRuntime, what: Option<&str>, json: bool) -> io::Result<ExitCode> {
+    match what {
+        Some(word) => explain_word(rt, word, json),
+        None if json => tell_bytes(rt, objects_of(rt.alloc(), explanations()), false),
+        None => tell(rt, write_titles(rt.alloc(), explanations()), false),
+    }
+}
+
+/// Says that a picture's destination has no plan.
+fn report_no_plan(rt: &HostRuntime, about: &str, explained: bool) -> io::Result<ExitCode> {
+    if explained {
+        say(
+            rt,
+            &[
+                "the network has no plan of ",
+                about,
+                "; a picture shows the traffic to a destination that has one",
+            ],
+        );
+    }
+    eprintln!(rt; "route_desk: 26 NoPlan")?;
+    Ok(ExitCode::from(1))
+}
+
+/// Says that what a picture is to be about is no code.
+fn report_no_code(rt: &HostRuntime, about: &str, explained: bool) -> io::Result<ExitCode> {
+    if explained {
+        say(
+            rt,
+            &[
+                about,
+                ": a code is z-a-p, as 2-1-1: z 0 to 7, a 0 to 255, p 0 to 7",
+            ],
+        );
+    }
+    eprintln!(rt; "route_desk: X is no signalling point code")?;
+    Ok(ExitCode::from(2))
+}
+
+/// Draws the network of a file, about a destination if one is named.
+pub fn draw(
+    rt: &HostRuntime,
+    net: &str,
+    about: Option<&str>,
+    svg: bool,
+    explained: bool,
+) -> io::Result<ExitCode> {
+    let word = about.unwrap_or("");
+    let Ok(about) = read_about(about) else {
+        return report_no_code(rt, word, explained);
+    };
+    match picture_of(rt.alloc(), load_file(rt, net, explained), about, svg) {
+        Ok(text) => tell(rt, Ok(text), explained),
+        Err(NoPicture::Fault(fault)) => report(rt, Some(fault)),
+        Err(NoPicture::NoPlan) => report_no_plan(rt, word, explained),
+    }
+}
+
+/// Says why the tables of a folder say no network.
+fn report_folder(
+    rt: &HostRuntime,
+    dir: &str,
+    fault: &FolderFault,
+    explained: bool,
+) -> io::Result<ExitCode> {
+    if explained {
+        explain_folder(rt, dir, fault);
+    }
+    match describe(rt.alloc(), fault) {
+        Ok(text) => eprintln!(rt; "route_desk: {text}")?,
+        Err(_) => eprintln!(rt; "route_desk: 1 OutOfMemory")?,
+    }
+    Ok(ExitCode::from(1))
+}
+
+/// Writes the text of the network that the tables of a folder say, or what is wrong with them.
+pub fn import(rt: &HostRuntime, dir: &str, explained: bool) -> io::Result<ExitCode> {
+    match read_folder(rt, dir) {
+        Ok(net) => tell(rt, save(rt.alloc(), &net), explained),
+        Err(fault) => report_folder(rt, dir, &fault, explained),
+    }
+}
+
+/// Writes the network of a file as three tables in a folder.
+pub fn export(rt: &HostRuntime, net: &str, dir: &str, explained: bool) -> io::Result<ExitCode> {
+    match load_file(rt, net, explained) {
+        Ok(net) => report(rt, write_folder(rt, &net, dir, explained).err()),
+        Err(fault) => report(rt, Some(fault)),
+    }
+}

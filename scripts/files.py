@@ -1,0 +1,424 @@
+#!/usr/bin/env python3
+"""files.py PROGRAM: wants that the program's files are safe: what it saves takes the place of a file whole or not at all, what others
+made is neither opened for writing nor removed nor followed, and a file that can't be written is told before anything is lost.
+
+Each case is a function whose name says what is wanted. Some change user, or mount a small file system, which only root may: where that
+can't be had they are left out, and that is told. The last line is 'N passed, M failed'."""
+import os
+import resource
+import signal
+import stat
+import subprocess
+import sys
+import tempfile
+import threading
+import time
+
+HERE = os.path.join(os.path.dirname(os.path.abspath(__file__)), "..", "examples")
+NETWORK = os.path.abspath(os.path.join(HERE, "small.toml"))
+WRITE = "route_desk: 64 Write\n"
+NOBODY = 65534
+PROGRAM = ""
+
+
+class Failure(Exception):
+    """What isn't as it should be."""
+
+
+class LeftOut(Exception):
+    """Why a case can't be tried here."""
+
+
+def want(holds, what):
+    if not holds:
+        raise Failure(what)
+
+
+def run(words, text="version\n", **more):
+    """Standard output, standard error and status of a run."""
+    ran = subprocess.run([PROGRAM, *words], input=text, capture_output=True, text=True, timeout=60, **more)
+    return ran.stdout, ran.stderr, ran.returncode
+
+
+def saved_by(events):
+    """The text that a run with these events saves."""
+    with tempfile.TemporaryDirectory() as folder:
+        run(["run", NETWORK, "--save", "kept"], events, cwd=folder)
+        return read(folder, "kept")
+
+
+def read(folder, name):
+    with open(os.path.join(folder, name), encoding="utf-8") as it:
+        return it.read()
+
+
+def write(folder, name, text="before\n", mode=None):
+    with open(os.path.join(folder, name), "w", encoding="utf-8") as it:
+        it.write(text)
+    if mode is not None:
+        os.chmod(os.path.join(folder, name), mode)
+
+
+def mode_of(folder, name):
+    return stat.S_IMODE(os.stat(os.path.join(folder, name)).st_mode)
+
+
+class Held:
+    """A run whose script hasn't ended yet."""
+
+    def __init__(self, words, folder):
+        self.run = subprocess.Popen([PROGRAM, *words], stdin=subprocess.PIPE, stdout=subprocess.PIPE, stderr=subprocess.PIPE, text=True, cwd=folder)
+
+    def answer(self, line):
+        """The answer to a line, after which the run has surely begun."""
+        self.run.stdin.write(line + "\n")
+        self.run.stdin.flush()
+        return self.run.stdout.readline()
+
+    def end(self):
+        """Standard error and status, once the script has ended."""
+        _, errors = self.run.communicate(timeout=60)
+        return errors, self.run.returncode
+
+
+def under_own_number(folder, before):
+    """A run of which a shell makes a file or a link under the first name that the run will try, in which NAME stands for it."""
+    command = f'NAME=.route_desk-$$-0; {before}; exec "$0" run "$1" --save kept'
+    ran = subprocess.run(["bash", "-c", command, PROGRAM, NETWORK], input="fail 2 0\n", capture_output=True, text=True, timeout=60, cwd=folder)
+    return ran.stdout, ran.stderr, ran.returncode
+
+
+def as_root():
+    if os.geteuid() != 0:
+        raise LeftOut("only root can change user")
+
+
+# ---- what others made
+
+def a_file_beside_it_named_new_stays(folder):
+    write(folder, "kept")
+    write(folder, "kept.new", "mine\n")
+    want(run(["run", NETWORK, "--save", "kept"], "fail 2 0\n", cwd=folder) == ("taken 1\n", "", 0), "the run")
+    want(read(folder, "kept") == saved_by("fail 2 0\n"), "what is saved")
+    want(sorted(os.listdir(folder)) == ["kept", "kept.new"] and read(folder, "kept.new") == "mine\n", "kept.new")
+
+
+def a_file_under_the_temporary_name_stays(folder):
+    want(under_own_number(folder, "echo mine > $NAME") == ("taken 1\n", "", 0), "the run")
+    (other,) = set(os.listdir(folder)) - {"kept"}
+    want(read(folder, other) == "mine\n" and read(folder, "kept") == saved_by("fail 2 0\n"), "the files")
+
+
+def a_link_under_the_temporary_name_isnt_followed(folder):
+    write(folder, "victim", "mine\n")
+    want(under_own_number(folder, "ln -s victim $NAME") == ("taken 1\n", "", 0), "the run")
+    want(read(folder, "victim") == "mine\n" and len(os.listdir(folder)) == 3, "the files")
+    want(read(folder, "kept") == saved_by("fail 2 0\n"), "what is saved")
+
+
+def a_link_to_nothing_under_the_temporary_name_isnt_followed(folder):
+    want(under_own_number(folder, "ln -s victim $NAME") == ("taken 1\n", "", 0), "the run")
+    want("victim" not in os.listdir(folder) and read(folder, "kept") == saved_by("fail 2 0\n"), "the files")
+
+
+def all_names_taken_is_told_at_once(folder):
+    ran = under_own_number(folder, "for k in {0..999}; do : > .route_desk-$$-$k; done")
+    want(ran == ("", WRITE, 1), f"the run: {ran}")
+    want(len(os.listdir(folder)) == 1000, "the files")
+
+
+def a_save_that_fails_removes_only_its_own(folder):
+    write(folder, "kept")
+    ran = under_own_number(folder, "echo mine > $NAME; ulimit -f 0; trap '' XFSZ")
+    want(ran == ("taken 1\n", WRITE, 1), f"the run: {ran}")
+    (other,) = set(os.listdir(folder)) - {"kept"}
+    want(read(folder, other) == "mine\n" and read(folder, "kept") == "before\n", "the files")
+
+
+# ---- what FILE is
+
+def a_pipe_is_refused_at_once(folder):
+    os.mkfifo(os.path.join(folder, "kept"))
+    want(run(["run", NETWORK, "--save", "kept"], cwd=folder) == ("", WRITE, 1), "the run")
+    got = run(["run", NETWORK, "--save", "kept", "--explain"], cwd=folder)
+    want(got == ("", "kept: a pipe isn't written\n" + WRITE, 1), f"explained: {got}")
+
+
+def a_folder_is_refused_at_once(folder):
+    os.mkdir(os.path.join(folder, "kept"))
+    want(run(["run", NETWORK, "--save", "kept"], cwd=folder) == ("", WRITE, 1), "the run")
+
+
+def a_name_without_a_folder_is_refused_at_once(folder):
+    for name in ("nowhere/kept", "", "kept/", "nowhere/..", "x" * 300):
+        want(run(["run", NETWORK, "--save", name], cwd=folder) == ("", WRITE, 1), f"the name {name[:20]!r}")
+    want(not os.listdir(folder), "files are left")
+
+
+def a_long_name_is_saved(folder):
+    name = "k" * 255
+    want(run(["run", NETWORK, "--save", name], "fail 2 0\n", cwd=folder) == ("taken 1\n", "", 0), "the run")
+    want(os.listdir(folder) == [name], "the files")
+
+
+def a_link_is_followed_and_stays(folder):
+    os.mkdir(os.path.join(folder, "other"))
+    write(folder, "other/file", mode=0o640)
+    os.symlink("other/file", os.path.join(folder, "kept"))
+    want(run(["run", NETWORK, "--save", "kept"], "fail 2 0\n", cwd=folder) == ("taken 1\n", "", 0), "the run")
+    want(os.path.islink(os.path.join(folder, "kept")) and read(folder, "other/file") == saved_by("fail 2 0\n"), "the file")
+    want(mode_of(folder, "other/file") == 0o640 and os.listdir(os.path.join(folder, "other")) == ["file"], "its mode")
+
+
+def a_link_to_nothing_makes_the_file(folder):
+    os.mkdir(os.path.join(folder, "other"))
+    os.symlink("second", os.path.join(folder, "kept"))
+    os.symlink("other/file", os.path.join(folder, "second"))
+    want(run(["run", NETWORK, "--save", "kept"], "fail 2 0\n", cwd=folder) == ("taken 1\n", "", 0), "the run")
+    want(os.listdir(os.path.join(folder, "other")) == ["file"] and read(folder, "kept") == saved_by("fail 2 0\n"), "the file")
+
+
+def links_that_go_round_are_refused_at_once(folder):
+    os.symlink("kept", os.path.join(folder, "kept"))
+    want(run(["run", NETWORK, "--save", "kept"], cwd=folder) == ("", WRITE, 1), "the run")
+
+
+def a_full_device_is_told(folder):
+    want(run(["run", NETWORK, "--save", "/dev/full"], cwd=folder) == ("version 0 accepted 0\n", WRITE, 1), "the run")
+    got = run(["run", NETWORK, "--save", "/dev/full", "--explain"], cwd=folder)
+    want(got == ("version 0 accepted 0\n", "/dev/full: No space left on device\n" + WRITE, 1), f"explained: {got}")
+
+
+def a_device_is_saved_to(folder):
+    want(run(["run", NETWORK, "--save", "/dev/null"], cwd=folder) == ("version 0 accepted 0\n", "", 0), "the run")
+
+
+def a_picture_goes_to_no_device_and_no_pipe(folder):
+    os.mkfifo(os.path.join(folder, "pipe"))
+    got = run(["run", NETWORK, "--explain"], "picture /dev/null\npicture pipe\n", cwd=folder)
+    reasons = "line 1: /dev/null: a device isn't written\nline 2: pipe: a pipe isn't written\n"
+    want(got == ("refused 64 Write\n" * 2, reasons, 0), f"the run: {got}")
+
+
+def a_table_goes_to_no_pipe(folder):
+    os.mkfifo(os.path.join(folder, "sets.csv"))
+    got = run(["export", NETWORK, folder, "--explain"])
+    want(got == ("", f"{folder}/sets.csv: a pipe isn't written\n" + WRITE, 1), f"the run: {got}")
+
+
+def a_picture_and_tables_keep_modes(folder):
+    write(folder, "now.dot", mode=0o600)
+    write(folder, "points.csv", mode=0o640)
+    want(run(["run", NETWORK], "picture now.dot\n", cwd=folder)[2] == 0 and run(["export", NETWORK, folder])[2] == 0, "the runs")
+    want((mode_of(folder, "now.dot"), mode_of(folder, "points.csv")) == (0o600, 0o640), "the modes")
+    want(sorted(os.listdir(folder)) == ["now.dot", "points.csv", "routes.csv", "sets.csv"], "the files")
+
+
+# ---- mode and owner
+
+def a_mode_is_kept(folder):
+    for mode in (0o600, 0o640, 0o644, 0o400):
+        write(folder, "kept", mode=mode) if not os.path.exists(os.path.join(folder, "kept")) else os.chmod(os.path.join(folder, "kept"), mode)
+        want(run(["run", NETWORK, "--save", "kept"], "fail 2 0\n", cwd=folder) == ("taken 1\n", "", 0), f"the run, {mode:o}")
+        want(mode_of(folder, "kept") == mode, f"the mode {mode:o}")
+
+
+def a_new_file_has_the_mode_that_the_mask_leaves(folder):
+    for mask in (0o022, 0o027, 0o077):
+        command = ["bash", "-c", f'umask {mask:o}; exec "$0" run "$1" --save kept', PROGRAM, NETWORK]
+        subprocess.run(command, input="version\n", capture_output=True, text=True, timeout=60, cwd=folder, check=True)
+        want(mode_of(folder, "kept") == 0o666 & ~mask, f"the mask {mask:o}")
+        os.remove(os.path.join(folder, "kept"))
+
+
+def an_owner_is_kept(folder):
+    as_root()
+    write(folder, "kept", mode=0o640)
+    os.chown(os.path.join(folder, "kept"), 12345, 23456)
+    want(run(["run", NETWORK, "--save", "kept"], cwd=folder) == ("version 0 accepted 0\n", "", 0), "the run")
+    it = os.stat(os.path.join(folder, "kept"))
+    want((it.st_uid, it.st_gid, mode_of(folder, "kept")) == (12345, 23456, 0o640), "owner, group and mode")
+
+
+def open_to_nobody(folder):
+    """Lets the user nobody into the folder, the program and the network: what is needed is copied there."""
+    as_root()
+    os.chmod(folder, 0o777)
+    for name in (PROGRAM, NETWORK):
+        subprocess.run(["cp", name, folder], check=True)
+    program, network = os.path.join(folder, os.path.basename(PROGRAM)), os.path.join(folder, os.path.basename(NETWORK))
+    os.chmod(program, 0o755)
+    os.chmod(network, 0o644)
+    try:
+        subprocess.run([program, "--version"], user=NOBODY, group=NOBODY, extra_groups=[], capture_output=True, check=True)
+    except (OSError, subprocess.CalledProcessError) as error:
+        raise LeftOut("nobody can't run a program here") from error
+    return program, network
+
+
+def run_as_nobody(folder, words, text="version\n"):
+    program, network = open_to_nobody(folder)
+    ran = subprocess.run([program, "run", network, *words], input=text, capture_output=True, text=True, timeout=60,
+                         cwd=folder, user=NOBODY, group=NOBODY, extra_groups=[])
+    return ran.stdout, ran.stderr, ran.returncode
+
+
+def an_owner_that_cant_be_kept_is_told(folder):
+    as_root()
+    write(folder, "kept", mode=0o664)
+    got = run_as_nobody(folder, ["--save", "kept"])
+    want(got == ("version 0 accepted 0\n", "route_desk: kept: its owner or its group isn't kept\n", 0), f"the run: {got}")
+    want(os.stat(os.path.join(folder, "kept")).st_uid == NOBODY and mode_of(folder, "kept") == 0o644, "another group may do no more than anyone")
+
+
+def a_folder_without_leave_is_told_at_once(folder):
+    as_root()
+    os.mkdir(os.path.join(folder, "closed"))
+    write(folder, "closed/kept")
+    os.chmod(os.path.join(folder, "closed"), 0o555)
+    got = run_as_nobody(folder, ["--save", "closed/kept", "--explain"])
+    want(got == ("", "closed/kept: Permission denied\n" + WRITE, 1), f"the run: {got}")
+    want(read(folder, "closed/kept") == "before\n", "the file")
+
+
+def a_file_of_another_in_a_sticky_folder_is_told_at_once(folder):
+    as_root()
+    os.mkdir(os.path.join(folder, "sticky"))
+    write(folder, "sticky/kept", mode=0o666)
+    os.chmod(os.path.join(folder, "sticky"), 0o1777)
+    got = run_as_nobody(folder, ["--save", "sticky/kept"])
+    want(got == ("", WRITE, 1), f"the run: {got}")
+    want(os.listdir(os.path.join(folder, "sticky")) == ["kept"], "the files")
+
+
+# ---- while the run goes on
+
+def a_file_that_others_changed_is_saved_and_told(folder):
+    write(folder, "kept", read(os.path.dirname(NETWORK), "small.toml"))
+    held = Held(["run", "kept", "--save", "kept"], folder)
+    want(held.answer("fail 2 0") == "taken 1\n", "the answer")
+    with open(os.path.join(folder, "kept"), "a", encoding="utf-8") as it:
+        it.write("# another\n")
+    want(held.end() == ("route_desk: kept: others changed it during this run; what they wrote is replaced\n", 0), "the end")
+    want(read(folder, "kept") == saved_by("fail 2 0\n"), "what is saved")
+
+
+def two_runs_with_one_file_end_well(folder):
+    write(folder, "kept")
+    first, second = (Held(["run", NETWORK, "--save", "kept"], folder) for _ in range(2))
+    want((first.answer("fail 2 0"), second.answer("fail 1 0")) == ("taken 1\n",) * 2, "the answers")
+    want(first.end() == ("", 0), "the first")
+    want(read(folder, "kept") == saved_by("fail 2 0\n"), "what the first saved")
+    want(second.end() == ("route_desk: kept: others changed it during this run; what they wrote is replaced\n", 0), "the second")
+    want(read(folder, "kept") == saved_by("fail 1 0\n") and os.listdir(folder) == ["kept"], "what the second saved")
+
+
+def a_folder_that_goes_away_is_told_at_the_end(folder):
+    os.mkdir(os.path.join(folder, "gone"))
+    held = Held(["run", NETWORK, "--save", "gone/kept"], folder)
+    want(held.answer("fail 2 0") == "taken 1\n", "the answer")
+    os.rmdir(os.path.join(folder, "gone"))
+    want(held.end() == (WRITE, 1), "the end")
+
+
+def a_full_file_system_leaves_the_file(folder):
+    as_root()
+    small = os.path.join(folder, "small")
+    os.mkdir(small)
+    if subprocess.run(["mount", "-t", "tmpfs", "-o", "size=64k", "tmpfs", small], capture_output=True, check=False).returncode:
+        raise LeftOut("no file system can be mounted here")
+    try:
+        write(small, "kept")
+        held = Held(["run", NETWORK, "--save", "kept", "--explain"], small)
+        want(held.answer("fail 2 0") == "taken 1\n", "the answer")
+        with open(os.path.join(small, "filler"), "wb", buffering=0) as it:
+            try:
+                while it.write(b"x" * 1024):
+                    pass
+            except OSError:
+                pass
+        want(held.end() == ("kept: No space left on device\n" + WRITE, 1), "the end")
+        want(read(small, "kept") == "before\n" and sorted(os.listdir(small)) == ["filler", "kept"], "the files")
+    finally:
+        subprocess.run(["umount", small], check=True)
+
+
+def pairs_of_runs_at_once_leave_one_whole_text(folder):
+    """200 pairs of runs with one file: each ends with 0, and the file is one whole text at every moment that it is looked at."""
+    whole = {"before\n", saved_by("fail 2 0\n"), saved_by("fail 1 0\n")}
+    write(folder, "kept")
+    torn, ended = [], threading.Event()
+
+    def look():
+        while not ended.is_set():
+            text = read(folder, "kept")
+            if text not in whole:
+                torn.append(text)
+            time.sleep(0.0005)
+
+    looker = threading.Thread(target=look)
+    looker.start()
+    try:
+        for number in range(200):
+            pair = [subprocess.Popen([PROGRAM, "run", NETWORK, "--save", "kept"], stdin=subprocess.PIPE, stdout=subprocess.DEVNULL,
+                                     stderr=subprocess.DEVNULL, cwd=folder) for _ in range(2)]
+            for it, event in zip(pair, (b"fail 2 0\n", b"fail 1 0\n")):
+                it.stdin.write(event)
+                it.stdin.close()
+            want([it.wait(timeout=60) for it in pair] == [0, 0], f"pair {number}")
+            want(read(folder, "kept") in whole - {"before\n"}, f"pair {number}: the file")
+    finally:
+        ended.set()
+        looker.join()
+    want(not torn and os.listdir(folder) == ["kept"], f"{len(torn)} looks found a text that is none")
+
+
+def strict_saves_nothing(folder):
+    write(folder, "kept")
+    got = run(["run", NETWORK, "--save", "kept", "--strict"], "fail 2 0\nfail 9 0\nnonsense\n", cwd=folder)
+    want(got == ("taken 1\nrefused 17 NoSet\nrefused 62 BadLine\n", "route_desk: 2 lines refused\n", 1), f"the run: {got}")
+    want(read(folder, "kept") == "before\n" and os.listdir(folder) == ["kept"], "the file")
+
+
+# ---- standard streams
+
+def a_reader_that_goes_away_is_no_fault_to_tell(folder):
+    with open(os.path.join(folder, "script"), "w", encoding="utf-8") as it:
+        it.write("version\n" * 100000)
+    command = 'set -o pipefail; "$0" run "$1" --explain < script | head -1'
+    ran = subprocess.run(["bash", "-c", command, PROGRAM, NETWORK], capture_output=True, text=True, timeout=60, cwd=folder)
+    want((ran.stdout, ran.stderr, ran.returncode) == ("version 0 accepted 0\n", "", 1), f"the run: {ran}")
+
+
+def help_into_a_full_device_is_told(folder):
+    for words in ("--help", "run --help", "--version"):
+        ran = subprocess.run(["bash", "-c", f'"$0" {words} > /dev/full', PROGRAM], capture_output=True, text=True, timeout=60, cwd=folder)
+        want((ran.stderr, ran.returncode) == (WRITE, 1), f"{words}: {ran}")
+
+
+CASES = [it for it in list(globals().values()) if callable(it) and getattr(it, "__code__", None) and it.__code__.co_varnames[:1] == ("folder",)
+         and it.__code__.co_argcount == 1 and it is not open_to_nobody]
+
+
+def main():
+    global PROGRAM
+    PROGRAM = os.path.abspath(sys.argv[1])
+    signal.signal(signal.SIGXFSZ, signal.SIG_IGN)
+    resource.setrlimit(resource.RLIMIT_CORE, (0, 0))
+    passed = failed = 0
+    for case in CASES:
+        with tempfile.TemporaryDirectory() as folder:
+            try:
+                case(folder)
+                passed += 1
+            except LeftOut as why:
+                print(f"{case.__name__}: left out, {why}")
+            except (Failure, OSError, subprocess.SubprocessError, ValueError) as failure:
+                print(f"{case.__name__}: {failure}")
+                failed += 1
+    print(f"{passed} passed, {failed} failed")
+    return 1 if failed or not passed else 0
+
+
+if __name__ == "__main__":
+    sys.exit(main())
