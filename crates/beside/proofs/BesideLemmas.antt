@@ -1,34 +1,50 @@
 -- What the script's thread finds and leaves.
-use Rattle.std.proofs.Common.{◌≡◌, ◌≢◌, append_assoc, append-nil, ℕ, ◌+◌, ◌-◌, ◌^◌, ◌==◌, false, List, [], ◌∷◌, ◌++◌, refl, sym, ap, subst, ◌∙◌, ne_eqb, Option, Some, None, Result, Ok, Err}
-use Rattle.std.specs.Prelude.{IfOk}
+use Rattle.std.proofs.Common.{◌≡◌, ◌≢◌, append_assoc, append-nil, ℕ, ◌+◌, ◌-◌, ◌<◌, ◌^◌, ◌==◌, arith, inl, inr, false, List, [], ◌∷◌, ◌++◌, refl, sym, ap, subst, ◌∙◌, ne_eqb, Option, Some, None, Result, Ok, Err}
+use Rattle.std.specs.Prelude.{IfOk, OnOk, true}
+use Rattle.work_units.specs.declared.replies.Refusal.TheVariants.{EndOfNumbers}
+use Rattle.answers.specs.Replies.{refused_text}
+use Rattle.desk_console.specs.Watch.{WatchValue}
+use Rattle.std.proofs.lemmas.Bool.Decides.{nat_tests}
 use Rattle.net_data.specs.declared.events.Event.{Event}
 use Rattle.net_data.specs.Network.{Network}
 use Rattle.net_versions.specs.Versions.{VersionValue, settled_version}
-use Rattle.desk_core.specs.Desk.{DeskValue, new_desk}
+use Rattle.desk_core.specs.Desk.{DeskValue, accepted, new_desk}
 use Rattle.desk_core.specs.Steps.{last_of, Posts}
 use Rattle.answers.specs.Replies.{posted_text}
 use Rattle.desk_console.specs.Console.{ConsoleValue}
-use Rattle.desk_console.specs.Does.{Calls, PostsAfter, PostsNext}
+use Rattle.desk_console.specs.Does.{Calls, PostsAfter, PostsNext, Tells}
 use Rattle.desk_console.specs.Watch.{unwatched}
+use Rattle.seats.specs.Minutes.{SeatValue, sight}
+use Rattle.versions.specs.Book.{no_table}
 use Rattle.versions.specs.Hubs.{PairValue}
+use Rattle.versions.specs.Working.{Comes, ComesAndDoes, IsWorkedOn, leaving, left_at}
+use Rattle.versions.proofs.SeatLemmas.{alone, came_last, did_last}
 use Rattle.versions.specs.declared.state.DeskAndChain.{DeskAndChain}
 use mathlib.Core.List.{IsPrefix}
 use Rattle.sessions.specs.Run.{Ran}
 use Rattle.sessions.specs.declared.faults.Fault.{Fault}
 use Rattle.sessions.specs.declared.faults.Fault.TheVariants.{OutOfMemory}
 use Rattle.sessions.proofs.RunLemmas.{ran_nothing}
-use Rattle.beside.specs.Beside.{BesideValue, CommandsBeside, DoesAt, DoesThere, LeavesBeside, Looks, StartsBeside, at_console, newcomer}
+use Rattle.beside.specs.Beside.{BesideValue, CommandsBeside, DoesAt, DoesThere, Finds, KeepsSynced, LeavesBeside, Looks, StartsBeside, at_console, newcomer}
 use Rattle.beside.specs.Runs.{IsFresh, RanBeside}
 
 -- a script's thread that has just come to a new hub
-pub opens_fresh : (net : Network) (pair : PairValue) (b : BesideValue) → IsFresh net pair → b ≡ newcomer pair.state → StartsBeside net b
-opens_fresh net pair b fresh same =
+pub opens_fresh : (net : Network) (pair : PairValue) (b : BesideValue) → IsFresh net pair → (seat : SeatValue DeskAndChain) → seat.saw ≡ sight 0 pair.state ∷ [] → b ≡ newcomer seat pair.state → StartsBeside net b
+opens_fresh net pair b fresh seat saw same =
     let chain : pair.state.shown.chain ≡ settled_version 0 [] net ∷ [] = fresh.chain ∙ ap (λ (d : DeskValue). d.published ∷ []) fresh.desk in
-    subst (StartsBeside net) (sym same) (record { desk = fresh.desk; shown = chain; seen = chain; synced = ap (λ (d : DeskValue). d.published) fresh.desk; watch = refl })
+    subst (StartsBeside net) (sym same) (record { seat = saw; desk = fresh.desk; shown = chain; seen = chain; synced = ap (λ (d : DeskValue). d.published) fresh.desk; watch = refl })
+
+-- the hub at a start over a network
+abbrev first_left : Network → DeskAndChain
+first_left net = record {
+  desk = new_desk net;
+  shown = record { book = record { number = 0; log_name = 0; cells_name = 0 }; chain = settled_version 0 [] net ∷ [] };
+}
 
 -- a start over a network
 abbrev pub first_beside : Network → BesideValue
 first_beside net = record {
+  seat = record { table = no_table; me = 0; saw = sight 0 (first_left net) ∷ [] };
   left = record {
     desk = new_desk net;
     shown = record { book = record { number = 0; log_name = 0; cells_name = 0 }; chain = settled_version 0 [] net ∷ [] };
@@ -39,31 +55,32 @@ first_beside net = record {
 }
 
 pub opens_first : (net : Network) → StartsBeside net (first_beside net)
-opens_first net = record { desk = refl; shown = refl; seen = refl; synced = refl; watch = refl }
+opens_first net = record { seat = refl; desk = refl; shown = refl; seen = refl; synced = refl; watch = refl }
 
 -- a call at the hub that was found
-pub some_there : {T F : Type 0} (r : Result T F) (text_of : T → List ℕ) (Done : ConsoleValue → List ℕ → ConsoleValue → Type 0) (old : BesideValue) (found : DeskAndChain) (new : BesideValue)
-    → IfOk r (λ t. DoesAt Done old found (text_of t) new) → IfOk r (λ t. DoesThere Done old (text_of t) new)
-some_there (Ok t) text_of Done old found new h = (found, h)
-some_there (Err e) text_of Done old found new h = tt
+pub some_there : (seats : ℕ) {T F : Type 0} (r : Result T F) (text_of : T → List ℕ) (Done : ConsoleValue → List ℕ → ConsoleValue → Type 0) (old : BesideValue) (found : DeskAndChain) (new : BesideValue)
+    → IfOk r (λ t. DoesAt seats Done old found (text_of t) new) → IfOk r (λ t. DoesThere seats Done old (text_of t) new)
+some_there seats (Ok t) text_of Done old found new h = (found, h)
+some_there seats (Err e) text_of Done old found new h = tt
 
--- collector 0's next post
-pub posted_next : {T F : Type 0} (r : Result T F) (text_of : T → List ℕ) (event : Event) (old : BesideValue) (found : DeskAndChain) (new : BesideValue) (last : ℕ)
-    → last ≡ (last_of found.desk 0).seq → last ≢ 2 ^ 64 - 1
-    → IfOk r (λ t. DoesAt (Calls (λ s. Posts s 0 (last + 1) event) posted_text) old found (text_of t) new) → IfOk r (λ t. DoesThere (PostsNext event) old (text_of t) new)
-posted_next (Ok t) text_of event old found new last e less h =
-    let off : ((last_of found.desk 0).seq == 2 ^ 64 - 1) ≡ false = ne_eqb (last_of found.desk 0).seq (2 ^ 64 - 1) (λ same. less (e ∙ same)) in
-    let calls = subst (λ n. Calls (λ s. Posts s 0 (n + 1) event) posted_text (at_console found.desk) (text_of t) (at_console new.left.desk)) e h.done in (
+-- a collector's next post
+pub posted_next : (seats : ℕ) {T F : Type 0} (r : Result T F) (text_of : T → List ℕ) (collector : ℕ) (event : Event) (old : BesideValue) (found : DeskAndChain) (new : BesideValue) (last : ℕ)
+    → last ≡ (last_of found.desk collector).seq → last ≢ 2 ^ 64 - 1
+    → IfOk r (λ t. DoesAt seats (Calls (λ s. Posts s collector (last + 1) event) posted_text) old found (text_of t) new) → IfOk r (λ t. DoesThere seats (PostsNext collector event) old (text_of t) new)
+posted_next seats (Ok t) text_of collector event old found new last e less h =
+    let off : ((last_of found.desk collector).seq == 2 ^ 64 - 1) ≡ false = ne_eqb (last_of found.desk collector).seq (2 ^ 64 - 1) (λ same. less (e ∙ same)) in
+    let calls = subst (λ n. Calls (λ s. Posts s collector (n + 1) event) posted_text (at_console found.desk) (text_of t) (at_console new.left.desk)) e h.done in (
       found,
       record {
         finds = h.finds;
+        leaves = h.leaves;
         shown = h.shown;
         told = h.told;
         kept = h.kept;
-        done = subst (λ b. PostsAfter b event (at_console found.desk) (text_of t) (at_console new.left.desk)) (sym off) calls;
+        done = subst (λ b. PostsAfter b collector event (at_console found.desk) (text_of t) (at_console new.left.desk)) (sym off) calls;
       },
     )
-posted_next (Err e) text_of event old found new last is less h = tt
+posted_next seats (Err e) text_of collector event old found new last is less h = tt
 
 -- chains that begin with one another
 pub begins_itself : (xs : List VersionValue) → IsPrefix xs xs
@@ -73,8 +90,9 @@ pub begins_later : (xs ys zs : List VersionValue) → IsPrefix xs ys → IsPrefi
 begins_later xs ys zs p q = (p.0 ++ q.0, sym (append_assoc xs p.0 q.0) ∙ (ap (λ w. w ++ q.0) p.1 ∙ q.1))
 
 -- a look after others
-pub looks_later : (first old new : BesideValue) (version : VersionValue) → old.left ≡ first.left → IsPrefix first.seen old.seen → Looks old version new → Looks first version new
-looks_later first old new version same begins is = record {
+pub looks_later : (first old new : BesideValue) (version : VersionValue) → old.seat ≡ first.seat → old.left ≡ first.left → IsPrefix first.seen old.seen → Looks old version new → Looks first version new
+looks_later first old new version seat same begins is = record {
+  seat = is.seat ∙ seat;
   left = is.left ∙ same;
   seen = begins_later first.seen old.seen new.seen begins is.seen;
   is_chain = is.is_chain;
@@ -82,11 +100,11 @@ looks_later first old new version same begins is = record {
 }
 
 -- a run from a new hub
-pub ran_fresh : (net : Network) (pair : PairValue) (unread left held holds : Option (List ℕ)) (fault : Option Fault) (lines : ℕ) (back : Option Network) → IsFresh net pair
-    → Ran CommandsBeside LeavesBeside (Unit {0}) (newcomer pair.state) unread left held holds fault lines back → RanBeside net unread left held holds fault lines back
-ran_fresh net pair unread left held holds fault lines back fresh ran = record {
-  start = newcomer pair.state;
-  opens = opens_fresh net pair _ fresh refl;
+pub ran_fresh : (net : Network) (pair : PairValue) (unread left held holds : Option (List ℕ)) (fault : Option Fault) (lines : ℕ) (back : Option Network) → IsFresh net pair → (seat : SeatValue DeskAndChain) → seat.saw ≡ sight 0 pair.state ∷ []
+    → Ran (CommandsBeside 1) (LeavesBeside 1) (Unit {0}) (newcomer seat pair.state) unread left held holds fault lines back → RanBeside net unread left held holds fault lines back
+ran_fresh net pair unread left held holds fault lines back fresh seat saw ran = record {
+  start = newcomer seat pair.state;
+  opens = opens_fresh net pair _ fresh seat saw refl;
   ran = ran;
 }
 
@@ -96,5 +114,86 @@ pub ran_unopened : (net : Network) (unread held : Option (List ℕ)) (fault : Op
 ran_unopened net unread held fault lines back zero some none = record {
   start = first_beside net;
   opens = opens_first net;
-  ran = ran_nothing CommandsBeside LeavesBeside (Unit {0}) (first_beside net) unread held OutOfMemory fault lines back tt zero some none;
+  ran = ran_nothing (CommandsBeside 1) (LeavesBeside 1) (Unit {0}) (first_beside net) unread held OutOfMemory fault lines back tt zero some none;
 }
+
+-- what who comes finds
+abbrev pub finds_by : (seats : ℕ) (old : BesideValue) (found : DeskAndChain) (there : SeatValue DeskAndChain) → left_at old.seat.saw ≡ old.left → Comes seats old.seat found there → IsPrefix old.seen found.shown.chain → Finds seats old found
+finds_by seats old found there left comes seen = record {
+  there = there;
+  comes = comes;
+  worked = λ one. subst (λ s. IsWorkedOn s found) left (alone seats old.seat found there one comes);
+  seen = seen;
+}
+
+-- who came and changed nothing is told what it found
+pub visited : (seats : ℕ) (Done : ConsoleValue → List ℕ → ConsoleValue → Type 0) (old : BesideValue) (found : DeskAndChain) (text : List ℕ) (new : BesideValue)
+    → (finds : Finds seats old found) × (new ≡ record old { seat = finds.there; left = found; seen = found.shown.chain }) → Done (at_console found.desk) text (at_console found.desk) → DoesAt seats Done old found text new
+visited seats Done old found text new is done = record {
+  finds = is.0;
+  leaves = inl (ap (λ (b : BesideValue). b.seat) is.1, ap (λ (b : BesideValue). b.left) is.1);
+  shown = ap (λ (b : BesideValue). b.left.shown) is.1;
+  told = ap (λ (b : BesideValue). b.seen) is.1;
+  kept = (ap (λ (b : BesideValue). b.synced) is.1, ap (λ (b : BesideValue). b.watch) is.1);
+  done = subst (λ (s : DeskAndChain). Done (at_console found.desk) text (at_console s.desk)) (sym (ap (λ (b : BesideValue). b.left) is.1)) done;
+}
+
+-- who came and posted
+pub posted : (seats : ℕ) (Done : ConsoleValue → List ℕ → ConsoleValue → Type 0) (old : BesideValue) (found left : DeskAndChain) (text : List ℕ) (new : BesideValue) → left_at old.seat.saw ≡ old.left
+    → ComesAndDoes seats old.seat found left new.seat → new.left ≡ left_at new.seat.saw → IsPrefix old.seen found.shown.chain → left.shown ≡ found.shown → new.seen ≡ found.shown.chain → KeepsSynced old new
+    → Done (at_console found.desk) text (at_console left.desk) → DoesAt seats Done old found text new
+posted seats Done old found left text new at came there seen shown told kept done =
+    let last : new.left ≡ left = there ∙ did_last seats old.seat found left new.seat came in record {
+      finds = finds_by seats old found came.0 at came.1 seen;
+      leaves = inr (came.2 ∙ ap (leaving came.0) (sym last));
+      shown = ap (λ (s : DeskAndChain). s.shown) last ∙ shown;
+      told = told;
+      kept = kept;
+      done = subst (λ (s : DeskAndChain). Done (at_console found.desk) text (at_console s.desk)) (sym last) done;
+    }
+
+-- so many events are accepted at the hub that was found, or left
+pub came_count : (seats : ℕ) (old : SeatValue DeskAndChain) (found : DeskAndChain) (new : SeatValue DeskAndChain) → Comes seats old found new → accepted found.desk ≡ accepted (left_at new.saw).desk
+came_count seats old found new comes = sym (ap (λ (s : DeskAndChain). accepted s.desk) (came_last seats old found new comes))
+
+pub did_count : (seats : ℕ) (old : SeatValue DeskAndChain) (found left : DeskAndChain) (new : SeatValue DeskAndChain) → ComesAndDoes seats old found left new → accepted left.desk ≡ accepted (left_at new.saw).desk
+did_count seats old found left new came = sym (ap (λ (s : DeskAndChain). accepted s.desk) (did_last seats old found left new came))
+
+-- a value as who came has it
+abbrev pub beside_of : SeatValue DeskAndChain → List VersionValue → VersionValue → WatchValue → BesideValue
+beside_of seat seen synced watch = record { seat = seat; left = left_at seat.saw; seen = seen; synced = synced; watch = watch }
+
+-- who comes and is told what is published
+pub visit_found : {F : Type 0} (r : Result (Unit {0}) F) (seats : ℕ) (seat there : SeatValue DeskAndChain) (seen chain : List VersionValue) (synced : VersionValue) (watch : WatchValue) (found : DeskAndChain) → Comes seats seat found there
+    → OnOk r ((chain ≡ found.shown.chain) × IsPrefix seen chain)
+    → OnOk r ((finds : Finds seats (beside_of seat seen synced watch) found) × (beside_of there chain synced watch ≡ record (beside_of seat seen synced watch) { seat = finds.there; left = found; seen = found.shown.chain }))
+visit_found (Ok x) seats seat there seen chain synced watch found comes told = (
+  finds_by seats (beside_of seat seen synced watch) found there refl comes (subst (IsPrefix seen) told.0 told.1),
+  (λ i. record { seat = there; left = came_last seats seat found there comes i; seen = told.0 i; synced = synced; watch = watch }),
+)
+visit_found (Err e) seats seat there seen chain synced watch found comes told = tt
+
+pub each_ok : {T F : Type 0} (r : Result T F) (P Q : T → Type 0) → ((t : T) → P t → Q t) → IfOk r P → IfOk r Q
+each_ok (Ok t) P Q f h = f t h
+each_ok (Err e) P Q f h = tt
+
+-- a collector has no next post
+pub refused_next : (seats : ℕ) {T F : Type 0} (r : Result T F) (text_of : T → List ℕ) (collector : ℕ) (event : Event) (old : BesideValue) (found : DeskAndChain) (new : BesideValue) (last : ℕ)
+    → last ≡ (last_of found.desk collector).seq → last ≡ 2 ^ 64 - 1
+    → IfOk r (λ t. DoesAt seats (Tells (refused_text EndOfNumbers)) old found (text_of t) new) → IfOk r (λ t. DoesThere seats (PostsNext collector event) old (text_of t) new)
+refused_next seats (Ok t) text_of collector event old found new last e full h =
+    let on : ((last_of found.desk collector).seq == 2 ^ 64 - 1) ≡ true = eqb_same (last_of found.desk collector).seq (2 ^ 64 - 1) (sym e ∙ full) in (
+      found,
+      record {
+        finds = h.finds;
+        leaves = h.leaves;
+        shown = h.shown;
+        told = h.told;
+        kept = h.kept;
+        done = subst (λ b. PostsAfter b collector event (at_console found.desk) (text_of t) (at_console new.left.desk)) (sym on) h.done;
+      },
+    )
+  where
+    eqb_same : (a b : ℕ) → a ≡ b → (a == b) ≡ true
+    eqb_same a b same = grind (arith, nat_tests)
+refused_next seats (Err e) text_of collector event old found new last is full h = tt

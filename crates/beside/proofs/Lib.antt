@@ -1,5 +1,4 @@
 pub mod BesideLemmas
-pub mod CountLemmas
 pub mod RightLemmas
 pub mod AlikeLemmas
 pub mod SyncedLemmas

@@ -31,127 +31,22 @@ use Rattle.sessions.specs.Lines.{is_silent, is_too_long, trimmed}
 use Rattle.sessions.specs.Replies.{Answered, IsReply as IsAnswer, Replies}
 use Rattle.versions.specs.Chains.{ChainPrefixValue, EndsWith, IsChain}
 use Rattle.versions.specs.Hubs.{IsHub, with_next}
-use Rattle.versions.specs.Working.{AreWorks, IsOfWorker, IsWorkedOn, Works, shown_after}
+use Rattle.seats.specs.Minutes.{SeatValue}
+use Rattle.versions.specs.Working.{AreWorks, Comes, IsOfWorker, IsWorkedOn, Works, shown_after}
 use Rattle.versions.specs.declared.state.DeskAndChain.{DeskAndChain}
 use Rattle.versions.proofs.ChainLemmas.{goes_on}
 use Rattle.versions.proofs.KeptLemmas.{abandoned, gave, next_follows, opened, took}
 use Rattle.beside.specs.Beside.{BesideValue, CommandsBeside, DoesAt, Finds, LeavesBeside, Looks, ObeysBeside, StartsBeside, at_console}
-use Rattle.beside.specs.Right.{AreRight, AreRightMoments, IsRightAt, IsRightBeside, IsRightScript, Moment, texts}
-use Rattle.beside.proofs.CountLemmas.{Counts, are_grown, post_publishes_none, prefix_right, published_right, pushed_right, run_counts}
-
--- ---- a desk and its chain
-
--- some steps led from a start to this desk and accepted these events, and the chain of its published versions, each the one of its number, ends with the last
-pub record Keeps (start : DeskValue) (es : List Event) (s : DeskAndChain) : Type 0 where
-  pub came : IsRunOf start es s.desk
-  pub are : AreRight start es None s.shown.chain
-  pub is_chain : IsChain s.shown.chain
-  pub ends : EndsWith s.shown.chain s.desk.published
-
--- the chain of a reply
-shown_by : (s t : DeskAndChain) (answer known : Reply) → t.shown ≡ shown_after answer t.desk.published s.shown → answer ≡ known → t.shown ≡ shown_after known t.desk.published s.shown
-shown_by s t answer known shown is = shown ∙ ap (λ (a : Reply). shown_after a t.desk.published s.shown) is
-
--- the chain ends as it did
-ends_same : (s t : DeskAndChain) → EndsWith s.shown.chain s.desk.published → t.shown ≡ s.shown → t.desk.published ≡ s.desk.published → EndsWith t.shown.chain t.desk.published
-ends_same s t ends shown published =
-    subst (λ (x : ChainPrefixValue). EndsWith x.chain t.desk.published) (sym shown) (subst (EndsWith s.shown.chain) (sym published) ends)
-
-module _ (start : DeskValue) (steady : IsSteadyDesk start) (es : List Event) where
-  -- the desk goes on, and nothing is published
-  keeps_stay : (more : List Event) (s t : DeskAndChain) → Keeps start es s → IsRunOf s.desk more t.desk → t.shown ≡ s.shown → EndsWith t.shown.chain t.desk.published → Keeps start (es ++ more) t
-  keeps_stay more s t h run shown ends = record {
-    came = run_then start s.desk t.desk es more h.came run;
-    are = subst (λ (x : ChainPrefixValue). AreRight start (es ++ more) None x.chain) (sym shown) (are_grown start es more None s.shown.chain h.are);
-    is_chain = subst (λ (x : ChainPrefixValue). IsChain x.chain) (sym shown) h.is_chain;
-    ends = ends;
-  }
-
-  -- a step that accepts nothing
-  still : (s t : DeskAndChain) (one : Step) (answer : Reply) → Keeps start es s → Steps s.desk one answer t.desk → accepted_by one answer ≡ [] → t.shown ≡ s.shown → EndsWith t.shown.chain t.desk.published → Keeps start es t
-  still s t one answer h made none shown ends =
-      let run : IsRunOf s.desk [] t.desk = subst (λ (l : List Event). IsRunOf s.desk l t.desk) none (run_one s.desk t.desk one answer made) in
-      subst (λ (l : List Event). Keeps start l t) (append-nil es) (keeps_stay [] s t h run shown ends)
-
-  -- such a desk and chain are a hub's
-  keeps_hub : (s : DeskAndChain) → Keeps start es s → IsHub s.shown.book s None
-  keeps_hub s h = record { own = refl; is_chain = h.is_chain; ends = h.ends; is_ahead = tt }
-
-  -- the version of the target is published
-  adds : (s t : DeskAndChain) (number : ℕ) (version : VersionValue) → Keeps start es s → Steps s.desk step.Publish (reply.Publish (Ok number)) t.desk → IsNext s.desk version → t.desk ≡ with_version s.desk version
-      → t.shown ≡ with_next s.shown t.desk.published → Keeps start es t
-  adds s t number version h made next is shown =
-      let came : IsRunOf start es t.desk =
-      subst (λ (l : List Event). IsRunOf start l t.desk) (append-nil es) (run_then start s.desk t.desk es [] h.came (run_one s.desk t.desk step.Publish (reply.Publish (Ok number)) made)) in
-      let published : t.desk.published ≡ version = ap (λ (x : DeskValue). x.published) is in
-      let before : Counts start es s.desk = run_counts start s.desk es steady h.came in
-      let after : Counts start es t.desk = run_counts start t.desk es steady came in
-      let count = after.count in
-      let longer : length (start.pending ++ es) ≡ length start.pending + length es = length-append start.pending es in
-      let chain : t.shown.chain ≡ s.shown.chain ++ t.desk.published ∷ [] = ap (λ (x : ChainPrefixValue). x.chain) shown in
-      let split : s.shown.chain ≡ h.ends.0 ++ s.desk.published ∷ [] = h.ends.1 in
-      let at : IsRightAt start es (Some s.desk.published.number) t.desk.published =
-      record { right = published_right start steady es s.desk t.desk h.came number made; within = omega arith } in
-      let are : AreRight start es None ((h.ends.0 ++ s.desk.published ∷ []) ++ t.desk.published ∷ []) =
-      pushed_right start es None h.ends.0 s.desk.published t.desk.published (subst (AreRight start es None) split h.are) at in
-      record {
-        came = came;
-        are = subst (AreRight start es None) (sym (chain ∙ ap (λ (c : List VersionValue). c ++ t.desk.published ∷ []) split)) are;
-        is_chain = subst IsChain (sym (chain ∙ ap (λ (v : VersionValue). s.shown.chain ++ v ∷ []) published))
-            (goes_on s.shown.chain h.ends.0 s.desk.published version h.is_chain split (next_follows s.desk version before.steady next));
-        ends = (s.shown.chain, chain);
-      }
-
-  -- a publication
-  publishes : (s t : DeskAndChain) (result : Result ℕ Refusal) → Keeps start es s → Publishes s.desk result t.desk → t.shown ≡ shown_after (reply.Publish result) t.desk.published s.shown → Keeps start es t
-  publishes s t result h is = go (publish_refusal s.desk) result is is
-    where
-      Changes : ℕ → DeskValue → Type 0
-      Changes number after = (version : VersionValue) × IsNext s.desk version × (number ≡ version.number) × (after ≡ with_version s.desk version)
-
-      refused : (e : Refusal) → t.desk ≡ s.desk → Publishes s.desk (Err e) t.desk → t.shown ≡ s.shown → Keeps start es t
-      refused e same made shown = still s t step.Publish (reply.Publish (Err e)) h (Err e, refl, made) refl shown (ends_same s t h.ends shown (ap (λ (x : DeskValue). x.published) same))
-
-      go : (o : Option Refusal) (result : Result ℕ Refusal) → IsReply o Changes s.desk result t.desk → Publishes s.desk result t.desk → t.shown ≡ shown_after (reply.Publish result) t.desk.published s.shown → Keeps start es t
-      go (Some refusal) (Ok number) is made shown = absurd (cc (is.0))
-      go (Some refusal) (Err e) is made shown = refused e is.1 made shown
-      go None (Ok number) is made shown = adds s t number is.0 h (Ok number, refl, made) is.1 is.3 shown
-      go None (Err e) is made shown = refused e is.1 made shown
-
-  -- a step of a worker
-  keeps_step : (s t : DeskAndChain) (one : Step) (answer : Reply) → Keeps start es s → Works s one answer t → Keeps start es t
-  keeps_step s t one answer h is = go one is.of_worker is.made
-    where
-      go : (one : Step) → IsOfWorker one → Steps s.desk one answer t.desk → Keeps start es t
-      go (step.Post collector seq event) of made = absurd of
-      go step.Open of made =
-          let shown : t.shown ≡ s.shown = shown_by s t answer (reply.Open made.0) is.shown made.1 in
-          still s t step.Open answer h made refl shown (opened s.shown.book s t None (keeps_hub s h) made.0 shown made.2).ends
-      go step.Take of made =
-          let shown : t.shown ≡ s.shown = shown_by s t answer (reply.Take made.0) is.shown made.1 in
-          still s t step.Take answer h made refl shown (took s.shown.book s t None (keeps_hub s h) made.0 shown made.2).ends
-      go (step.Give work) of made =
-          let shown : t.shown ≡ s.shown = shown_by s t answer (reply.Give made.0) is.shown made.1 in
-          still s t (step.Give work) answer h made refl shown (gave s.shown.book s t None (keeps_hub s h) work made.0 shown made.2).ends
-      go (step.Abandon version dest) of made =
-          let shown : t.shown ≡ s.shown = shown_by s t answer (reply.Abandon made.0) is.shown made.1 in
-          still s t (step.Abandon version dest) answer h made refl shown (abandoned s.shown.book s t None (keeps_hub s h) version dest made.0 shown made.2).ends
-      go step.Publish of made = publishes s t made.0 h made.2 (shown_by s t answer (reply.Publish made.0) is.shown made.1)
-
-  keeps_steps : (steps : List Step) (replies : List Reply) (s t : DeskAndChain) → Keeps start es s → AreWorks s steps replies t → Keeps start es t
-  keeps_steps [] [] s t h are = subst (Keeps start es) (sym are) h
-  keeps_steps [] (r ∷ rs) s t h are = absurd are
-  keeps_steps (x ∷ xs) [] s t h are = absurd are
-  keeps_steps (x ∷ xs) (r ∷ rs) s t h are = keeps_steps xs rs are.0 t (keeps_step s are.0 x r h are.1) are.2
-
-  pub keeps_worked : (s t : DeskAndChain) → Keeps start es s → IsWorkedOn s t → Keeps start es t
-  keeps_worked s t h worked = keeps_steps worked.0 worked.1 s t h worked.2
+use Rattle.histories.specs.Right.{AreRight}
+use Rattle.histories.proofs.CountLemmas.{post_publishes_none, prefix_right}
+use Rattle.histories.proofs.KeepLemmas.{Keeps, ends_same, keeps_opened, keeps_stay, keeps_worked, new_is_steady}
+use Rattle.beside.specs.Right.{AreRightMoments, IsRightBeside, IsRightScript, Moment, texts}
 
 -- ---- a line
 
 -- the script's thread comes to the hub, publishes nothing there, and its desk accepts these events
 pub record Acts (old : BesideValue) (taken : List Event) (found : DeskAndChain) (new : BesideValue) : Type 0 where
-  pub finds : Finds old found
+  pub finds : Finds 1 old found
   pub shown : new.left.shown ≡ found.shown
   pub told : new.seen ≡ found.shown.chain
   pub published : new.left.desk.published ≡ found.desk.published
@@ -159,26 +54,26 @@ pub record Acts (old : BesideValue) (taken : List Event) (found : DeskAndChain) 
 
 -- what a line does, by the events that it is taken for
 pub data Moves (old : BesideValue) (taken : List Event) (new : BesideValue) : Type 0 where
-  stays : taken ≡ [] → new.left ≡ old.left → new.seen ≡ old.seen → Moves old taken new
+  stays : taken ≡ [] → new.seat ≡ old.seat → new.left ≡ old.left → new.seen ≡ old.seen → Moves old taken new
   acts : (found : DeskAndChain) → Acts old taken found new → Moves old taken new
   looks : (version : VersionValue) → taken ≡ [] → Looks old version new → Moves old taken new
 
 -- a line that changes nothing
 stays_same : (old : BesideValue) (taken : List Event) (new : BesideValue) → taken ≡ [] → new ≡ old → Moves old taken new
-stays_same old taken new none same = stays none (ap (λ (b : BesideValue). b.left) same) (ap (λ (b : BesideValue). b.seen) same)
+stays_same old taken new none same = stays none (ap (λ (b : BesideValue). b.seat) same) (ap (λ (b : BesideValue). b.left) same) (ap (λ (b : BesideValue). b.seen) same)
 
 -- posts publish nothing
 calls_publish_none : (s t : DeskValue) (collector seq : ℕ) (event : Event) (text : List ℕ) → Calls (λ s. Posts s collector seq event) posted_text (at_console s) text (at_console t) → t.published ≡ s.published
 calls_publish_none s t collector seq event text is = post_publishes_none s collector seq event is.0 t is.1
 
-posts_publish_none : (s t : DeskValue) (event : Event) (text : List ℕ) (b : Bool) → PostsAfter b event (at_console s) text (at_console t) → t.published ≡ s.published
-posts_publish_none s t event text true is = ap (λ (c : ConsoleValue). c.desk.published) is.1
-posts_publish_none s t event text false is = calls_publish_none s t 0 ((last_of s 0).seq + 1) event text is
+posts_publish_none : (s t : DeskValue) (collector : ℕ) (event : Event) (text : List ℕ) (b : Bool) → PostsAfter b collector event (at_console s) text (at_console t) → t.published ≡ s.published
+posts_publish_none s t collector event text true is = ap (λ (c : ConsoleValue). c.desk.published) is.1
+posts_publish_none s t collector event text false is = calls_publish_none s t collector ((last_of s collector).seq + 1) event text is
 
 abbrev no_events : List Event
 no_events = []
 
-nothing_taken : (b : Bool) → (if b then no_events else no_events) ≡ no_events
+pub nothing_taken : (b : Bool) → (if b then no_events else no_events) ≡ no_events
 nothing_taken true = refl
 nothing_taken false = refl
 
@@ -190,7 +85,7 @@ module _ (line : List ℕ) (old : BesideValue) (text : List ℕ) (new : BesideVa
       ∙ ap (λ (es : List Event). if says_taken text then es else []) none ∙ nothing_taken (says_taken text)
 
   -- a command that is done under the lock
-  done_there : (o : Option Command) → command_of (words_of line) ≡ o → (found : DeskAndChain) → DoesAt (Obeys (other_answer (words_of line)) o) old found text new → new.left.desk.published ≡ found.desk.published → Moves old (taken_by line text) new
+  done_there : (o : Option Command) → command_of (words_of line) ≡ o → (found : DeskAndChain) → DoesAt 1 (Obeys (other_answer (words_of line)) o) old found text new → new.left.desk.published ≡ found.desk.published → Moves old (taken_by line text) new
   done_there o is found does published = acts found (record {
     finds = does.finds;
     shown = does.shown;
@@ -199,9 +94,9 @@ module _ (line : List ℕ) (old : BesideValue) (text : List ℕ) (new : BesideVa
     runs = line_runs line (at_console found.desk) text (at_console new.left.desk) (subst (λ (c : Option Command). Obeys (other_answer (words_of line)) c (at_console found.desk) text (at_console new.left.desk)) (sym is) does.done);
   })
 
-  obeyed : (o : Option Command) → command_of (words_of line) ≡ o → ObeysBeside (other_answer (words_of line)) o old text new → Moves old (taken_by line text) new
+  obeyed : (o : Option Command) → command_of (words_of line) ≡ o → ObeysBeside 1 (other_answer (words_of line)) o old text new → Moves old (taken_by line text) new
   obeyed None e is = stays_same old (taken_by line text) new (none_taken None e refl) is.1
-  obeyed (Some (command.Event event)) e is = done_there (Some (command.Event event)) e is.0 is.1 (posts_publish_none is.0.desk new.left.desk event text _ is.1.done)
+  obeyed (Some (command.Event event)) e is = done_there (Some (command.Event event)) e is.0 is.1 (posts_publish_none is.0.desk new.left.desk 0 event text _ is.1.done)
   obeyed (Some (command.Post collector seq event)) e is = done_there (Some (command.Post collector seq event)) e is.0 is.1 (calls_publish_none is.0.desk new.left.desk collector seq event text is.1.done)
   obeyed (Some command.Open) e is = stays_same old (taken_by line text) new (none_taken (Some command.Open) e refl) is.1
   obeyed (Some (command.Take k)) e is = stays_same old (taken_by line text) new (none_taken (Some (command.Take k)) e refl) is.1
@@ -217,7 +112,7 @@ module _ (line : List ℕ) (old : BesideValue) (text : List ℕ) (new : BesideVa
   obeyed (Some (command.Picture file about)) e is = looks is.0 (none_taken (Some (command.Picture file about)) e refl) is.1
   obeyed (Some command.Changes) e is = stays_same old (taken_by line text) new (none_taken (Some command.Changes) e refl) is.1
   obeyed (Some (command.Watch is_on)) e is =
-      stays (none_taken (Some (command.Watch is_on)) e refl) (ap (λ (b : BesideValue). b.left) is.1) (ap (λ (b : BesideValue). b.seen) is.1)
+      stays (none_taken (Some (command.Watch is_on)) e refl) (ap (λ (b : BesideValue). b.seat) is.1) (ap (λ (b : BesideValue). b.left) is.1) (ap (λ (b : BesideValue). b.seen) is.1)
 
 -- a line feed more doesn't matter
 says_ended : (answer : List ℕ) → says_taken answer ≡ says_taken (answer ++ 10 ∷ [])
@@ -229,13 +124,13 @@ says_ended (a ∷ b ∷ c ∷ d ∷ []) = refl
 says_ended (a ∷ b ∷ c ∷ d ∷ e ∷ []) = refl
 says_ended (a ∷ b ∷ c ∷ d ∷ e ∷ f ∷ rest) = refl
 
-taken_ended : (line answer : List ℕ) → taken_by line answer ≡ taken_by line (answer ++ 10 ∷ [])
+pub taken_ended : (line answer : List ℕ) → taken_by line answer ≡ taken_by line (answer ++ 10 ∷ [])
 taken_ended line answer = ap (λ (b : Bool). if b then option_map_or event_of (command_of (words_of line)) [] else []) (says_ended answer)
 
-pub line_moves : (line : List ℕ) (old : BesideValue) (text : List ℕ) (new : BesideValue) → Replies CommandsBeside line old text new → Moves old (taken_by (trimmed line) text) new
+pub line_moves : (line : List ℕ) (old : BesideValue) (text : List ℕ) (new : BesideValue) → Replies (CommandsBeside 1) line old text new → Moves old (taken_by (trimmed line) text) new
 line_moves line old text new = go (is_too_long (trimmed line)) (is_silent (trimmed line))
   where
-    go : (long quiet : Bool) → IsAnswer CommandsBeside long quiet (trimmed line) old text new → Moves old (taken_by (trimmed line) text) new
+    go : (long quiet : Bool) → IsAnswer (CommandsBeside 1) long quiet (trimmed line) old text new → Moves old (taken_by (trimmed line) text) new
     go true quiet is = stays_same old (taken_by (trimmed line) text) new (ap (taken_by (trimmed line)) is.0) is.1
     go false true is = stays_same old (taken_by (trimmed line) text) new (ap (taken_by (trimmed line)) is.0) is.1
     go false false is =
@@ -250,14 +145,16 @@ prefix_then xs ys zs p q = (p.0 ++ q.0, sym (append_assoc xs p.0 q.0) ∙ (ap (�
 
 -- the script's thread comes to the hub once more
 abbrev pub Later : BesideValue → Type 0
-Later b = (found : DeskAndChain) × Finds b found
+Later b = (found : DeskAndChain) × Finds 1 b found
 
 -- before a line too
 later_before : (old : BesideValue) (taken : List Event) (new : BesideValue) → Moves old taken new → Later new → Later old
-later_before old taken new (stays none left seen) later = (
+later_before old taken new (stays none seat left seen) later = (
   later.0,
   record {
-    worked = subst (λ (s : DeskAndChain). IsWorkedOn s later.0) left later.1.worked;
+    there = later.1.there;
+    comes = subst (λ (s : SeatValue DeskAndChain). Comes 1 s later.0 later.1.there) seat later.1.comes;
+    worked = λ one. subst (λ (s : DeskAndChain). IsWorkedOn s later.0) left (later.1.worked one);
     seen = subst (λ (l : List VersionValue). IsPrefix l later.0.shown.chain) seen later.1.seen;
   },
 )
@@ -265,13 +162,15 @@ later_before old taken new (acts found is) later = (found, is.finds)
 later_before old taken new (looks version none is) later = (
   later.0,
   record {
-    worked = subst (λ (s : DeskAndChain). IsWorkedOn s later.0) is.left later.1.worked;
+    there = later.1.there;
+    comes = subst (λ (s : SeatValue DeskAndChain). Comes 1 s later.0 later.1.there) is.seat later.1.comes;
+    worked = λ one. subst (λ (s : DeskAndChain). IsWorkedOn s later.0) is.left (later.1.worked one);
     seen = prefix_then old.seen new.seen later.0.shown.chain is.seen later.1.seen;
   },
 )
 
 -- before all lines that are still answered
-pub finds_later : (old : BesideValue) (lines : List (List ℕ)) (text : List ℕ) (new : BesideValue) → Answered CommandsBeside old lines text new → Later new → Later old
+pub finds_later : (old : BesideValue) (lines : List (List ℕ)) (text : List ℕ) (new : BesideValue) → Answered (CommandsBeside 1) old lines text new → Later new → Later old
 finds_later old [] text new is later = subst Later is.1 later
 finds_later old (line ∷ lines) text new is later =
     later_before old (taken_by (trimmed line) is.0) is.1 (line_moves line old is.0 is.1 is.3) (finds_later is.1 lines is.2 new is.4 later)
@@ -285,19 +184,15 @@ module _ (start : DeskValue) (steady : IsSteadyDesk start) (es : List Event) whe
 
   -- after a line
   pub keeps_moved : (old : BesideValue) (taken : List Event) (new : BesideValue) → Keeps start es old.left → Moves old taken new → Keeps start (es ++ taken) new.left
-  keeps_moved old taken new h (stays none left seen) = subst (Keeps start (es ++ taken)) (sym left) (keeps_no_more taken old.left none h)
+  keeps_moved old taken new h (stays none seat left seen) = subst (Keeps start (es ++ taken)) (sym left) (keeps_no_more taken old.left none h)
   keeps_moved old taken new h (acts found is) =
-      let kept : Keeps start es found = keeps_worked start steady es old.left found h is.finds.worked in
+      let kept : Keeps start es found = keeps_worked start steady es old.left found h (is.finds.worked refl) in
       keeps_stay start steady es taken found new.left kept is.runs is.shown (ends_same found new.left kept.ends is.shown is.published)
   keeps_moved old taken new h (looks version none is) = subst (Keeps start (es ++ taken)) (sym is.left) (keeps_no_more taken old.left none h)
 
   -- all that the reader knows is right
   pub seen_right : (b : BesideValue) → Keeps start es b.left → Later b → AreRight start es None b.seen
-  seen_right b h later = prefix_right start es None b.seen later.0.shown.chain later.1.seen (keeps_worked start steady es b.left later.0 h later.1.worked).are
-
--- a new desk is steady
-pub new_is_steady : (start : Network) → IsSteadyDesk (new_desk start)
-new_is_steady start = record { ahead = tt; version = refl }
+  seen_right b h later = prefix_right start es None b.seen later.0.shown.chain later.1.seen (keeps_worked start steady es b.left later.0 h (later.1.worked refl)).are
 
 -- a desk that some steps led to is right
 right_desk : (start : Network) (events : List Event) (desk : DeskValue) → IsRunOf (new_desk start) events desk → IsRightDesk start events desk
@@ -310,16 +205,7 @@ right_desk start events desk came = record {
 
 -- a start
 pub keeps_first : (start : Network) (b : BesideValue) → StartsBeside start b → Keeps (new_desk start) [] b.left
-keeps_first start b opens =
-    let first : DeskValue = new_desk start in
-    let at : IsRightAt first [] None (settled_version 0 [] start) = record { right = right_after first (new_is_steady start) [] [] first refl; within = omega arith } in
-    let are : AreRight first [] None (settled_version 0 [] start ∷ []) = (at, tt) in
-    record {
-      came = subst (IsRunOf first []) (sym opens.desk) (run_none first);
-      are = subst (AreRight first [] None) (sym opens.shown) are;
-      is_chain = subst IsChain (sym opens.shown) tt;
-      ends = ([], opens.shown ∙ ap (λ (d : DeskValue). d.published ∷ []) (sym opens.desk));
-    }
+keeps_first start b opens = keeps_opened start b.left opens.desk opens.shown
 
 module _ (start : Network) where
   right_beside : (es : List Event) (b : BesideValue) → Keeps (new_desk start) es b.left → Later b → IsRightBeside start es b
@@ -336,7 +222,7 @@ module _ (start : Network) where
     told : text ≡ texts moments
     each : AreRightMoments start es b moments
 
-  made : (es : List Event) (b : BesideValue) → Keeps (new_desk start) es b.left → (lines : List (List ℕ)) (text : List ℕ) (new : BesideValue) → Answered CommandsBeside b lines text new → Later new → Made es b lines text
+  made : (es : List Event) (b : BesideValue) → Keeps (new_desk start) es b.left → (lines : List (List ℕ)) (text : List ℕ) (new : BesideValue) → Answered (CommandsBeside 1) b lines text new → Later new → Made es b lines text
   made es b h [] text new is later = record { moments = []; asked = refl; told = is.0; each = tt }
   made es b h (line ∷ lines) text new is later =
       let taken : List Event = taken_by (trimmed line) is.0 in
@@ -352,7 +238,7 @@ module _ (start : Network) where
 
 -- a script that was answered to its end
 pub script_right : (start : Network) (b : BesideValue) (lines : List (List ℕ)) (text : List ℕ) (after : BesideValue) (left : Network)
-    → StartsBeside start b → Answered CommandsBeside b lines text after → LeavesBeside after left → IsRightScript start lines text
+    → StartsBeside start b → Answered (CommandsBeside 1) b lines text after → LeavesBeside 1 after left → IsRightScript start lines text
 script_right start b lines text after left opens answered leaves =
     let later : Later after = (leaves.0, leaves.1) in
     let first : Keeps (new_desk start) [] b.left = keeps_first start b opens in

@@ -37,11 +37,12 @@ use Rattle.versions.specs.Worked.{LosesNothing}
 use Rattle.versions.specs.declared.state.DeskAndChain.{DeskAndChain}
 use Rattle.versions.proofs.WorkedLemmas.{worked_keeps}
 use Rattle.beside.specs.Beside.{BesideValue, CommandsBeside, DoesAt, Finds, KeepsSynced, LeavesBeside, Looks, ObeysBeside, StartsBeside, SyncsBeside, WatchesBeside, at_console}
-use Rattle.beside.specs.Right.{AreRight, IsRightAt}
+use Rattle.histories.specs.Right.{AreRight, IsRightAt}
 use Rattle.beside.specs.Synced.{IsSynced, MayCome, command_in, events_after, said_by}
 use Rattle.desk_console.specs.Taken.{taken_by}
-use Rattle.beside.proofs.CountLemmas.{Counts, last_right, post_publishes_none, run_counts}
-use Rattle.beside.proofs.RightLemmas.{Keeps, Later, finds_later, keeps_first, keeps_moved, keeps_worked, line_moves, new_is_steady, seen_right}
+use Rattle.histories.proofs.CountLemmas.{Counts, last_right, post_publishes_none, run_counts}
+use Rattle.histories.proofs.KeepLemmas.{Keeps, keeps_worked, new_is_steady}
+use Rattle.beside.proofs.RightLemmas.{Later, finds_later, keeps_first, keeps_moved, line_moves, seen_right}
 use Rattle.beside.proofs.AlikeLemmas.{Alike, IsSettled, last_same, more_alike, no_length, post_aims, posts_same, rises, same_alike, synced_settled}
 
 -- ---- beside workers and in line
@@ -112,7 +113,7 @@ first_same start b opens =
 
 -- after something was done under the lock
 there_same : (start : DeskValue) (es : List Event) (n : ℕ) (Done : ConsoleValue → List ℕ → ConsoleValue → Type 0) (old : BesideValue) (found : DeskAndChain) (text : List ℕ) (new : BesideValue) (end : ConsoleValue)
-    → DoesAt Done old found text new → Keeps start es new.left → Alike n new.left.desk end.desk → end.desk.target ≡ None → IsShown new end → Same n new end
+    → DoesAt 1 Done old found text new → Keeps start es new.left → Alike n new.left.desk end.desk → end.desk.target ≡ None → IsShown new end → Same n new end
 there_same start es n Done old found text new end is kept alike aim shown =
     let few = alike.few in
     record {
@@ -133,11 +134,11 @@ still_same n b new c end same one other = subst (λ (x : BesideValue). Same n x 
 
 module _ (start : DeskValue) (steady : IsSteadyDesk start) (es : List Event) (n : ℕ) (b : BesideValue) (c : ConsoleValue) (same : Same n b c) (keeps : Keeps start es b.left) where
   -- the desk that is found
-  found_alike : (found : DeskAndChain) → Finds b found → Alike n found.desk c.desk
+  found_alike : (found : DeskAndChain) → Finds 1 b found → Alike n found.desk c.desk
   found_alike found finds =
-      let at : Keeps start es found = keeps_worked start steady es b.left found keeps finds.worked in
+      let at : Keeps start es found = keeps_worked start steady es b.left found keeps (finds.worked refl) in
       let left : Counts start es b.left.desk = run_counts start b.left.desk es steady keeps.came in
-      let h : LosesNothing b.left.desk found.desk = (worked_keeps b.left found left.steady finds.worked).desk in
+      let h : LosesNothing b.left.desk found.desk = (worked_keeps b.left found left.steady (finds.worked refl)).desk in
       let low : same.last.number ≤ found.desk.published.number = rises b.seen found.shown.chain same.last found.desk.published finds.seen at.is_chain same.ends at.ends in
       let count = h.accepted in
       let near = same.near in
@@ -197,7 +198,7 @@ module _ (start : DeskValue) (steady : IsSteadyDesk start) (es more : List Event
 
   module _ (x y : List ℕ) where
     -- a post
-    calls_same : (Done : ConsoleValue → List ℕ → ConsoleValue → Type 0) (found : DeskAndChain) (collector seq : ℕ) (event : Event) → n < 65536 → DoesAt Done b found x new
+    calls_same : (Done : ConsoleValue → List ℕ → ConsoleValue → Type 0) (found : DeskAndChain) (collector seq : ℕ) (event : Event) → n < 65536 → DoesAt 1 Done b found x new
         → Calls (λ s. Posts s collector seq event) posted_text (at_console found.desk) x (at_console new.left.desk) → Calls (λ s. Posts s collector seq event) posted_text c y end → (x ≡ y) × Same (n + 1) new end
     calls_same Done found collector seq event small does is at =
         let alike : Alike n found.desk c.desk = found_alike start steady es n b c same keeps found does.finds in
@@ -208,9 +209,9 @@ module _ (start : DeskValue) (steady : IsSteadyDesk start) (es more : List Event
         )
 
     -- collector 0's next post
-    nexts_same : (found : DeskAndChain) (event : Event) → n < 65536 → DoesAt (Does (command.Event event)) b found x new → Does (command.Event event) c y end → (x ≡ y) × Same (n + 1) new end
+    nexts_same : (found : DeskAndChain) (event : Event) → n < 65536 → DoesAt 1 (Does (command.Event event)) b found x new → Does (command.Event event) c y end → (x ≡ y) × Same (n + 1) new end
     nexts_same found event small does at =
-        go ((last_of found.desk 0).seq == 2 ^ 64 - 1) does.done (subst (λ (l : Last). PostsAfter (l.seq == 2 ^ 64 - 1) event c y end) (sym last) at)
+        go ((last_of found.desk 0).seq == 2 ^ 64 - 1) does.done (subst (λ (l : Last). PostsAfter (l.seq == 2 ^ 64 - 1) 0 event c y end) (sym last) at)
       where
         alike : Alike n found.desk c.desk
         alike = found_alike start steady es n b c same keeps found does.finds
@@ -218,7 +219,7 @@ module _ (start : DeskValue) (steady : IsSteadyDesk start) (es more : List Event
         last : last_of found.desk 0 ≡ last_of c.desk 0
         last = last_same n found.desk c.desk 0 alike
 
-        go : (full : Bool) → PostsAfter full event (at_console found.desk) x (at_console new.left.desk) → PostsAfter full event c y end → (x ≡ y) × Same (n + 1) new end
+        go : (full : Bool) → PostsAfter full 0 event (at_console found.desk) x (at_console new.left.desk) → PostsAfter full 0 event c y end → (x ≡ y) × Same (n + 1) new end
         go true is at =
             let desk : new.left.desk ≡ found.desk = ap (λ (d : ConsoleValue). d.desk) is.1 in
             let other : end.desk ≡ c.desk = ap (λ (d : ConsoleValue). d.desk) at.1 in (
@@ -232,7 +233,7 @@ module _ (start : DeskValue) (steady : IsSteadyDesk start) (es more : List Event
             (subst (λ (l : Last). Calls (λ s. Posts s 0 (l.seq + 1) event) posted_text c y end) (sym last) at)
 
     -- `version`
-    versions_same : (found : DeskAndChain) → n ≡ 0 → DoesAt (Does command.Version) b found x new → Does command.Version c y end → (x ≡ y) × Same n new end
+    versions_same : (found : DeskAndChain) → n ≡ 0 → DoesAt 1 (Does command.Version) b found x new → Does command.Version c y end → (x ≡ y) × Same n new end
     versions_same found now does at =
         let alike : Alike n found.desk c.desk = found_alike start steady es n b c same keeps found does.finds in
         let count = alike.count in
@@ -307,7 +308,7 @@ module _ (start : DeskValue) (steady : IsSteadyDesk start) (es more : List Event
           subst (Same n new) (sym other) (looked_same start steady es n b c same keeps n version new c looks kept same.less same.aim (omega arith) (shown_still b new c c same.shown told refl refl)),
         )
 
-    obeys_same : (other : List ℕ) (o : Option Command) → MayCome n o → ObeysBeside other o b x new → Obeys other o c y end → (x ≡ y) × Same (events_after n o) new end
+    obeys_same : (other : List ℕ) (o : Option Command) → MayCome n o → ObeysBeside 1 other o b x new → Obeys other o c y end → (x ≡ y) × Same (events_after n o) new end
     obeys_same other None may is at = told_same _ x y is at
     obeys_same other (Some (command.Event event)) may is at = nexts_same is.0 event may is.1 at
     obeys_same other (Some (command.Post collector seq event)) may is at = calls_same (Does (command.Post collector seq event)) is.0 collector seq event may is.1 is.1.done at
@@ -326,10 +327,10 @@ module _ (start : DeskValue) (steady : IsSteadyDesk start) (es more : List Event
     obeys_same other (Some command.Changes) may is at = changes_same is at
     obeys_same other (Some (command.Watch is_on)) may is at = watches_same is_on is at
 
-  line_same : (line x y : List ℕ) → MayCome n (command_in line) → Replies CommandsBeside line b x new → Replies Commands line c y end → (x ≡ y) × Same (events_after n (command_in line)) new end
+  line_same : (line x y : List ℕ) → MayCome n (command_in line) → Replies (CommandsBeside 1) line b x new → Replies Commands line c y end → (x ≡ y) × Same (events_after n (command_in line)) new end
   line_same line x y = go (is_too_long (trimmed line)) (is_silent (trimmed line))
     where
-      go : (long quiet : Bool) → MayCome n (said_by long quiet (trimmed line)) → IsAnswer CommandsBeside long quiet (trimmed line) b x new → IsAnswer Commands long quiet (trimmed line) c y end
+      go : (long quiet : Bool) → MayCome n (said_by long quiet (trimmed line)) → IsAnswer (CommandsBeside 1) long quiet (trimmed line) b x new → IsAnswer Commands long quiet (trimmed line) c y end
           → (x ≡ y) × Same (events_after n (said_by long quiet (trimmed line))) new end
       go true quiet may is at = told_same _ x y is at
       go false true may is at = told_same _ x y is at
@@ -340,7 +341,7 @@ module _ (start : DeskValue) (steady : IsSteadyDesk start) (es more : List Event
 -- ---- all lines
 
 lines_same : (start : DeskValue) → IsSteadyDesk start → (es : List Event) (n : ℕ) (b : BesideValue) (c : ConsoleValue) → Same n b c → Keeps start es b.left → (lines : List (List ℕ)) → IsSynced n lines
-    → (text : List ℕ) (after : BesideValue) → Answered CommandsBeside b lines text after → Later after → (other : List ℕ) (end : ConsoleValue) → Answered Commands c lines other end → text ≡ other
+    → (text : List ℕ) (after : BesideValue) → Answered (CommandsBeside 1) b lines text after → Later after → (other : List ℕ) (end : ConsoleValue) → Answered Commands c lines other end → text ≡ other
 lines_same start steady es n b c same keeps [] synced text after is later other end at = is.0 ∙ sym at.0
 lines_same start steady es n b c same keeps (line ∷ lines) synced text after is later other end at =
     let taken : List Event = taken_by (trimmed line) is.0 in
@@ -353,6 +354,6 @@ lines_same start steady es n b c same keeps (line ∷ lines) synced text after i
 
 -- a script that was answered to its end has the text that it has in line
 pub script_same : (start : Network) (b : BesideValue) (lines : List (List ℕ)) (text : List ℕ) (after : BesideValue) (left : Network) (other : List ℕ) (end : ConsoleValue)
-    → StartsBeside start b → Answered CommandsBeside b lines text after → LeavesBeside after left → IsSynced 0 lines → Answered Commands (opening start) lines other end → text ≡ other
+    → StartsBeside start b → Answered (CommandsBeside 1) b lines text after → LeavesBeside 1 after left → IsSynced 0 lines → Answered Commands (opening start) lines other end → text ≡ other
 script_same start b lines text after left other end opens answered leaves synced at =
     lines_same (new_desk start) (new_is_steady start) [] 0 b (opening start) (first_same start b opens) (keeps_first start b opens) lines synced text after answered (leaves.0, leaves.1) other end at

@@ -3,3 +3,4 @@ pub mod Runs
 pub mod Right
 pub mod Synced
 pub mod Told
+pub mod Seats

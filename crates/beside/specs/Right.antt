@@ -1,25 +1,14 @@
 -- What stands at each line of a script beside workers: versions of their numbers, as the profile gives them from scratch (own).
-use Rattle.std.specs.Prelude.{◌≡◌, ◌+◌, ◌≤◌, ℕ, List, [], ◌∷◌, ◌++◌, Option, Some, None, length, map}
+use Rattle.std.specs.Prelude.{◌≡◌, ℕ, List, [], ◌∷◌, ◌++◌, None, map}
 use Rattle.net_data.specs.declared.events.Event.{Event}
 use Rattle.net_data.specs.Network.{Network}
-use Rattle.net_versions.specs.Versions.{VersionValue}
-use Rattle.desk_core.specs.Desk.{DeskValue, new_desk}
-use Rattle.desk_core.specs.Runs.{IsRightVersion}
+use Rattle.desk_core.specs.Desk.{new_desk}
 use Rattle.desk_console.specs.Right.{IsRightDesk}
 use Rattle.desk_console.specs.Taken.{taken_by}
 use Rattle.sessions.specs.Lines.{trimmed}
 use Rattle.sessions.specs.Replies.{Replies}
+use Rattle.histories.specs.Right.{AreRight}
 use Rattle.beside.specs.Beside.{BesideValue, CommandsBeside, StartsBeside}
-
--- a version of a chain is the one of its number, which isn't beyond the accepted events; the number of the version before it is told
-pub record IsRightAt (start : DeskValue) (events : List Event) (before : Option ℕ) (version : VersionValue) : Type 0 where
-  pub right : IsRightVersion start events (record { now = version.number; before = before }) version
-  pub within : version.number ≤ start.published.number + length (start.pending ++ events)
-
--- each version of a chain is the one of its number
-abbrev pub AreRight : DeskValue → List Event → Option ℕ → List VersionValue → Type 0
-AreRight start events before [] = Unit {0}
-AreRight start events before (version ∷ later) = IsRightAt start events before version × AreRight start events (Some version.number) later
 
 -- after these events the script's thread left a right desk, and all versions that were published then, and that its reader knows, are the ones of their numbers
 pub record IsRightBeside (start : Network) (events : List Event) (b : BesideValue) : Type 0 where
@@ -42,7 +31,7 @@ texts (m ∷ moments) = m.text ++ texts moments
 abbrev pub AreRightMoments : Network → List Event → BesideValue → List Moment → Type 0
 AreRightMoments start events b [] = Unit {0}
 AreRightMoments start events b (m ∷ moments) =
-    Replies CommandsBeside m.line b m.text m.after × IsRightBeside start (events ++ taken_by (trimmed m.line) m.text) m.after
+    Replies (CommandsBeside 1) m.line b m.text m.after × IsRightBeside start (events ++ taken_by (trimmed m.line) m.text) m.after
     × AreRightMoments start (events ++ taken_by (trimmed m.line) m.text) m.after moments
 
 -- from a new desk over a network all lines were answered, and all was right before the first line and after each

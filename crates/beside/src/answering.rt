@@ -1,6 +1,6 @@
 //! Who answers a script beside workers.
 
-ghost use Rattle.std.specs.Prelude.{◌≡◌, ◌≤◌, [], IfErr, IfOk, IfSome, OnOk, string_bytes};
+ghost use Rattle.std.specs.Prelude.{◌≡◌, ◌≤◌, ◌∷◌, [], IfErr, IfOk, IfSome, OnOk, string_bytes};
 ghost use Rattle.std.specs.Arc.{arc_value};
 ghost use Rattle.answers.specs.Text.{line_count};
 ghost use Rattle.desk_core.specs.Desk.{accepted};
@@ -8,7 +8,9 @@ ghost use Rattle.desk_console.specs.Taken.{event_of};
 ghost use Rattle.net_versions.specs.Versions.{VersionValue};
 ghost use Rattle.script_words.specs.Commands.{IsWithin};
 ghost use Rattle.sessions.specs.Run.{CutsOff};
-ghost use Rattle.beside.specs.Beside.{DoesBeside, KeepsSynced, Looks, SyncsBeside};
+ghost use Rattle.desk_console.specs.Does.{PostsNext};
+ghost use Rattle.beside.specs.Beside.{DoesBeside, DoesThere, KeepsSynced, Looks, SyncsBeside};
+ghost use Rattle.beside.specs.Seats.{Came, CamePosting, Goes, Parts, StaysSeated};
 
 use crate::visitor::Visitor;
 use answers::{Answer, answer_other, write_bad_line};
@@ -18,7 +20,7 @@ use sessions::{Answering, Fault};
 use std::alloc::{AllocError, Global};
 use std::marker::Model;
 use std::sync::{Arc, Mutex, Wait};
-use versions::{ByClient, Hub, Naming, Version};
+use versions::{BySeats, Guest, Hub, Naming, Version};
 use worker_pool::{Signals, is_at_rest, lend_a_hand};
 
 /// Who answers a script beside workers: it comes to their hub under its lock, and reads what is published without it. Contracts
@@ -26,7 +28,7 @@ use worker_pool::{Signals, is_at_rest, lend_a_hand};
 #[derive(Drop)]
 pub struct Beside<'a, N: Naming, R: Wait> {
     pub(crate) rt: &'a R,
-    pub(crate) hub: &'a Mutex<Hub<N, ByClient>>,
+    pub(crate) hub: &'a Mutex<Hub<N, BySeats>>,
     pub(crate) signals: &'a Signals,
     pub(crate) visitor: Visitor<N>,
 }
@@ -40,15 +42,52 @@ impl<'a, N: Naming, R: Wait> Model for Beside<'a, N, R> {
 }
 
 impl<'a, N: Naming, R: Wait> Beside<'a, N, R> {
-    /// An event, posted by collector 0.
-    fn post_next(&mut self, alloc: Global, event: Event) -> Result<Answer, Fault>
-        ensures does { IfOk result (λ answer. DoesBeside (Command.Event event) self.old answer self.new) }
+    /// Who answers a script at a hub, where workers wait with these signals.
+    pub fn new(
+        rt: &'a R,
+        hub: &'a Mutex<Hub<N, BySeats>>,
+        signals: &'a Signals,
+        visitor: Visitor<N>,
+    ) -> Beside<'a, N, R>
+        ensures { result ≡ visitor }
+    {
+        Beside {
+            rt,
+            hub,
+            signals,
+            visitor,
+        }
+    }
+
+    /// Comes to the hub for the last time, and gives the seat back. It tells a fault if it couldn't be told what is published there.
+    pub fn part(self) -> (Guest<N>, Result<(), Fault>)
+        ensures { Parts N.seats self.entry result.1 result.0 }
+    {
+        let Beside {
+            rt,
+            hub,
+            signals: _,
+            visitor,
+        } = self;
+        visitor.part(rt, &mut *hub.lock(rt))
+    }
+
+    /// An event, posted by a collector under the sequence number after its last one.
+    ///
+    /// # Errors
+    ///
+    /// A fault that cuts the answers off.
+    pub fn post_next(&mut self, alloc: Global, collector: u8, event: Event) -> Result<Answer, Fault>
+        ensures does { IfOk result (λ answer. DoesThere N.seats (PostsNext collector event) self.old answer self.new) }
+        ensures goes { Goes N.seats (event ∷ []) self.old self.new }
         ensures plain { IfOk result (λ answer. line_count answer ≡ 0) }
         ensures fault { IfErr result (CutsOff (Unit {0})) }
     {
         let mut guard = self.hub.lock(self.rt);
         let rested = is_at_rest(&guard);
-        let answer = self.visitor.post_next(self.rt, alloc, &mut *guard, event);
+        let answer = self
+            .visitor
+            .post_next(self.rt, alloc, &mut *guard, collector, event);
         drop(guard);
         self.signals.tell_post(rested);
         answer
@@ -62,7 +101,8 @@ impl<'a, N: Naming, R: Wait> Beside<'a, N, R> {
         seq: u64,
         event: Event,
     ) -> Result<Answer, Fault>
-        ensures does { IfOk result (λ answer. DoesBeside (Command.Post collector seq event) self.old answer self.new) }
+        ensures does { IfOk result (λ answer. DoesBeside N.seats (Command.Post collector seq event) self.old answer self.new) }
+        ensures posts { CamePosting N.seats event self.old self.new }
         ensures plain { IfOk result (λ answer. line_count answer ≡ 0) }
         ensures fault { IfErr result (CutsOff (Unit {0})) }
     {
@@ -78,7 +118,8 @@ impl<'a, N: Naming, R: Wait> Beside<'a, N, R> {
 
     /// What is published, and what is accepted.
     fn version(&mut self, alloc: Global) -> Result<String, Fault>
-        ensures does { IfOk result (λ text. DoesBeside Command.Version self.old (string_bytes text) self.new) }
+        ensures does { IfOk result (λ text. DoesBeside N.seats Command.Version self.old (string_bytes text) self.new) }
+        ensures comes { Came N.seats self.old self.new }
         ensures plain { IfOk result (λ text. line_count (string_bytes text) ≡ 0) }
         ensures fault { IfErr result (CutsOff (Unit {0})) }
     {
@@ -105,6 +146,7 @@ impl<'a, N: Naming, R: Wait> Beside<'a, N, R> {
         ensures looks { IfOk result (λ shown. (version : VersionValue) × Looks self.old version self.new
             × IfSome shown (λ a. (accepted self.old.left.desk ≤ version.number) × (arc_value a ≡ version))) }
         ensures kept { KeepsSynced self.old self.new }
+        ensures stays { StaysSeated self.old self.new }
         ensures fault { IfErr result (CutsOff (Unit {0})) }
     {
         let version = self.visitor.look()?;
@@ -119,6 +161,7 @@ impl<'a, N: Naming, R: Wait> Beside<'a, N, R> {
     fn wait_synced(&mut self, alloc: Global) -> Result<Arc<Version>, Fault>
         ensures synced { IfOk result (λ a. (version : VersionValue) × Looks self.old version self.new × (accepted self.old.left.desk ≤ version.number) × (arc_value a ≡ version)) }
         ensures kept { OnOk result (KeepsSynced self.old self.new) }
+        ensures stays { StaysSeated self.old self.new }
         ensures fault { IfErr result (CutsOff (Unit {0})) }
     {
         for _ in self.rt.forever() {
@@ -132,6 +175,7 @@ impl<'a, N: Naming, R: Wait> Beside<'a, N, R> {
     /// Waits until all that was accepted is published.
     fn sync(&mut self, alloc: Global) -> Result<String, Fault>
         ensures does { IfOk result (λ text. SyncsBeside self.old (string_bytes text) self.new) }
+        ensures stays { StaysSeated self.old self.new }
         ensures lines { IfOk result (λ text. line_count (string_bytes text) ≤ 1) }
         ensures fault { IfErr result (CutsOff (Unit {0})) }
     {
@@ -143,7 +187,8 @@ impl<'a, N: Naming, R: Wait> Beside<'a, N, R> {
     fn obey_silently(&mut self, alloc: Global, command: &Command) -> Result<String, Fault>
         requires within { IsWithin command.now }
         requires none { event_of command.now ≡ [] }
-        ensures does { IfOk result (λ text. DoesBeside command.now self.old (string_bytes text) self.new) }
+        ensures does { IfOk result (λ text. DoesBeside N.seats command.now self.old (string_bytes text) self.new) }
+        ensures goes { Goes N.seats [] self.old self.new }
         ensures lines { IfOk result (λ text. line_count (string_bytes text) ≤ 1) }
         ensures fault { IfErr result (CutsOff (Unit {0})) }
     {
@@ -164,7 +209,8 @@ impl<'a, N: Naming, R: Wait> Beside<'a, N, R> {
     fn obey_whole(&mut self, alloc: Global, command: Command) -> Result<Answer, Fault>
         requires within { IsWithin command }
         requires none { event_of command ≡ [] }
-        ensures does { IfOk result (λ answer. DoesBeside command self.old answer self.new) }
+        ensures does { IfOk result (λ answer. DoesBeside N.seats command self.old answer self.new) }
+        ensures goes { Goes N.seats (event_of command) self.old self.new }
         ensures lines { IfOk result (λ answer. line_count answer ≤ 1) }
         ensures fault { IfErr result (CutsOff (Unit {0})) }
     {
@@ -172,14 +218,19 @@ impl<'a, N: Naming, R: Wait> Beside<'a, N, R> {
     }
 
     /// Does what a command says.
-    fn obey(&mut self, alloc: Global, command: Command) -> Result<Answer, Fault>
+    ///
+    /// # Errors
+    ///
+    /// A fault that cuts the answers off.
+    pub fn obey(&mut self, alloc: Global, command: Command) -> Result<Answer, Fault>
         requires { IsWithin command }
-        ensures does { IfOk result (λ answer. DoesBeside command self.old answer self.new) }
+        ensures does { IfOk result (λ answer. DoesBeside N.seats command self.old answer self.new) }
+        ensures goes { Goes N.seats (event_of command) self.old self.new }
         ensures lines { IfOk result (λ answer. line_count answer ≤ 1) }
         ensures fault { IfErr result (CutsOff (Unit {0})) }
     {
         match command {
-            Command::Event(event) => self.post_next(alloc, event),
+            Command::Event(event) => self.post_next(alloc, 0, event),
             Command::Post(collector, seq, event) => self.post(alloc, collector, seq, event),
             other => self.obey_whole(alloc, other),
         }
@@ -188,10 +239,13 @@ impl<'a, N: Naming, R: Wait> Beside<'a, N, R> {
 
 impl<'a, N: Naming, R: Wait> Answering for Beside<'a, N, R> {
     ghost use Rattle.beside.specs.Beside.{CommandsBeside, LeavesBeside};
+    ghost use Rattle.beside.specs.Seats.{LosesBeside};
 
-    ghost commands = { CommandsBeside };
+    ghost commands = { CommandsBeside N.seats };
 
-    ghost leaves = { LeavesBeside };
+    ghost fails = { LosesBeside N.seats };
+
+    ghost leaves = { LeavesBeside N.seats };
 
     ghost needs_place = { Unit {0} };
 

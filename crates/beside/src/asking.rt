@@ -5,6 +5,7 @@ ghost use Rattle.answers.specs.Text.{line_count};
 ghost use Rattle.sessions.specs.Run.{CutsOff};
 ghost use Rattle.script_words.specs.Commands.{IsWithin};
 ghost use Rattle.desk_console.specs.Does.{is_asked};
+ghost use Rattle.beside.specs.Seats.{StaysSeated};
 ghost use Rattle.beside.specs.Beside.{Asks, DoesBeside, is_of_changes};
 ghost use Rattle.script_words.specs.declared.commands.Command.TheVariants as command;
 
@@ -23,7 +24,8 @@ impl<N: Naming> Visitor<N> {
     pub(crate) fn tell(&mut self, alloc: Global, command: &Command) -> Result<String, Fault>
         requires within { IsWithin command.now }
         requires asked { (is_asked command.now || is_of_changes command.now) ≡ true }
-        ensures does { IfOk result (λ text. DoesBeside command.now self.old (string_bytes text) self.new) }
+        ensures does { IfOk result (λ text. DoesBeside N.seats command.now self.old (string_bytes text) self.new) }
+        ensures stays { StaysSeated self.old self.new }
         ensures plain { IfOk result (λ text. line_count (string_bytes text) ≡ 0) }
         ensures fault { IfErr result (CutsOff (Unit {0})) }
     {
@@ -38,6 +40,7 @@ impl<N: Naming> Visitor<N> {
         requires within { IsWithin command.now }
         requires asked { is_asked command.now ≡ true }
         ensures text { IfOk result (λ text. Asks command.now self.old (string_bytes text) self.new) }
+        ensures stays { StaysSeated self.old self.new }
         ensures plain { IfOk result (λ text. line_count (string_bytes text) ≡ 0) }
         ensures fault { IfErr result (CutsOff (Unit {0})) }
     {
@@ -54,7 +57,8 @@ impl<N: Naming> Visitor<N> {
     /// What the last `sync` changed, or that it is told behind each from now on, or no more.
     fn ask_changes(&mut self, alloc: Global, command: &Command) -> Result<String, Fault>
         requires { is_of_changes command.now ≡ true }
-        ensures does { IfOk result (λ text. DoesBeside command.now self.old (string_bytes text) self.new) }
+        ensures does { IfOk result (λ text. DoesBeside N.seats command.now self.old (string_bytes text) self.new) }
+        ensures stays { StaysSeated self.old self.new }
         ensures plain { IfOk result (λ text. line_count (string_bytes text) ≡ 0) }
         ensures fault { IfErr result (CutsOff (Unit {0})) }
     {
@@ -74,6 +78,7 @@ impl<N: Naming> Visitor<N> {
         dest: PointCode,
     ) -> Result<String, Fault>
         ensures text { IfOk result (λ text. Asks (command.About asked point dest) self.old (string_bytes text) self.new) }
+        ensures stays { StaysSeated self.old self.new }
         ensures plain { IfOk result (λ text. line_count (string_bytes text) ≡ 0) }
         ensures fault { IfErr result (CutsOff (Unit {0})) }
     {
@@ -91,6 +96,7 @@ impl<N: Naming> Visitor<N> {
     ) -> Result<String, Fault>
         requires { s < 16 }
         ensures text { IfOk result (λ text. Asks (command.Trace point dest s) self.old (string_bytes text) self.new) }
+        ensures stays { StaysSeated self.old self.new }
         ensures plain { IfOk result (λ text. line_count (string_bytes text) ≡ 0) }
         ensures fault { IfErr result (CutsOff (Unit {0})) }
     {
@@ -101,6 +107,7 @@ impl<N: Naming> Visitor<N> {
     /// What events would change.
     fn ask_what_if(&mut self, alloc: Global, events: &[Event]) -> Result<String, Fault>
         ensures text { IfOk result (λ text. Asks (command.WhatIf events.now) self.old (string_bytes text) self.new) }
+        ensures stays { StaysSeated self.old self.new }
         ensures plain { IfOk result (λ text. line_count (string_bytes text) ≡ 0) }
         ensures fault { IfErr result (CutsOff (Unit {0})) }
     {
@@ -111,6 +118,7 @@ impl<N: Naming> Visitor<N> {
     /// A check of all tables.
     fn ask_audit(&mut self, alloc: Global) -> Result<String, Fault>
         ensures text { IfOk result (λ text. Asks command.Audit self.old (string_bytes text) self.new) }
+        ensures stays { StaysSeated self.old self.new }
         ensures plain { IfOk result (λ text. line_count (string_bytes text) ≡ 0) }
         ensures fault { IfErr result (CutsOff (Unit {0})) }
     {
@@ -126,6 +134,7 @@ impl<N: Naming> Visitor<N> {
         about: Option<PointCode>,
     ) -> Result<String, Fault>
         ensures text { IfOk result (λ text. Asks (command.Picture file.now about) self.old (string_bytes text) self.new) }
+        ensures stays { StaysSeated self.old self.new }
         ensures plain { IfOk result (λ text. line_count (string_bytes text) ≡ 0) }
         ensures fault { IfErr result (CutsOff (Unit {0})) }
     {

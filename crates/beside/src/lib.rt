@@ -26,3 +26,4 @@ mod visitor;
 pub use answering::Beside;
 pub use reading::BesideEnd;
 pub use running::{run_beside, run_input_beside};
+pub use visitor::Visitor;

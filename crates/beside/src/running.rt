@@ -5,7 +5,8 @@ ghost use Rattle.net_data.specs.Network.{Network};
 ghost use Rattle.net_text.specs.Reading.{Says};
 ghost use Rattle.sessions.specs.Input.{IsLoadFault, RanInput};
 ghost use Rattle.beside.specs.Beside.{BesideValue, CommandsBeside, LeavesBeside, StartsBeside, newcomer};
-ghost use Rattle.beside.specs.Runs.{IsFresh, RanBeside};
+ghost use Rattle.beside.specs.Runs.{IsFresh, RanBeside, first_seat};
+ghost use Rattle.versions.specs.Working.{left_at};
 ghost use Rattle.beside.specs.Told.{ToldInput, ToldScript};
 
 use crate::answering::Beside;
@@ -19,24 +20,24 @@ use std::io::{Read, Write};
 use std::marker::Brand;
 use std::sync::{Mutex, Wait};
 use std::thread::Threads;
-use versions::{ByClient, Client, Hub, Naming, UnnamedWithClient};
+use versions::{BySeats, Guest, Hub, Naming, UnnamedWithSeats};
 use worker_pool::{Gate, Signals, run_pool};
 
 /// A hub and its client that have no name yet, over a new desk.
-fn open_hub<R: Wait>(rt: &R, alloc: Global, net: Net) -> Result<UnnamedWithClient, AllocError>
+fn open_hub<R: Wait>(rt: &R, alloc: Global, net: Net) -> Result<UnnamedWithSeats, AllocError>
     ensures { IfOk result (IsFresh net) }
 {
     let desk = Desk::start(alloc, net)?;
-    UnnamedWithClient::new(rt, alloc, desk)
+    UnnamedWithSeats::new(rt, alloc, desk)
 }
 
 /// Who comes to a hub for a script, as its client left it.
-fn come<N: Naming>(hub: &Hub<N, ByClient>, client: Client<N>) -> Result<Visitor<N>, Fault>
-    requires { client ≡ hub.now.state }
-    ensures ok { IfOk result (λ v. v ≡ newcomer hub.now.state) }
+fn come<N: Naming>(hub: &Hub<N, BySeats>, guest: Guest<N>) -> Result<Visitor<N>, Fault>
+    requires { left_at guest.saw ≡ hub.now.state }
+    ensures ok { IfOk result (λ v. v ≡ newcomer guest hub.now.state) }
     ensures fault { IfErr result (λ fault. fault ≡ Fault.NoPlace) }
 {
-    match Visitor::new(hub, client) {
+    match Visitor::new(hub, guest) {
         Ok(visitor) => Ok(visitor),
         Err(_) => Err(Fault::NoPlace),
     }
@@ -57,12 +58,13 @@ fn read_beside<
     gate: &G,
     reader: R,
     writer: W,
-    hub: &Mutex<Hub<N, ByClient>>,
+    hub: &Mutex<Hub<N, BySeats>>,
     visitor: Visitor<N>,
     script: S,
 ) -> BesideEnd<R, W>
     requires workers { (0 < n) × (n ≤ 32) }
     requires ready { S.ready script }
+    requires one { N.seats ≡ 1 }
     ensures { S.ran script visitor (R.remaining reader) (R.remaining result.reader) (W.contents writer) (W.contents result.writer) result.end }
 {
     let signals = Signals::new();
@@ -80,7 +82,7 @@ fn read_beside<
         &signals,
         gate,
         || -> BesideEnd<R, W>
-            requires { S.ready script }
+            requires { S.ready script × (N.seats ≡ 1) }
         { script.read(alloc, reader, writer, beside) },
     );
     end
@@ -101,12 +103,13 @@ fn read_if_come<
     gate: &G,
     reader: R,
     writer: W,
-    hub: &Mutex<Hub<N, ByClient>>,
+    hub: &Mutex<Hub<N, BySeats>>,
     come: Result<Visitor<N>, Fault>,
     script: S,
 ) -> BesideEnd<R, W>
     requires workers { (0 < n) × (n ≤ 32) }
     requires ready { S.ready script }
+    requires one { N.seats ≡ 1 }
     requires fault { IfErr come (λ fault. fault ≡ Fault.NoPlace) }
     ensures { (start : BesideValue) → IfOk come (λ v. v ≡ start)
         → S.ran script start (R.remaining reader) (R.remaining result.reader) (W.contents writer) (W.contents result.writer) result.end }
@@ -118,7 +121,7 @@ fn read_if_come<
 }
 
 /// Ends a hub.
-fn close<N: Naming, R: Wait>(rt: &R, hub: Mutex<Hub<N, ByClient>>) {
+fn close<N: Naming, R: Wait>(rt: &R, hub: Mutex<Hub<N, BySeats>>) {
     let _desk = hub.into_inner().close(rt);
 }
 
@@ -137,16 +140,17 @@ fn read_at<
     gate: &G,
     reader: R,
     writer: W,
-    hub: Hub<N, ByClient>,
-    client: Client<N>,
+    hub: Hub<N, BySeats>,
+    guest: Guest<N>,
     script: S,
 ) -> BesideEnd<R, W>
-    requires left { client ≡ hub.state }
+    requires left { left_at guest.saw ≡ hub.state }
     requires workers { (0 < n) × (n ≤ 32) }
     requires ready { S.ready script }
-    ensures { S.ran script (newcomer hub.state) (R.remaining reader) (R.remaining result.reader) (W.contents writer) (W.contents result.writer) result.end }
+    requires one { N.seats ≡ 1 }
+    ensures { S.ran script (newcomer guest hub.state) (R.remaining reader) (R.remaining result.reader) (W.contents writer) (W.contents result.writer) result.end }
 {
-    let come = come(&hub, client);
+    let come = come(&hub, guest);
     let hub = Mutex::new(hub);
     let end = read_if_come(rt, alloc, n, gate, reader, writer, &hub, come, script);
     close(rt, hub);
@@ -168,16 +172,17 @@ fn run_named<
     gate: &G,
     reader: R,
     writer: W,
-    unnamed: UnnamedWithClient,
+    unnamed: UnnamedWithSeats,
     script: S,
 ) -> BesideEnd<R, W>
-    requires names { (unnamed.state.shown.book ≡ N.book) × (unnamed.table ≡ N.table) }
+    requires names { (unnamed.state.shown.book ≡ N.book) × (unnamed.table ≡ N.table) × (unnamed.seats ≡ N.seats) }
     requires workers { (0 < n) × (n ≤ 32) }
     requires ready { S.ready script }
-    ensures { S.ran script (newcomer unnamed.state) (R.remaining reader) (R.remaining result.reader) (W.contents writer) (W.contents result.writer) result.end }
+    requires one { N.seats ≡ 1 }
+    ensures { S.ran script (newcomer (first_seat unnamed) unnamed.state) (R.remaining reader) (R.remaining result.reader) (W.contents writer) (W.contents result.writer) result.end }
 {
     match unnamed.named::<N>(alloc) {
-        Ok((hub, client)) => read_at(rt, alloc, n, gate, reader, writer, hub, client, script),
+        Ok((hub, guest)) => read_at(rt, alloc, n, gate, reader, writer, hub, guest, script),
         Err(_) => script.refuse(reader, writer, Fault::NoPlace),
     }
 }
@@ -215,7 +220,7 @@ pub fn run_beside<T: Threads + Wait + Sync, G: Gate + Sync, R: Read + Drop, W: W
 }
 
 /// A hub and its client that have no name yet, over a new desk over the network that a text says.
-fn open_text<R: Wait>(rt: &R, alloc: Global, text: &[u8]) -> Result<UnnamedWithClient, Fault>
+fn open_text<R: Wait>(rt: &R, alloc: Global, text: &[u8]) -> Result<UnnamedWithSeats, Fault>
     ensures { MatchResult result (λ pair. (net : Network) × Says text.now (Ok net) × IsFresh net pair) (IsLoadFault text.now) }
 {
     let net = load_text(alloc, text)?;
@@ -240,7 +245,7 @@ pub fn run_input_beside<T: Threads + Wait + Sync, G: Gate + Sync, R: Read + Drop
     writer: W,
 ) -> BesideEnd<R, W>
     requires { (0 < n) × (n ≤ 32) }
-    ensures ran { RanInput StartsBeside CommandsBeside LeavesBeside (Unit {0}) (R.remaining reader) (R.remaining result.reader)
+    ensures ran { RanInput StartsBeside (CommandsBeside 1) (LeavesBeside 1) (Unit {0}) (R.remaining reader) (R.remaining result.reader)
         (W.contents writer) (W.contents result.writer) result.end.fault result.end.lines result.end.net }
     ensures told { result.end.fault ≡ None → ToldInput (R.remaining reader) (R.remaining result.reader) (W.contents writer) (W.contents result.writer) }
 {

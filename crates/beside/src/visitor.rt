@@ -10,6 +10,8 @@ ghost use Rattle.desk_core.specs.Steps.{Posts};
 ghost use Rattle.desk_console.specs.Does.{Calls, HasMemory, PostsNext, Tells, version_of};
 ghost use Rattle.desk_console.specs.Watch.{changes_told, reply_watched, watched};
 ghost use Rattle.sessions.specs.Run.{CutsOff};
+ghost use Rattle.versions.specs.Working.{Comes, left_at};
+ghost use Rattle.beside.specs.Seats.{Came, CamePosting, Goes, StaysSeated};
 ghost use Rattle.beside.specs.Beside.{DoesAt, DoesThere, Finds, KeepsSynced, LeavesBeside, Looks, WatchesBeside, newcomer};
 
 use answers::{Answer, write_posted, write_refused, write_synced, write_version, write_watch};
@@ -21,13 +23,13 @@ use std::alloc::{AllocError, Global};
 use std::marker::Model;
 use std::mem::replace;
 use std::sync::{Arc, Wait};
-use versions::{ByClient, Client, Hub, Naming, NoPlace, Reader, Version};
+use versions::{BySeats, Guest, Hub, Naming, NoPlace, Reader, Version};
 
 /// Who comes to the hub for a script: its client and its reader. Contracts see how it left the hub, what it has seen, and what its
 /// last `sync` told.
 #[derive(Drop)]
-pub(crate) struct Visitor<N: Naming> {
-    client: Client<N>,
+pub struct Visitor<N: Naming> {
+    guest: Guest<N>,
     reader: Reader<N>,
     /// How many events had been accepted when it left the hub.
     accepted: u64,
@@ -42,17 +44,20 @@ impl<N: Naming> Model for Visitor<N> {
     ghost use Rattle.std.specs.Arc.{arc_value};
     ghost use Rattle.desk_core.specs.Desk.{accepted as accepted_by};
     ghost use Rattle.beside.specs.Beside.{BesideValue};
+    ghost use Rattle.versions.specs.Working.{Comes, left_at};
+    ghost use Rattle.beside.specs.Seats.{Came, CamePosting, Goes, StaysSeated};
 
     ghost Value = { BesideValue };
 
-    ghost view = { λ v. record { left = v.client; seen = v.reader.chain; synced = arc_value v.synced; watch = v.watch } };
+    ghost view = { λ v. record { seat = v.guest; left = left_at v.guest.saw; seen = v.reader.chain; synced = arc_value v.synced; watch = v.watch } };
 
-    ghost invariant = { λ v. v.accepted ≡ accepted_by v.client.desk };
+    ghost invariant = { λ v. v.accepted ≡ accepted_by (left_at v.guest.saw).desk };
 }
 
 /// Tells a reader what is published at a hub.
-fn tell<N: Naming>(hub: &Hub<N, ByClient>, reader: &mut Reader<N>) -> Result<(), Fault>
+fn tell<N: Naming>(hub: &Hub<N, BySeats>, reader: &mut Reader<N>) -> Result<(), Fault>
     ensures told { OnOk result ((reader.new.chain ≡ hub.now.state.shown.chain) × IsPrefix reader.old.chain reader.new.chain) }
+    ensures seen { IsPrefix reader.old.chain reader.new.chain }
     ensures fault { OnErr result (result ≡ Err Fault.NoPlace) }
 {
     match hub.tell(reader) {
@@ -74,10 +79,14 @@ fn answer_post(alloc: Global, reply: Result<Posted, Refusal>) -> Result<Answer, 
 }
 
 impl<N: Naming> Visitor<N> {
-    /// The client that has just left a hub, with a reader that knows what is published.
-    pub(crate) fn new(hub: &Hub<N, ByClient>, client: Client<N>) -> Result<Visitor<N>, NoPlace>
-        requires { client ≡ hub.now.state }
-        ensures { IfOk result (λ v. v ≡ newcomer hub.now.state) }
+    /// The guest that has just left a hub, with a reader that knows what is published.
+    ///
+    /// # Errors
+    ///
+    /// `NoPlace` if a place for its reader is refused.
+    pub fn new(hub: &Hub<N, BySeats>, guest: Guest<N>) -> Result<Visitor<N>, NoPlace>
+        requires { left_at guest.saw ≡ hub.now.state }
+        ensures { IfOk result (λ v. v ≡ newcomer guest hub.now.state) }
     {
         let reader = hub.reader()?;
         let accepted = hub.desk().accepted();
@@ -85,7 +94,7 @@ impl<N: Naming> Visitor<N> {
             return Err(NoPlace);
         };
         Ok(Visitor {
-            client,
+            guest,
             reader,
             accepted,
             synced,
@@ -101,13 +110,14 @@ impl<N: Naming> Visitor<N> {
     }
 
     /// Comes to the hub, and changes nothing there.
-    fn visit<R: Wait>(&mut self, rt: &R, hub: &mut Hub<N, ByClient>) -> Result<(), Fault>
-        ensures found { OnOk result (Finds self.old hub.old.state) }
-        ensures left { OnOk result (self.new ≡ record self.old { left = hub.old.state; seen = hub.old.state.shown.chain }) }
+    fn visit<R: Wait>(&mut self, rt: &R, hub: &mut Hub<N, BySeats>) -> Result<(), Fault>
+        ensures found { OnOk result ((finds : Finds N.seats self.old hub.old.state) × (self.new ≡ record self.old { seat = finds.there; left = hub.old.state; seen = hub.old.state.shown.chain })) }
+        ensures comes { Comes N.seats self.old.seat hub.old.state self.new.seat }
+        ensures seen { IsPrefix self.old.seen self.new.seen }
         ensures rest { hub.new ≡ hub.old }
         ensures fault { OnErr result (result ≡ Err Fault.NoPlace) }
     {
-        self.client.visit(rt, hub);
+        self.guest.visit(rt, hub);
         self.accepted = hub.desk().accepted();
         tell(hub, &mut self.reader)
     }
@@ -117,16 +127,17 @@ impl<N: Naming> Visitor<N> {
         &mut self,
         rt: &R,
         alloc: Global,
-        hub: &mut Hub<N, ByClient>,
+        hub: &mut Hub<N, BySeats>,
         collector: u8,
         seq: u64,
         event: Event,
     ) -> Result<Answer, Fault>
-        ensures call { IfOk result (λ answer. DoesAt (Calls (λ s. Posts s collector seq event) posted_text) self.old hub.old.state answer self.new) }
+        ensures call { IfOk result (λ answer. DoesAt N.seats (Calls (λ s. Posts s collector seq event) posted_text) self.old hub.old.state answer self.new) }
+        ensures posts { CamePosting N.seats event self.old self.new }
         ensures plain { IfOk result (λ answer. line_count answer ≡ 0) }
         ensures fault { IfErr result (CutsOff (Unit {0})) }
     {
-        let reply = self.client.post(rt, alloc, hub, collector, seq, event);
+        let reply = self.guest.post(rt, alloc, hub, collector, seq, event);
         self.accepted = hub.desk().accepted();
         if let Err(fault) = tell(hub, &mut self.reader) {
             return Err(fault);
@@ -139,26 +150,28 @@ impl<N: Naming> Visitor<N> {
         &mut self,
         rt: &R,
         alloc: Global,
-        hub: &mut Hub<N, ByClient>,
+        hub: &mut Hub<N, BySeats>,
         collector: u8,
         seq: u64,
         event: Event,
     ) -> Result<Answer, Fault>
-        ensures call { IfOk result (λ answer. DoesThere (Calls (λ s. Posts s collector seq event) posted_text) self.old answer self.new) }
+        ensures call { IfOk result (λ answer. DoesThere N.seats (Calls (λ s. Posts s collector seq event) posted_text) self.old answer self.new) }
+        ensures posts { CamePosting N.seats event self.old self.new }
         ensures plain { IfOk result (λ answer. line_count answer ≡ 0) }
         ensures fault { IfErr result (CutsOff (Unit {0})) }
     {
         self.post_at(rt, alloc, hub, collector, seq, event)
     }
 
-    /// The answer to a post of collector 0 after which it has no number.
+    /// The answer to a post of a collector after which it has no number.
     fn refuse_next<R: Wait>(
         &mut self,
         rt: &R,
         alloc: Global,
-        hub: &mut Hub<N, ByClient>,
+        hub: &mut Hub<N, BySeats>,
     ) -> Result<Answer, Fault>
-        ensures refused { IfOk result (λ answer. DoesAt (Tells (refused_text Refusal.EndOfNumbers)) self.old hub.old.state answer self.new) }
+        ensures refused { IfOk result (λ answer. DoesAt N.seats (Tells (refused_text Refusal.EndOfNumbers)) self.old hub.old.state answer self.new) }
+        ensures comes { Came N.seats self.old self.new }
         ensures plain { IfOk result (λ answer. line_count answer ≡ 0) }
         ensures fault { IfErr result (CutsOff (Unit {0})) }
     {
@@ -166,23 +179,25 @@ impl<N: Naming> Visitor<N> {
         Ok(Answer::of_text(write_refused(alloc, Refusal::EndOfNumbers)?))
     }
 
-    /// An event, posted by collector 0.
+    /// An event, posted by a collector under the sequence number after its last one.
     pub(crate) fn post_next<R: Wait>(
         &mut self,
         rt: &R,
         alloc: Global,
-        hub: &mut Hub<N, ByClient>,
+        hub: &mut Hub<N, BySeats>,
+        collector: u8,
         event: Event,
     ) -> Result<Answer, Fault>
-        ensures call { IfOk result (λ answer. DoesThere (PostsNext event) self.old answer self.new) }
+        ensures call { IfOk result (λ answer. DoesThere N.seats (PostsNext collector event) self.old answer self.new) }
+        ensures goes { Goes N.seats (event ∷ []) self.old self.new }
         ensures plain { IfOk result (λ answer. line_count answer ≡ 0) }
         ensures fault { IfErr result (CutsOff (Unit {0})) }
     {
-        let last = hub.desk().last_seq(0);
+        let last = hub.desk().last_seq(collector);
         if last == u64::MAX {
             return self.refuse_next(rt, alloc, hub);
         }
-        self.post_at(rt, alloc, hub, 0, last + 1, event)
+        self.post_at(rt, alloc, hub, collector, last + 1, event)
     }
 
     /// What is published, and what is accepted.
@@ -190,9 +205,10 @@ impl<N: Naming> Visitor<N> {
         &mut self,
         rt: &R,
         alloc: Global,
-        hub: &mut Hub<N, ByClient>,
+        hub: &mut Hub<N, BySeats>,
     ) -> Result<String, Fault>
-        ensures call { IfOk result (λ text. DoesThere (λ c. Tells (version_of c.desk) c) self.old (string_bytes text) self.new) }
+        ensures call { IfOk result (λ text. DoesThere N.seats (λ c. Tells (version_of c.desk) c) self.old (string_bytes text) self.new) }
+        ensures comes { Came N.seats self.old self.new }
         ensures plain { IfOk result (λ text. line_count (string_bytes text) ≡ 0) }
         ensures fault { IfErr result (CutsOff (Unit {0})) }
     {
@@ -206,9 +222,9 @@ impl<N: Naming> Visitor<N> {
         &mut self,
         rt: &R,
         alloc: Global,
-        hub: &mut Hub<N, ByClient>,
+        hub: &mut Hub<N, BySeats>,
     ) -> Result<Net, Fault>
-        ensures net { IfOk result (LeavesBeside self.old) }
+        ensures net { IfOk result (LeavesBeside N.seats self.old) }
         ensures fault { IfErr result (CutsOff (Unit {0})) }
     {
         self.visit(rt, hub)?;
@@ -220,17 +236,33 @@ impl<N: Naming> Visitor<N> {
         mut self,
         rt: &R,
         alloc: Global,
-        hub: &mut Hub<N, ByClient>,
+        hub: &mut Hub<N, BySeats>,
     ) -> Result<Net, Fault>
-        ensures net { IfOk result (LeavesBeside self) }
+        ensures net { IfOk result (LeavesBeside N.seats self) }
         ensures fault { IfErr result (CutsOff (Unit {0})) }
     {
         self.net_now(rt, alloc, hub)
     }
 
+    /// Its last visit. It gives its seat back, and tells a fault if it couldn't be told what is published.
+    pub(crate) fn part<R: Wait>(
+        mut self,
+        rt: &R,
+        hub: &mut Hub<N, BySeats>,
+    ) -> (Guest<N>, Result<(), Fault>)
+        ensures comes { Comes N.seats self.seat hub.old.state result.0 }
+        ensures seen { OnOk result.1 (IsPrefix self.seen hub.old.state.shown.chain) }
+        ensures rest { hub.new ≡ hub.old }
+        ensures fault { OnErr result.1 (result.1 ≡ Err Fault.NoPlace) }
+    {
+        let told = self.visit(rt, hub);
+        (self.guest, told)
+    }
+
     /// The version that is published now. It takes no lock.
     pub(crate) fn look(&mut self) -> Result<Arc<Version>, Fault>
         ensures looks { IfOk result (λ a. Looks self.old (arc_value a) self.new) }
+        ensures stays { StaysSeated self.old self.new }
         ensures kept { KeepsSynced self.old self.new }
         ensures fault { IfErr result (CutsOff (Unit {0})) }
     {
@@ -247,6 +279,7 @@ impl<N: Naming> Visitor<N> {
         version: Arc<Version>,
     ) -> Result<String, AllocError>
         ensures text { IfOk result (λ text. string_bytes text ≡ reply_watched self.old.watch self.old.synced (arc_value version) (synced_text (arc_value version).number)) }
+        ensures stays { StaysSeated self.old self.new }
         ensures told { OnOk result (self.new ≡ record self.old { synced = arc_value version; watch = watched self.old.watch self.old.synced (arc_value version) }) }
         ensures lines { IfOk result (λ text. line_count (string_bytes text) ≤ 1) }
     {
@@ -266,6 +299,7 @@ impl<N: Naming> Visitor<N> {
     /// Changes are told behind each `sync` from now on, or no more.
     pub(crate) fn set_watch(&mut self, alloc: Global, is_on: bool) -> Result<String, AllocError>
         ensures does { IfOk result (λ text. WatchesBeside is_on self.old (string_bytes text) self.new) }
+        ensures stays { StaysSeated self.old self.new }
         ensures plain { IfOk result (λ text. line_count (string_bytes text) ≡ 0) }
     {
         self.watch.set(is_on);

@@ -40,6 +40,8 @@ impl Answering for InLine {
 
     ghost commands = { Commands };
 
+    ghost fails = { λ line old new. Unit {0} };
+
     ghost leaves = { LeavesInLine };
 
     ghost needs_place = { ⊥ };

@@ -85,10 +85,10 @@ module _ (c : ConsoleValue) (text : List ℕ) (new : ConsoleValue) where
   calls_post collector seq event result is said =
       subst (λ es. IsRunOf c.desk es new.desk) (taken_is event result ∙ ap (λ (t : List ℕ). if says_taken t then event ∷ [] else []) (sym said)) (posted c.desk new.desk collector seq event result is)
 
-  posts_after : (b : Bool) (event : Event) → PostsAfter b event c text new → IsRunOf c.desk (if says_taken text then event ∷ [] else []) new.desk
-  posts_after true event is =
+  posts_after : (b : Bool) (collector : ℕ) (event : Event) → PostsAfter b collector event c text new → IsRunOf c.desk (if says_taken text then event ∷ [] else []) new.desk
+  posts_after true collector event is =
       subst (λ es. IsRunOf c.desk es new.desk) (ap (λ (t : List ℕ). if says_taken t then event ∷ [] else []) (sym is.0)) (unmoved c.desk new.desk (ap (λ (d : ConsoleValue). d.desk) is.1))
-  posts_after false event is = calls_post 0 ((last_of c.desk 0).seq + 1) event is.0 is.1 is.3
+  posts_after false collector event is = calls_post collector ((last_of c.desk collector).seq + 1) event is.0 is.1 is.3
 
   gives : (k : ℕ) (slot : Option Work) → GivesFrom k slot c text new → IsRunOf c.desk [] new.desk
   gives k None is = unmoved c.desk new.desk (ap (λ (d : ConsoleValue). d.desk) is.1)
@@ -99,7 +99,7 @@ module _ (c : ConsoleValue) (text : List ℕ) (new : ConsoleValue) where
   abandons (Some work) is = abandoned c.desk new.desk work.version work.excerpt.plan.dest is.0 is.1
 
   command_runs : (done : Command) → Does done c text new → IsRunOf c.desk (taken_of done text) new.desk
-  command_runs (command.Event event) is = posts_after _ event is
+  command_runs (command.Event event) is = posts_after _ 0 event is
   command_runs (command.Post collector seq event) is = calls_post collector seq event is.0 is.1 is.3
   command_runs command.Open is = silent (opened c.desk new.desk is.0 is.1)
   command_runs (command.Take k) is = silent (took c.desk new.desk is.0 is.1)

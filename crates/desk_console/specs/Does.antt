@@ -44,14 +44,14 @@ abbrev pub Calls : {T : Type 0} → (DeskValue → Result T Refusal → DeskValu
 Calls {T} Step text_of c text new =
     (result : Result T Refusal) × Step c.desk result new.desk × HasMemory result × (text ≡ text_of result) × (new.slots ≡ c.slots) × (new.watch ≡ c.watch)
 
--- the sequence number after collector 0's last one is a number, or there is none
-abbrev pub PostsAfter : Bool → Event → ConsoleValue → List ℕ → ConsoleValue → Type 0
-PostsAfter true event c = Tells (refused_text EndOfNumbers) c
-PostsAfter false event c = Calls (λ s. Posts s 0 ((last_of s 0).seq + 1) event) posted_text c
+-- the sequence number after a collector's last one is a number, or there is none
+abbrev pub PostsAfter : Bool → ℕ → Event → ConsoleValue → List ℕ → ConsoleValue → Type 0
+PostsAfter true collector event c = Tells (refused_text EndOfNumbers) c
+PostsAfter false collector event c = Calls (λ s. Posts s collector ((last_of s collector).seq + 1) event) posted_text c
 
--- an event: collector 0 posts it, under the sequence number after its last one
-abbrev pub PostsNext : Event → ConsoleValue → List ℕ → ConsoleValue → Type 0
-PostsNext event c = PostsAfter ((last_of c.desk 0).seq == 2 ^ 64 - 1) event c
+-- a collector posts an event under the sequence number after its last one
+abbrev pub PostsNext : ℕ → Event → ConsoleValue → List ℕ → ConsoleValue → Type 0
+PostsNext collector event c = PostsAfter ((last_of c.desk collector).seq == 2 ^ 64 - 1) collector event c
 
 -- ---- slots
 
@@ -121,7 +121,7 @@ is_asked _ = false
 -- what a command does; what is asked is answered from the published version
 abbrev pub Does : Command → ConsoleValue → List ℕ → ConsoleValue → Type 0
 -- EVENT
-Does (command.Event event) c = PostsNext event c
+Does (command.Event event) c = PostsNext 0 event c
 -- `post C SEQ EVENT`
 Does (command.Post collector seq event) c = Calls (λ s. Posts s collector seq event) posted_text c
 -- `open`

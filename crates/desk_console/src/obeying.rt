@@ -62,7 +62,7 @@ impl Console {
 
     /// An event, posted by collector 0.
     fn post_next(&mut self, alloc: Global, event: Event) -> Result<Answer, AllocError>
-        ensures call { IfOk result (λ answer. PostsNext event self.old answer self.new) }
+        ensures call { IfOk result (λ answer. PostsNext 0 event self.old answer self.new) }
         ensures plain { IfOk result (λ answer. line_count answer ≡ 0) }
     {
         let last = self.desk.last_seq(0);

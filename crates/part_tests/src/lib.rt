@@ -1,11 +1,9 @@
 //! Tests of the parts (codes, links, shares, choices, tokens, tables and plain data) and of edits of a network. Each call that
 //! allocates runs once with ample memory, and its answer is compared with one worked out by hand.
 //!
-//! Stands on `profile`, `agreed`, `sample_nets`. Nothing else changes with it.
+//! Stands on `profile`, `seats`, `sample_nets`. Nothing else changes with it.
 #![tactic(auto)]
 
-#[cfg(test)]
-mod agreement_tests;
 #[cfg(test)]
 mod change_tests;
 #[cfg(test)]
@@ -24,6 +22,8 @@ mod mark_tests;
 mod net_tests;
 #[cfg(test)]
 mod parts;
+#[cfg(test)]
+mod seat_tests;
 #[cfg(test)]
 mod share_tests;
 #[cfg(test)]

@@ -47,6 +47,10 @@ cut_grown_all xs (y ∷ ys) none =
     ∙ ap (λ c. record { whole = c.whole; rest = c.rest ++ ys }) (cut_grown xs y (lacks_parts y 10 parts.0))
     ∙ ap (λ r. record { whole = whole_lines xs; rest = r }) (append_assoc (rest_of xs) (y ∷ []) ys)
 
+-- a line with its last bytes and a line feed
+pub whole_ended : (xs ys : List ℕ) → lacks 10 ys ≡ true → whole_lines ((xs ++ ys) ++ 10 ∷ []) ≡ whole_lines xs ++ (rest_of xs ++ ys) ∷ []
+whole_ended xs ys none = ap (λ c. c.whole) (cut_ended (xs ++ ys)) ∙ ap (λ c. c.whole ++ c.rest ∷ []) (cut_grown_all xs ys none)
+
 -- what stands before the first of a byte
 lacks_more : (c x n m : ℕ) (xs : List ℕ) → (x == c) ≡ false → m ≡ suc n → lacks c (take n xs) ≡ true → lacks c (take m (x ∷ xs)) ≡ true
 lacks_more c x n m xs other next h = rw (next, other) h

@@ -1,19 +1,20 @@
--- What one more line and one more piece do to a run.
+-- What one more line and one more piece do to a run, and how it ends.
 use Rattle.std.proofs.Common.{◌≡◌, ℕ, ◌+◌, true, List, [], ◌∷◌, ◌++◌, take, drop, Option, Some, None, sym, ap, subst, refl, ◌∙◌, arith, append_assoc, append-nil}
 use Rattle.std.proofs.lemmas.List.{take-append-drop}
 use Rattle.std.specs.Io.KnownBytes.{Appends, Consumes, Keeps, IsAtEnd}
 use Rattle.std.proofs.KnownBytes.{Appends-trans, Appends-nil, Consumes-nil, Consumes-trans, Consumes-kept}
+use Rattle.point_codes.specs.Codes.{split_of}
 use Rattle.point_codes.proofs.CodeLemmas.{lacks}
 use Rattle.net_data.specs.Network.{Network}
 use Rattle.sessions.specs.Lines.{cut, whole_lines, rest_of, lines_of}
 use Rattle.sessions.specs.Replies.{Replies, Answered}
 use Rattle.answers.specs.Text.{line_count}
-use Rattle.sessions.specs.Run.{IsLine, IsTaken, IsAt, HasAnswered, IsAnsweredInPart, IsCutOff, CutsOff, IsEnd, IsOutcome, Ran}
+use Rattle.sessions.specs.Run.{IsLine, IsTaken, IsAt, HasAnswered, IsAnsweredInPart, IsUnkept, IsCutAt, IsCutOff, CutsOff, IsEnd, IsOutcome, Ran, IsEndAt, RanTo}
 use Rattle.sessions.specs.declared.faults.Fault.{Fault}
 use Rattle.sessions.specs.declared.faults.Fault.TheVariants.{OutOfMemory, Read, Write, NoPlace, Load}
 use Rattle.sessions.specs.declared.session.Session.{Session}
-use Rattle.sessions.proofs.LineLemmas.{cut_ended, cut_grown_all, whole_more}
-use Rattle.sessions.proofs.AnswerLemmas.{Answered-none, ended_answers, part_whole, part_of_more, part_less}
+use Rattle.sessions.proofs.LineLemmas.{cut_ended, cut_grown_all, whole_ended, whole_more, split_front, split_on}
+use Rattle.sessions.proofs.AnswerLemmas.{Answered-none, ended_answers, part_front, cut_whole, cut_unkept, cut_of_more, cut_less, cut_part}
 use Rattle.answers.proofs.PlainLemmas.{line_count-append}
 
 module _ {S : Type 0} (Commands : List ℕ → S → List ℕ → S → Type 0) where
@@ -46,14 +47,6 @@ module _ {S : Type 0} (Commands : List ℕ → S → List ℕ → S → Type 0) 
         rest = subst (IsLine t.line) (ap (λ c. c.rest) (sym (cut_ended all))) empty;
       }
 
-  -- what is answered of a part are answers to the first lines of all
-  pub taken_part : (start : S) (all read more written : List ℕ) (s : Session S) (waiting : List ℕ) → read ++ more ≡ all → IsTaken Commands start read written s
-      → waiting ≡ s.answers.items → IsAnsweredInPart Commands start (whole_lines all) (written ++ waiting)
-  taken_part start all read more written s waiting e at same =
-      let rest = whole_more read more in
-      part_of_more Commands start (written ++ waiting) (whole_lines read) rest.0 _ (ap whole_lines (sym e) ∙ rest.1)
-      (part_whole Commands start s.state (whole_lines read) (written ++ s.answers.items) (written ++ waiting) at.answered (ap (λ x. written ++ x) (sym same)))
-
   -- between two reads nothing waits
   pub at_taken : (start : S) (read : List ℕ) (held holds : Option (List ℕ)) (s : Session S) → (at : IsAt Commands start read held holds s)
       → IsTaken Commands start read at.written s
@@ -77,29 +70,6 @@ module _ {S : Type 0} (Commands : List ℕ → S → List ℕ → S → Type 0) 
         none = none;
         rest = subst (λ l. IsLine l (rest_of read)) (sym line) taken.rest;
       }
-
-  -- a part of what waited was written
-  pub flushed_part : (start : S) (asked : List (List ℕ)) (written waiting : List ℕ) (held before holds : Option (List ℕ)) (n had lines : ℕ)
-      → IsAnsweredInPart Commands start asked (written ++ waiting) → Appends held before written → had ≡ line_count written
-      → Appends before holds (take n waiting) → lines ≡ had + line_count (take n waiting)
-      → IsCutOff Commands start asked held holds lines
-  flushed_part start asked written waiting held before holds n had lines part kept counted wrote more =
-      let both = line_count-append written (take n waiting) in
-      record {
-        written = written ++ take n waiting;
-        appended = Appends-trans held before holds _ _ kept wrote;
-        part = part_less Commands start asked (written ++ waiting) (written ++ take n waiting) (drop n waiting)
-            (ap (λ t. written ++ t) (sym (take-append-drop n waiting)) ∙ sym (append_assoc written (take n waiting) (drop n waiting))) part;
-        counted = omega arith;
-      }
-
-  pub flushed_whole : (start : S) (asked : List (List ℕ)) (written waiting : List ℕ) (held before holds : Option (List ℕ)) (had lines : ℕ)
-      → IsAnsweredInPart Commands start asked (written ++ waiting) → Appends held before written → had ≡ line_count written
-      → Appends before holds waiting → lines ≡ had + line_count waiting
-      → IsCutOff Commands start asked held holds lines
-  flushed_whole start asked written waiting held before holds had lines part kept counted wrote more =
-      let both = line_count-append written waiting in
-      record { written = written ++ waiting; appended = Appends-trans held before holds _ _ kept wrote; part = part; counted = omega arith }
 
   -- a run that has read nothing
   pub at_start : (start : S) (held : Option (List ℕ)) (s : Session S) → s.state ≡ start → IsLine s.line [] → s.answers.items ≡ [] → s.lines ≡ 0 → IsAt Commands start [] held held s
@@ -148,6 +118,104 @@ module _ {S : Type 0} (Commands : List ℕ → S → List ℕ → S → Type 0) 
     at = has.at;
   }
 
+module _ {S : Type 0} (Commands : List ℕ → S → List ℕ → S → Type 0) (Fails : List ℕ → S → S → Type 0) where
+  -- what is answered of a part are answers to the first lines of all
+  pub taken_part : (start : S) (all read more written : List ℕ) (s : Session S) → read ++ more ≡ all → IsTaken Commands start read written s
+      → IsCutAt Commands Fails start (whole_lines all) (written ++ s.answers.items) s.state
+  taken_part start all read more written s e at =
+      let rest = whole_more read more in
+      cut_of_more Commands Fails start s.state (written ++ s.answers.items) (whole_lines read) rest.0 _ (ap whole_lines (sym e) ∙ rest.1)
+      (cut_whole Commands Fails start s.state (whole_lines read) (written ++ s.answers.items) _ at.answered refl)
+
+  -- the answer to the next line was not kept, or lost
+  pub taken_lost : (start : S) (all read rest front after written : List ℕ) (s t : Session S) → split_of 10 rest ≡ Some (front, after) → read ++ rest ≡ all
+      → IsTaken Commands start read written s → IsUnkept Commands Fails (rest_of read ++ front) s.state t.state → t.answers.items ≡ s.answers.items
+      → IsCutAt Commands Fails start (whole_lines all) (written ++ t.answers.items) t.state
+  taken_lost start all read rest front after written s t split e at lost same =
+      let more = whole_more ((read ++ front) ++ 10 ∷ []) after in
+      let asked : whole_lines all ≡ (whole_lines read ++ (rest_of read ++ front) ∷ []) ++ more.0 =
+      ap whole_lines (sym e ∙ sym (split_on read rest front after split)) ∙ more.1 ∙ ap (λ ls. ls ++ more.0) (whole_ended read front (split_front 10 rest front after split)) in
+      subst (λ x. IsCutAt Commands Fails start (whole_lines all) (written ++ x) t.state) (sym same)
+      (cut_of_more Commands Fails start t.state (written ++ s.answers.items) (whole_lines read ++ (rest_of read ++ front) ∷ []) more.0 _ asked
+      (cut_unkept Commands Fails start s.state t.state (whole_lines read) (rest_of read ++ front) (written ++ s.answers.items) at.answered lost))
+
+  -- a part of what waited was written
+  pub flushed_part : (start mid after : S) (asked : List (List ℕ)) (written waiting : List ℕ) (held before holds : Option (List ℕ)) (n had lines : ℕ)
+      → IsCutAt Commands Fails start asked (written ++ waiting) mid → Appends held before written → had ≡ line_count written
+      → Appends before holds (take n waiting) → lines ≡ had + line_count (take n waiting) → after ≡ mid
+      → IsCutOff Commands Fails start asked held holds lines after
+  flushed_part start mid after asked written waiting held before holds n had lines cut kept counted wrote more same =
+      let both = line_count-append written (take n waiting) in
+      record {
+        written = written ++ take n waiting;
+        appended = Appends-trans held before holds _ _ kept wrote;
+        part = subst (IsCutAt Commands Fails start asked (written ++ take n waiting)) (sym same)
+            (cut_less Commands Fails start mid asked (written ++ waiting) (written ++ take n waiting) (drop n waiting)
+            (ap (λ t. written ++ t) (sym (take-append-drop n waiting)) ∙ sym (append_assoc written (take n waiting) (drop n waiting))) cut);
+        counted = omega arith;
+      }
+
+  pub flushed_whole : (start mid after : S) (asked : List (List ℕ)) (written waiting : List ℕ) (held before holds : Option (List ℕ)) (had lines : ℕ)
+      → IsCutAt Commands Fails start asked (written ++ waiting) mid → Appends held before written → had ≡ line_count written
+      → Appends before holds waiting → lines ≡ had + line_count waiting → after ≡ mid
+      → IsCutOff Commands Fails start asked held holds lines after
+  flushed_whole start mid after asked written waiting held before holds had lines cut kept counted wrote more same =
+      let both = line_count-append written waiting in
+      record {
+        written = written ++ waiting;
+        appended = Appends-trans held before holds _ _ kept wrote;
+        part = subst (IsCutAt Commands Fails start asked (written ++ waiting)) (sym same) cut;
+        counted = omega arith;
+      }
+
+module _ {S : Type 0} (Commands : List ℕ → S → List ℕ → S → Type 0) (Fails : List ℕ → S → S → Type 0) (Place : Type 0) where
+  -- a fault that cuts off
+  cut_end : (fault : Fault) → CutsOff Place fault → (start after : S) (left : Option (List ℕ)) (read written : List ℕ)
+      → IsCutAt Commands Fails start (lines_of read) written after → IsEndAt Commands Fails Place (Some fault) start left read written after
+  cut_end OutOfMemory cuts start after left read written cut = cut
+  cut_end Read cuts start after left read written cut = absurd cuts
+  cut_end Write cuts start after left read written cut = cut
+  cut_end NoPlace cuts start after left read written cut = (cuts, cut)
+  cut_end (Load e) cuts start after left read written cut = absurd cuts
+
+  -- all was answered
+  pub to_whole : (start : S) (unread left held holds : Option (List ℕ)) (s : Session S) (read ended : List ℕ)
+      → lines_of read ≡ whole_lines ended → IsAt Commands start ended held holds s → Consumes unread left read → IsAtEnd left
+      → RanTo Commands Fails Place start unread left held holds None s.lines s.state
+  to_whole start unread left held holds s read ended e at consumed at_end = record {
+    read = read;
+    consumed = consumed;
+    written = at.written;
+    appended = at.appended;
+    counted = at.counted;
+    outcome = (at_end, subst (λ ls. Answered Commands start ls at.written s.state) (sym e) at.answered);
+  }
+
+  -- no more can be read
+  pub to_unread : (start : S) (unread left held holds : Option (List ℕ)) (s : Session S) → HasAnswered Commands start unread left held holds s
+      → RanTo Commands Fails Place start unread left held holds (Some Read) s.lines s.state
+  to_unread start unread left held holds s has = record {
+    read = has.read;
+    consumed = has.consumed;
+    written = has.at.written;
+    appended = has.at.appended;
+    counted = has.at.counted;
+    outcome = has.at.answered;
+  }
+
+  -- the answers were cut off
+  pub to_cut_off : (start after : S) (unread left held holds : Option (List ℕ)) (read : List ℕ) (asked more : List (List ℕ)) (cause : Fault) (lines : ℕ)
+      → lines_of read ≡ asked ++ more → CutsOff Place cause → IsCutOff Commands Fails start asked held holds lines after → Consumes unread left read
+      → RanTo Commands Fails Place start unread left held holds (Some cause) lines after
+  to_cut_off start after unread left held holds read asked more cause lines e cuts cut_off consumed = record {
+    read = read;
+    consumed = consumed;
+    written = cut_off.written;
+    appended = cut_off.appended;
+    counted = cut_off.counted;
+    outcome = cut_end cause cuts start after left read cut_off.written (cut_of_more Commands Fails start after cut_off.written asked more _ e cut_off.part);
+  }
+
 module _ {S : Type 0} (Commands : List ℕ → S → List ℕ → S → Type 0) (Leaves : S → Network → Type 0) (Place : Type 0) where
   -- a fault that cuts off
   part_outcome : (fault : Fault) → CutsOff Place fault → (start : S) (left : Option (List ℕ)) (read written : List ℕ) (net : Option Network)
@@ -161,7 +229,7 @@ module _ {S : Type 0} (Commands : List ℕ → S → List ℕ → S → Type 0) 
   -- nothing was written
   pub outcome_none : (cause : Fault) → CutsOff Place cause → (start : S) (left : Option (List ℕ)) (read : List ℕ) (net : Option Network) → net ≡ None → IsOutcome Commands Leaves Place (Some cause) start left read [] net
   outcome_none cause cuts start left read net none =
-      part_outcome cause cuts start left read [] net (part_of_more Commands start [] [] (lines_of read) _ refl (part_whole Commands start start [] [] [] (Answered-none Commands start) refl)) none
+      part_outcome cause cuts start left read [] net (part_front Commands start start [] (lines_of read) _ [] refl (Answered-none Commands start)) none
 
   -- nothing was read, since a fault cut off
   pub ran_nothing : (start : S) (unread held : Option (List ℕ)) (cause : Fault) (fault : Option Fault) (lines : ℕ) (net : Option Network)
@@ -182,46 +250,41 @@ module _ {S : Type 0} (Commands : List ℕ → S → List ℕ → S → Type 0) 
   outcome_ended start after left read written None net at_end answered end =
       record { at_end = at_end; after = after; answered = answered; network = end.0; is_left = end.1; comes_back = end.2 }
   outcome_ended start after left read written (Some fault) net at_end answered end =
-      part_outcome fault end.0 start left read written net (part_whole Commands start after (lines_of read) written written answered refl) end.1
+      part_outcome fault end.0 start left read written net (part_front Commands start after (lines_of read) [] _ written (sym (append-nil (lines_of read))) answered) end.1
 
-  pub ran_whole : (start : S) (unread left held holds : Option (List ℕ)) (s : Session S) (read ended : List ℕ) (fault : Option Fault) (lines : ℕ) (net : Option Network)
-      → lines_of read ≡ whole_lines ended → IsAt Commands start ended held holds s → Consumes unread left read → IsAtEnd left
-      → lines ≡ s.lines → IsEnd Leaves Place s.state fault net
+module _ {S : Type 0} (Commands : List ℕ → S → List ℕ → S → Type 0) (Fails : List ℕ → S → S → Type 0) (Leaves : S → Network → Type 0) (Place : Type 0) where
+  -- all was answered, and the network given away
+  pub ran_ended : (start after : S) (unread left held holds : Option (List ℕ)) (had : ℕ) (fault : Option Fault) (lines : ℕ) (net : Option Network)
+      → RanTo Commands Fails Place start unread left held holds None had after → lines ≡ had → IsEnd Leaves Place after fault net
       → Ran Commands Leaves Place start unread left held holds fault lines net
-  ran_whole start unread left held holds s read ended fault lines net e at consumed at_end same end = record {
-    read = read;
-    consumed = consumed;
-    written = at.written;
-    appended = at.appended;
-    counted = same ∙ at.counted;
-    outcome = outcome_ended start s.state left read at.written fault net at_end
-        (subst (λ ls. Answered Commands start ls at.written s.state) (sym e) at.answered) end;
+  ran_ended start after unread left held holds had fault lines net ran same end = record {
+    read = ran.read;
+    consumed = ran.consumed;
+    written = ran.written;
+    appended = ran.appended;
+    counted = same ∙ ran.counted;
+    outcome = outcome_ended Commands Leaves Place start after left ran.read ran.written fault net ran.outcome.0 ran.outcome.1 end;
   }
 
-  -- no more can be read
-  pub ran_unread : (start : S) (unread left held holds : Option (List ℕ)) (s : Session S) (fault : Option Fault) (lines : ℕ) (net : Option Network)
-      → HasAnswered Commands start unread left held holds s → lines ≡ s.lines → fault ≡ Some Read → net ≡ None
-      → Ran Commands Leaves Place start unread left held holds fault lines net
-  ran_unread start unread left held holds s fault lines net has same some none = record {
-    read = has.read;
-    consumed = has.consumed;
-    written = has.at.written;
-    appended = has.at.appended;
-    counted = same ∙ has.at.counted;
-    outcome = subst (λ f. IsOutcome Commands Leaves Place f start left has.read has.at.written net) (sym some) ((s.state, has.at.answered), none);
-  }
+  -- a fault that ended a run, without what is left of who answers
+  end_outcome : (fault : Fault) (start after : S) (left : Option (List ℕ)) (read written : List ℕ) (net : Option Network)
+      → IsEndAt Commands Fails Place (Some fault) start left read written after → net ≡ None → IsOutcome Commands Leaves Place (Some fault) start left read written net
+  end_outcome OutOfMemory start after left read written net end none = (cut_part Commands Fails start after (lines_of read) written end, none)
+  end_outcome Read start after left read written net end none = ((after, end), none)
+  end_outcome Write start after left read written net end none = (cut_part Commands Fails start after (lines_of read) written end, none)
+  end_outcome NoPlace start after left read written net end none = (end.0, cut_part Commands Fails start after (lines_of read) written end.1, none)
+  end_outcome (Load e) start after left read written net end none = absurd end
 
-  -- the answers were cut off
-  pub ran_cut_off : (start : S) (unread left held holds : Option (List ℕ)) (read : List ℕ) (asked more : List (List ℕ)) (cause : Fault) (had : ℕ) (fault : Option Fault) (lines : ℕ) (net : Option Network)
-      → lines_of read ≡ asked ++ more → CutsOff Place cause → IsCutOff Commands start asked held holds had → Consumes unread left read
-      → lines ≡ had → fault ≡ Some cause → net ≡ None
+  -- a fault ended the run
+  pub ran_failed : (start after : S) (unread left held holds : Option (List ℕ)) (cause : Fault) (had : ℕ) (fault : Option Fault) (lines : ℕ) (net : Option Network)
+      → RanTo Commands Fails Place start unread left held holds (Some cause) had after → lines ≡ had → fault ≡ Some cause → net ≡ None
       → Ran Commands Leaves Place start unread left held holds fault lines net
-  ran_cut_off start unread left held holds read asked more cause had fault lines net e cuts cut_off consumed same some none = record {
-    read = read;
-    consumed = consumed;
-    written = cut_off.written;
-    appended = cut_off.appended;
-    counted = same ∙ cut_off.counted;
-    outcome = subst (λ f. IsOutcome Commands Leaves Place f start left read cut_off.written net) (sym some)
-        (part_outcome cause cuts start left read _ net (part_of_more Commands start _ asked more _ e cut_off.part) none);
+  ran_failed start after unread left held holds cause had fault lines net ran same some none = record {
+    read = ran.read;
+    consumed = ran.consumed;
+    written = ran.written;
+    appended = ran.appended;
+    counted = same ∙ ran.counted;
+    outcome = subst (λ f. IsOutcome Commands Leaves Place f start left ran.read ran.written net) (sym some)
+        (end_outcome cause start after left ran.read ran.written net ran.outcome none);
   }

@@ -1,10 +1,10 @@
 -- What a run of a script reads and writes, by whoever answers its lines.
-use Rattle.std.specs.Prelude.{◌≡◌, ℕ, ◌<◌, ◌≤◌, Bool, true, false, List, [], ◌++◌, length, Option, Some, None}
+use Rattle.std.specs.Prelude.{◌≡◌, ℕ, ◌<◌, ◌≤◌, ◌⊎◌, Bool, true, false, List, [], ◌∷◌, ◌++◌, length, Option, Some, None}
 use Rattle.std.specs.Io.KnownBytes.{Consumes, Appends, IsAtEnd}
 use Rattle.net_data.specs.Network.{Network}
 use Rattle.answers.specs.Text.{line_count}
-use Rattle.sessions.specs.Lines.{whole_lines, rest_of, lines_of}
-use Rattle.sessions.specs.Replies.{Answered}
+use Rattle.sessions.specs.Lines.{trimmed, whole_lines, rest_of, lines_of}
+use Rattle.sessions.specs.Replies.{Replies, Answered}
 use Rattle.sessions.specs.declared.faults.Fault.{Fault}
 use Rattle.sessions.specs.declared.faults.Fault.TheVariants.{OutOfMemory, Read, Write, NoPlace, Load}
 use Rattle.sessions.specs.declared.lines.Line.{Line}
@@ -62,12 +62,53 @@ module _ {S : Type 0} (Commands : List ℕ → S → List ℕ → S → Type 0) 
     pub answered : Answered Commands start done text after
     pub front : IsPrefixOf written text
 
-  -- a run that ended within the answers to some lines
-  pub record IsCutOff (start : S) (asked : List (List ℕ)) (held holds : Option (List ℕ)) (lines : ℕ) : Type 0 where
+module _ {S : Type 0} (Fails : List ℕ → S → S → Type 0) where
+  -- nothing was done since, or the first of these lines was begun, and its answer lost
+  abbrev pub IsBegun : List (List ℕ) → S → S → Type 0
+  IsBegun [] old new = new ≡ old
+  IsBegun (line ∷ lines) old new = (new ≡ old) ⊎ Fails (trimmed line) old new
+
+module _ {S : Type 0} (Commands : List ℕ → S → List ℕ → S → Type 0) (Fails : List ℕ → S → S → Type 0) where
+  -- a line was answered, and its answer not kept; or it was begun at most
+  abbrev pub IsUnkept : List ℕ → S → S → Type 0
+  IsUnkept line old new = ((text : List ℕ) × Replies Commands line old text new) ⊎ IsBegun Fails (line ∷ []) old new
+
+  -- the first of some lines were answered, this is a prefix of their answers, and the line behind them may have been begun
+  pub record IsCutAt (start : S) (asked : List (List ℕ)) (written : List ℕ) (after : S) : Type 0 where
+    pub done : List (List ℕ)
+    pub left : List (List ℕ)
+    pub whole : asked ≡ done ++ left
+    pub text : List ℕ
+    pub mid : S
+    pub answered : Answered Commands start done text mid
+    pub front : IsPrefixOf written text
+    pub begun : IsBegun Fails left mid after
+
+  -- a run that ended within the answers to some lines, and what is left of who answers
+  pub record IsCutOff (start : S) (asked : List (List ℕ)) (held holds : Option (List ℕ)) (lines : ℕ) (after : S) : Type 0 where
     pub written : List ℕ
     pub appended : Appends held holds written
-    pub part : IsAnsweredInPart start asked written
+    pub part : IsCutAt start asked written after
     pub counted : lines ≡ line_count written
+
+module _ {S : Type 0} (Commands : List ℕ → S → List ℕ → S → Type 0) (Fails : List ℕ → S → S → Type 0) (Place : Type 0) where
+  -- what was written after these bytes were read, by the fault that ended the run, and what is left of who answers
+  abbrev pub IsEndAt : Option Fault → S → Option (List ℕ) → List ℕ → List ℕ → S → Type 0
+  IsEndAt None start left read written after = IsAtEnd left × Answered Commands start (lines_of read) written after
+  IsEndAt (Some Read) start left read written after = Answered Commands start (whole_lines read) written after
+  IsEndAt (Some Write) start left read written after = IsCutAt Commands Fails start (lines_of read) written after
+  IsEndAt (Some OutOfMemory) start left read written after = IsCutAt Commands Fails start (lines_of read) written after
+  IsEndAt (Some NoPlace) start left read written after = Place × IsCutAt Commands Fails start (lines_of read) written after
+  IsEndAt (Some (Load e)) start left read written after = ⊥
+
+  -- a run from a start to what is left of who answers: some bytes were read, and the answers to them were written
+  pub record RanTo (start : S) (unread left held holds : Option (List ℕ)) (fault : Option Fault) (lines : ℕ) (after : S) : Type 0 where
+    pub read : List ℕ
+    pub consumed : Consumes unread left read
+    pub written : List ℕ
+    pub appended : Appends held holds written
+    pub counted : lines ≡ line_count written
+    pub outcome : IsEndAt fault start left read written after
 
 -- how a run ends that answered all: the network comes back that is left then, unless a fault cuts it off
 abbrev pub IsEnd : {S : Type 0} → (S → Network → Type 0) → Type 0 → S → Option Fault → Option Network → Type 0

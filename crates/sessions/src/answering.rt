@@ -7,13 +7,16 @@ use std::alloc::Global;
 
 /// Who answers the lines of a script, one after the other.
 pub trait Answering: Drop {
-    ghost use Rattle.std.specs.Prelude.{ℕ, ◌≤◌, List, IfOk, IfErr};
+    ghost use Rattle.std.specs.Prelude.{ℕ, ◌≤◌, List, IfOk, IfErr, OnErr};
     ghost use Rattle.net_data.specs.Network.{Network};
     ghost use Rattle.answers.specs.Text.{line_count};
     ghost use Rattle.sessions.specs.Run.{CutsOff};
 
     // What a line does: the text of its answer, and what stands after it.
     ghost commands: { List ℕ → Self → List ℕ → Self → Type 0 };
+
+    // What may be left where the answer to a line is lost to a fault.
+    ghost fails: { List ℕ → Self → Self → Type 0 };
 
     // The network that is left after the last line.
     ghost leaves: { Self → Network → Type 0 };
@@ -29,6 +32,7 @@ pub trait Answering: Drop {
     fn answer(&mut self, alloc: Global, line: &[u8]) -> Result<Answer, Fault>
         ensures command { IfOk result (λ answer. commands line.now self.old answer self.new) }
         ensures lines { IfOk result (λ answer. line_count answer ≤ 1) }
+        ensures lost { OnErr result (fails line.now self.old self.new) }
         ensures fault { IfErr result (CutsOff needs_place) };
 
     /// The network that is left after the last line, given away.

@@ -3,7 +3,7 @@
 ghost use Rattle.std.specs.Prelude.{◌≡◌, ℕ, ◌+◌, ◌*◌, ◌^◌, ◌<◌, ◌≤◌, List, Option, Some, None};
 ghost use Rattle.std.specs.Io.KnownBytes.{IsAtEnd};
 ghost use Rattle.answers.specs.Text.{line_count};
-ghost use Rattle.sessions.specs.Run.{HasAnswered, IsEnd, Ran};
+ghost use Rattle.sessions.specs.Run.{HasAnswered, IsEnd, Ran, RanTo};
 
 use crate::answering::Answering;
 use crate::faults::Fault;
@@ -21,6 +21,17 @@ pub struct ScriptEnd {
     pub fault: Option<Fault>,
     /// The network after all accepted events; none after a fault.
     pub net: Option<Net>,
+}
+
+/// How a run ended, with who answered handed back.
+#[derive(Drop)]
+pub struct LinesEnd<A> {
+    /// How many answers were written whole.
+    pub lines: u64,
+    /// Why the run ended early, if it did.
+    pub fault: Option<Fault>,
+    /// Who answered, as the run left it.
+    pub state: A,
 }
 
 /// How many bytes are asked for in one read.
@@ -68,22 +79,55 @@ impl<A: Answering> Session<A> {
     }
 
     /// Answers a last line that no line feed ends.
-    fn finish<W: Write>(mut self, alloc: Global, writer: &mut W) -> ScriptEnd
-        requires { self.lines + line_count self.answers.items + 2 < 2 ^ 64 }
+    fn finish<W: Write>(&mut self, alloc: Global, writer: &mut W) -> Option<Fault>
+        requires { self.old.lines + line_count self.old.answers.items + 2 < 2 ^ 64 }
         ensures { (start : A) (unread left held : Option (List ℕ))
-            → HasAnswered A.commands start unread left held (W.contents writer.old) self → IsAtEnd left
-            → Ran A.commands A.leaves A.needs_place start unread left held (W.contents writer.new) result.fault result.lines result.net }
+            → HasAnswered A.commands start unread left held (W.contents writer.old) self.old → IsAtEnd left
+            → RanTo A.commands A.fails A.needs_place start unread left held (W.contents writer.new) result self.new.lines self.new.state }
     {
         if !self.line.has_begun() {
-            return self.done(alloc);
+            return None;
         }
         match self.step(alloc, writer, b"\n".as_slice()) {
-            Ok(()) => self.done(alloc),
-            Err(fault) => self.failed(fault),
+            Ok(()) => None,
+            Err(fault) => Some(fault),
         }
     }
 
-    /// Reads on to the end of the script, and answers each line before more is read.
+    /// Reads on to the end of the script, and answers each line before more is read. Tells the fault that ended the run, if
+    /// one did. Who answers stays, as the answers left it.
+    pub fn read_to_end<R: Read, W: Write>(
+        &mut self,
+        alloc: Global,
+        reader: &mut R,
+        writer: &mut W,
+        reads: u64,
+    ) -> Option<Fault>
+        requires { self.old.lines + line_count self.old.answers.items ≤ reads * 131072 }
+        ensures { (start : A) (unread held : Option (List ℕ))
+            → HasAnswered A.commands start unread (R.remaining reader.old) held (W.contents writer.old) self.old
+            → RanTo A.commands A.fails A.needs_place start unread (R.remaining reader.new) held (W.contents writer.new) result self.new.lines self.new.state }
+    {
+        let mut chunk = [0u8; CHUNK];
+        for _turn in reads..READ_LIMIT {
+            match reader.read(&mut chunk) {
+                Ok(0) => return self.finish(alloc, writer),
+                Ok(n) => {
+                    if let Err(fault) = self.step(alloc, writer, &chunk[..n]) {
+                        return Some(fault);
+                    }
+                }
+                Err(e) => {
+                    if e.kind() != ErrorKind::Interrupted {
+                        return Some(Fault::Read);
+                    }
+                }
+            }
+        }
+        Some(Fault::Read)
+    }
+
+    /// Reads on to the end of the script, as `read_to_end` does, and gives the network away.
     pub fn read_on<R: Read, W: Write>(
         mut self,
         alloc: Global,
@@ -96,23 +140,29 @@ impl<A: Answering> Session<A> {
             → HasAnswered A.commands start unread (R.remaining reader.old) held (W.contents writer.old) self
             → Ran A.commands A.leaves A.needs_place start unread (R.remaining reader.new) held (W.contents writer.new) result.fault result.lines result.net }
     {
-        let mut chunk = [0u8; CHUNK];
-        for _turn in reads..READ_LIMIT {
-            match reader.read(&mut chunk) {
-                Ok(0) => return self.finish(alloc, writer),
-                Ok(n) => {
-                    if let Err(fault) = self.step(alloc, writer, &chunk[..n]) {
-                        return self.failed(fault);
-                    }
-                }
-                Err(e) => {
-                    if e.kind() != ErrorKind::Interrupted {
-                        return self.failed(Fault::Read);
-                    }
-                }
-            }
+        match self.read_to_end(alloc, reader, writer, reads) {
+            None => self.done(alloc),
+            Some(fault) => self.failed(fault),
         }
-        self.failed(Fault::Read)
+    }
+}
+
+/// Reads a script to its end, has each line answered before more is read, and gives back who answered.
+pub fn read_lines<A: Answering, R: Read, W: Write>(
+    alloc: Global,
+    reader: &mut R,
+    writer: &mut W,
+    start: A,
+) -> LinesEnd<A>
+    ensures { RanTo A.commands A.fails A.needs_place start (R.remaining reader.old) (R.remaining reader.new)
+        (W.contents writer.old) (W.contents writer.new) result.fault result.lines result.state }
+{
+    let mut session = Session::new(alloc, start);
+    let fault = session.read_to_end(alloc, reader, writer, 0);
+    LinesEnd {
+        lines: session.lines,
+        fault,
+        state: session.state,
     }
 }
 

@@ -1,12 +1,12 @@
 //! A run of a script: the lines that are read, and their answers.
 
-ghost use Rattle.std.specs.Prelude.{◌≡◌, ℕ, ◌+◌, ◌*◌, ◌^◌, ◌<◌, ◌≤◌, ◌==◌, not, true, [], ◌∷◌, ◌++◌, List, length, take, IfErr, OnOk, OnErr, Err, string_bytes, Option};
+ghost use Rattle.std.specs.Prelude.{◌≡◌, ℕ, ◌+◌, ◌*◌, ◌^◌, ◌<◌, ◌≤◌, ◌==◌, not, true, ◌⊎◌, [], ◌∷◌, ◌++◌, List, length, take, IfErr, OnOk, OnErr, Err, string_bytes, Option};
 ghost use Rattle.std.specs.List.{list_all};
 ghost use Rattle.std.specs.Io.KnownBytes.{Appends};
 ghost use Rattle.sessions.specs.Lines.{whole_lines};
 ghost use Rattle.sessions.specs.Replies.{Replies};
 ghost use Rattle.answers.specs.Text.{line_count};
-ghost use Rattle.sessions.specs.Run.{IsLine, IsTaken, IsAt, IsAnsweredInPart, IsCutOff, CutsOff};
+ghost use Rattle.sessions.specs.Run.{IsLine, IsTaken, IsAt, IsUnkept, IsCutAt, IsCutOff, CutsOff};
 
 use crate::answering::Answering;
 use crate::faults::Fault;
@@ -77,6 +77,7 @@ fn put_answer<A: Answering>(
 ) -> Result<(), Fault>
     ensures text { OnOk result ((answer : List ℕ) × A.commands line.now state.old answer state.new × (line_count answer ≤ 1)
         × (string_bytes text.new ≡ string_bytes text.old ++ (answer ++ 10 ∷ []))) }
+    ensures lost { OnErr result (((answer : List ℕ) × A.commands line.now state.old answer state.new) ⊎ A.fails line.now state.old state.new) }
     ensures fault { IfErr result (CutsOff A.needs_place) }
 {
     state.answer(alloc, line)?.put(text)?;
@@ -93,6 +94,7 @@ fn reply<A: Answering>(
 ) -> Result<(), Fault>
     ensures text { OnOk result (Replies A.commands line.now state.old (string_bytes text.new) state.new) }
     ensures few { OnOk result (line_count (string_bytes text.new) ≤ 2) }
+    ensures lost { OnErr result (IsUnkept A.commands A.fails line.now state.old state.new) }
     ensures fault { IfErr result (CutsOff A.needs_place) }
 {
     text.clear();
@@ -116,6 +118,7 @@ fn reply_to_kept<A: Answering>(
 ) -> Result<(), Fault>
     ensures text { OnOk result ((rest : List ℕ) → IsLine line.now rest → Replies A.commands rest state.old (string_bytes text.new) state.new) }
     ensures few { OnOk result (line_count (string_bytes text.new) ≤ 2) }
+    ensures lost { OnErr result ((rest : List ℕ) → IsLine line.now rest → IsUnkept A.commands A.fails rest state.old state.new) }
     ensures fault { IfErr result (CutsOff A.needs_place) }
 {
     if !line.too_long {
@@ -149,6 +152,8 @@ impl<A: Answering> Session<A> {
         ensures text { OnOk result ((rest : List ℕ) → IsLine self.old.line rest
             → Replies A.commands (rest ++ last.now) self.old.state (string_bytes self.new.text) self.new.state) }
         ensures few { OnOk result (line_count (string_bytes self.new.text) ≤ 2) }
+        ensures lost { OnErr result ((rest : List ℕ) → IsLine self.old.line rest
+            → IsUnkept A.commands A.fails (rest ++ last.now) self.old.state self.new.state) }
         ensures fault { IfErr result (CutsOff A.needs_place) }
         ensures answers { self.new.answers ≡ self.old.answers }
         ensures lines { self.new.lines ≡ self.old.lines }
@@ -165,6 +170,8 @@ impl<A: Answering> Session<A> {
         ensures ok { OnOk result ((start : A) (read written : List ℕ) → list_all (λ b. not (b == 10)) last.now ≡ true
             → IsTaken A.commands start read written self.old → IsTaken A.commands start ((read ++ last.now) ++ 10 ∷ []) written self.new) }
         ensures err { OnErr result (self.new.answers.items ≡ self.old.answers.items) }
+        ensures lost { OnErr result ((rest : List ℕ) → IsLine self.old.line rest
+            → IsUnkept A.commands A.fails (rest ++ last.now) self.old.state self.new.state) }
         ensures fault { IfErr result (CutsOff A.needs_place) }
         ensures few { line_count self.new.answers.items ≤ line_count self.old.answers.items + 2 }
         ensures lines { self.new.lines ≡ self.old.lines }
@@ -180,7 +187,7 @@ impl<A: Answering> Session<A> {
         ensures ok { OnOk result ((start : A) (read written : List ℕ)
             → IsTaken A.commands start read written self.old → IsTaken A.commands start (read ++ chunk.now) written self.new) }
         ensures front { (start : A) (read written : List ℕ) → IsTaken A.commands start read written self.old
-            → IsAnsweredInPart A.commands start (whole_lines (read ++ chunk.now)) (written ++ self.new.answers.items) }
+            → IsCutAt A.commands A.fails start (whole_lines (read ++ chunk.now)) (written ++ self.new.answers.items) self.new.state }
         ensures fault { IfErr result (CutsOff A.needs_place) }
         ensures few { line_count self.new.answers.items ≤ line_count self.old.answers.items + length chunk.now * 2 }
         ensures lines { self.new.lines ≡ self.old.lines }
@@ -226,7 +233,7 @@ impl<A: Answering> Session<A> {
             → IsAt A.commands start read held (W.contents writer.old) self.old → IsAt A.commands start (read ++ chunk.now) held (W.contents writer.new) self.new) }
         ensures err { OnErr result ((start : A) (read : List ℕ) (held : Option (List ℕ))
             → IsAt A.commands start read held (W.contents writer.old) self.old
-            → IsCutOff A.commands start (whole_lines (read ++ chunk.now)) held (W.contents writer.new) self.new.lines) }
+            → IsCutOff A.commands A.fails start (whole_lines (read ++ chunk.now)) held (W.contents writer.new) self.new.lines self.new.state) }
         ensures fault { IfErr result (CutsOff A.needs_place) }
         ensures none { OnOk result (self.new.answers.items ≡ []) }
         ensures lines { self.new.lines ≤ self.old.lines + line_count self.old.answers.items + length chunk.now * 2 }

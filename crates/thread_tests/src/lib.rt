@@ -1,14 +1,14 @@
 //! Tests with running threads: a hub between collectors, workers and readers, and a pool of workers.
 //!
-//! Stands on `beside`, `sample_nets`. Nothing else changes with it.
+//! Stands on `beside`, `serving`, `sample_nets`. Nothing else changes with it.
 #![tactic(auto)]
 
-#[cfg(test)]
-mod client_tests;
 #[cfg(test)]
 mod collector_tests;
 #[cfg(test)]
 mod gates;
+#[cfg(test)]
+mod guest_tests;
 #[cfg(test)]
 mod hub_tests;
 #[cfg(test)]
@@ -17,3 +17,5 @@ mod pool_tests;
 mod samples;
 #[cfg(test)]
 mod script_tests;
+#[cfg(test)]
+mod serving_tests;

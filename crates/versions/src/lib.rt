@@ -6,18 +6,18 @@
 //!    that of the one before after the batch. The desk's published version is the last.
 //! 3. A reader takes no lock, no memory and no wait. What it sees is the last version of a chain that begins with all that it has
 //!    seen and was told of. A note tells a chain to a reader that has been elsewhere.
-//! 4. To a hub either anyone posts, or one client alone. To a client's hub others may open, take, give, abandon and publish: so
-//!    the client that comes back finds the desk that it left, after steps of workers and no others, and in the chain what these
-//!    published.
+//! 4. To a hub either anyone posts, or who has a seat there. Others may open, take, give, abandon and publish at a hub with seats.
+//!    All who have a seat are told in the hub's minutes, and share one history: who comes back finds that only others came since
+//!    it left, and that between two sights either workers made steps, or the one who was there posted.
 //! 5. A job that was just taken gets a ticket. A result that comes with the ticket of its job isn't compared with the target's
 //!    network, as long as that target is open.
 //!
-//! Stands on `desk_core`, `agreed`, `left_right`, `logbook`. A change here also changes specs/ (Book, Chains, Hubs,
+//! Stands on `desk_core`, `seats`, `left_right`, `logbook`. A change here also changes specs/ (Book, Chains, Hubs,
 //! Tickets, Worked, Working), proofs/ and must-fail/.
 #![tactic(auto)]
 
 mod book;
-mod client;
+mod guests;
 mod hub;
 mod laws;
 mod posters;
@@ -29,11 +29,11 @@ mod state;
 mod tickets;
 
 pub use book::Naming;
-pub use client::{Client, UnnamedWithClient};
+pub use guests::{Guest, History, UnnamedWithSeats};
 pub use hub::{Hub, Unnamed};
-pub use laws::{synced_law, worked_law};
+pub use laws::{alone_law, synced_law, worked_law};
 pub use net_versions::Version;
-pub use posters::{Anyone, ByClient, Posters};
+pub use posters::{Anyone, BySeats, Posters};
 pub use reader::{NoPlace, Note, Reader};
 pub use state::DeskAndChain;
 pub use tickets::Ticket;

@@ -1,11 +1,21 @@
-use Rattle.std.proofs.Common.{rules}
+use Rattle.std.proofs.Common.{ap, ◌∙◌, ◌≡◌, subst}
+use Rattle.std.specs.Prelude.{OnOk}
+use Rattle.std.specs.Arc.{arc_value}
+use mathlib.Core.List.{IsPrefix}
+use Rattle.desk_core.specs.Desk.{DeskValue, accepted}
+use Rattle.versions.specs.Hubs.{HubValue}
+use Rattle.beside.specs.Beside.{BesideValue, Finds}
+use Rattle.beside.proofs.BesideLemmas.{beside_of, came_count, visit_found}
 use Rattle.beside.proofs.visitor.Visitor.visit.Goals as goal
 
 pub invariant_of-self : goal.invariant_of-self
-invariant_of-self g c = search rules
+invariant_of-self g c =
+    c.accepted-self-inside.ensures ∙ ap accepted (c.desk.ensures ∙ ap (λ (h : HubValue). h.state.desk) c.visit.ensures.rest) ∙ came_count _ _ _ _ c.visit.ensures.comes
 
 pub returns-clause-found : goal.returns-clause-found
-returns-clause-found g c = search rules
-
-pub returns-clause-left : goal.returns-clause-left
-returns-clause-left g c = search rules
+returns-clause-found g c =
+    let found = c.args.hub.now.state in
+    let old = c.self.inside in
+    let told = subst (λ (h : HubValue). OnOk c.tell.result ((c.tell.new.reader.chain ≡ h.state.shown.chain) × IsPrefix old.reader.chain c.tell.new.reader.chain)) c.visit.ensures.rest c.tell.ensures.told in
+    subst (λ (b : BesideValue). OnOk c.tell.result ((finds : Finds g.N.Naming.seats b found) × (beside_of c.visit.new.self c.tell.new.reader.chain (arc_value old.synced) old.watch ≡ record b { seat = finds.there; left = found; seen = found.shown.chain })))
+    c.self.view_is (visit_found c.tell.result g.N.Naming.seats old.guest c.visit.new.self old.reader.chain c.tell.new.reader.chain (arc_value old.synced) old.watch found c.visit.ensures.comes told)

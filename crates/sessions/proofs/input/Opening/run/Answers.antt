@@ -2,7 +2,7 @@ use Rattle.std.proofs.Common.{◌-◌, ◌∙◌, length, take, drop, [], subst,
 use Rattle.std.specs.Io.KnownBytes.{prepend_known}
 use Rattle.sessions.specs.Lines.{whole_lines, rest_of, last_line}
 use Rattle.sessions.specs.Run.{IsEnd}
-use Rattle.sessions.proofs.RunLemmas.{at_start, at_first, answered_more, ran_cut_off}
+use Rattle.sessions.proofs.RunLemmas.{at_start, at_first, answered_more, to_cut_off, ran_failed}
 use Rattle.sessions.proofs.InputLemmas.{rest_slice_of, consumes_first, after_ended, after_script}
 use Rattle.sessions.proofs.input.Opening.run.Goals as goal
 
@@ -15,6 +15,7 @@ returns-in-None g c = λ unread opening.
 pub returns-in-Err : goal.returns-in-Err
 returns-in-Err g c = λ unread opening.
     let commands = g.A.Answering.commands in
+    let fails = g.A.Answering.fails in
     let leaves = g.A.Answering.leaves in
     let place = g.A.Answering.needs_place in
     let middle = g.R.Read.remaining c.args.reader.now in
@@ -25,8 +26,9 @@ returns-in-Err g c = λ unread opening.
     let first = at_start commands c.args.start held s made.state made.line made.answers made.lines in
     after_script commands leaves place unread middle middle held _ c.args.self c.in-Some.at c.args.start rest _ _ _ opening c.in-Some.is
     (rest_slice_of c.args.self.bytes.items c.deref.result.now c.in-Some.at c.deref.ensures.value)
-    (ran_cut_off commands leaves place c.args.start (prepend_known rest middle) middle held _ rest (whole_lines rest) (last_line (rest_of rest)) c.in-Err.fault _ _ _ _ refl
-    c.in-Err.ensures.fault (c.in-Err.ensures.err c.args.start [] held first) (consumes_first middle rest)
+    (ran_failed commands fails leaves place c.args.start _ (prepend_known rest middle) middle held _ c.in-Err.fault _ _ _ _
+    (to_cut_off commands fails place c.args.start _ (prepend_known rest middle) middle held _ rest (whole_lines rest) (last_line (rest_of rest)) c.in-Err.fault _ refl
+    c.in-Err.ensures.fault (c.in-Err.ensures.err c.args.start [] held first) (consumes_first middle rest))
     c.failed.ensures.lines c.failed.ensures.fault c.failed.ensures.net)
 
 pub returns : goal.returns

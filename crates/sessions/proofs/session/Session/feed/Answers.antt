@@ -1,7 +1,7 @@
 use Rattle.std.proofs.Common.{[], ◌∷◌, ◌++◌, sym, refl, ◌∙◌, arith, rules}
 use Rattle.sessions.specs.Lines.{rest_of}
 use Rattle.sessions.proofs.LineLemmas.{split_front, split_nowhere, split_on, split_size}
-use Rattle.sessions.proofs.RunLemmas.{taken_piece, taken_part}
+use Rattle.sessions.proofs.RunLemmas.{taken_piece, taken_part, taken_lost}
 use Rattle.sessions.proofs.session.Session.feed.Goals as goal
 
 pub loop-front-smaller : goal.loop-front-smaller
@@ -31,12 +31,14 @@ loop-front-preserved g c =
 pub returns-in_err-end_line-clause-front : goal.returns-in_err-end_line-clause-front
 returns-in_err-end_line-clause-front g c = λ start read written at.
     let before = c.loop-front.invariant.taken start read written at in
-    taken_part g.A.Answering.commands start _ before.0 c.loop-front.rest.now written c.loop-front.self _ before.1 before.2 c.in_err-end_line.ensures.err
+    let split = sym c.in-Some.ensures in
+    taken_lost g.A.Answering.commands g.A.Answering.fails start _ before.0 c.loop-front.rest.now _ _ written c.loop-front.self c.end_line.new.self split before.1 before.2
+    (c.in_err-end_line.ensures.lost (rest_of before.0) before.2.rest) c.in_err-end_line.ensures.err
 
 pub returns-in_err-take_all-clause-front : goal.returns-in_err-take_all-clause-front
 returns-in_err-take_all-clause-front g c = λ start read written at.
     let before = c.loop-front.invariant.taken start read written at in
-    taken_part g.A.Answering.commands start _ before.0 c.loop-front.rest.now written c.loop-front.self _ before.1 before.2 refl
+    taken_part g.A.Answering.commands g.A.Answering.fails start _ before.0 c.loop-front.rest.now written c.loop-front.self before.1 before.2
 
 pub returns-clause-ok : goal.returns-clause-ok
 returns-clause-ok g c = λ start read written at.
@@ -48,4 +50,4 @@ returns-clause-ok g c = λ start read written at.
 pub returns-clause-front : goal.returns-clause-front
 returns-clause-front g c = λ start read written at.
     let before = c.loop-front.invariant.taken start read written at in
-    taken_part g.A.Answering.commands start _ before.0 c.loop-front.rest.now written c.loop-front.self _ before.1 before.2 refl
+    taken_part g.A.Answering.commands g.A.Answering.fails start _ before.0 c.loop-front.rest.now written c.loop-front.self before.1 before.2

@@ -1,57 +1,12 @@
-use Rattle.std.proofs.Common.{◌≡◌, ℕ, ◌≤◌, ◌++◌, List, length, take, ap, refl, arith, rules}
-use Rattle.std.proofs.KnownBytes.{Consumes-trans}
-use Rattle.sessions.specs.Lines.{whole_lines, rest_of, last_line}
-use Rattle.answers.specs.Text.{line_count}
-use Rattle.sessions.proofs.RunLemmas.{answered_more, answered_same, answered_kept, ran_cut_off, ran_unread}
+use Rattle.sessions.proofs.RunLemmas.{ran_ended, ran_failed}
 use Rattle.sessions.proofs.session.Session.read_on.Goals as goal
-use Rattle.sessions.proofs.session.Session.read_on.Goals.{in-Ok+in_default, in-Err+else-ne}
 
-pub finish-requires : goal.finish-requires
-finish-requires g c = let few = c.loop-turn.invariant.few in omega arith
+pub returns-in-None : goal.returns-in-None
+returns-in-None g c = λ start unread held has.
+    ran_ended g.A.Answering.commands g.A.Answering.fails g.A.Answering.leaves g.A.Answering.needs_place start _ unread _ held _ _ _ _ _
+    (c.in-None.ensures start unread held has) c.done.ensures.lines c.done.ensures.end
 
-none_taken : (n : ℕ) (buf : List ℕ) → n ≡ 0 → take n buf ≡ take 0 buf
-none_taken n buf e = ap (λ k. take k buf) e
-
-pub returns-in-Ok-eq0 : goal.returns-in-Ok-eq0
-returns-in-Ok-eq0 g c = λ start unread held has.
-    c.finish.ensures start unread _ held
-    (answered_same g.A.Answering.commands start unread _ _ held _ _ _ (c.loop-turn.invariant.answered start unread held has) c.in-Ok-eq0.ensures.bytes.0 (none_taken _ _ c.in-Ok-eq0.field-0-test))
-    (c.in-Ok-eq0.ensures.bytes.1 c.in-Ok-eq0.field-0-test (search rules))
-
-pub returns-in-Err-step : goal.returns-in-Err-step
-returns-in-Err-step g c = λ start unread held has.
-    let before = c.loop-turn.invariant.answered start unread held has in
-    let read = before.read ++ take c.in-Ok.n c.read.new.buf in
-    ran_cut_off g.A.Answering.commands g.A.Answering.leaves g.A.Answering.needs_place start unread _ held _ read (whole_lines read) (last_line (rest_of read)) c.in-Err-step.fault _ _ _ _ refl c.in-Err-step.ensures.fault
-    (c.in-Err-step.ensures.err start before.read held before.at) (Consumes-trans _ _ _ _ _ before.consumed c.in-Ok.ensures.bytes.0)
-    c.failed.ensures.lines c.failed.ensures.fault c.failed.ensures.net
-
-pub returns-then-ne : goal.returns-then-ne
-returns-then-ne g c = λ start unread held has.
-    ran_unread g.A.Answering.commands g.A.Answering.leaves g.A.Answering.needs_place start unread _ held _ c.loop-turn.self _ _ _
-    (answered_kept g.A.Answering.commands start unread _ _ held _ _ (c.loop-turn.invariant.answered start unread held has) c.in-Err.ensures.bytes)
-    c.failed-then-ne.ensures.lines c.failed-then-ne.ensures.fault c.failed-then-ne.ensures.net
-
-pub loop-turn-preserved : goal.loop-turn-preserved
-loop-turn-preserved g c = elim c.match-read.branch [
-  | in-Ok+in_default w ↦ record {
-    answered = λ start unread held has. rw (w.writer-is, w.self-is)
-        (answered_more g.A.Answering.commands start unread _ _ held _ _ _ _ _ (c.loop-turn.invariant.answered start unread held has) w.in-Ok.ensures.bytes.0
-        (λ read at. w.in_default.ensures.ok start read held at));
-    few =
-        let few = c.loop-turn.invariant.few in
-        let none : line_count w.step.new.self.answers.items ≡ 0 = ap line_count w.in_default.ensures.none in
-        let size : length (take w.in-Ok.n c.read.new.buf) ≤ 65536 = search rules in
-        rw w.self-is (omega arith);
-  }
-  | in-Err+else-ne w ↦ record {
-    answered = λ start unread held has. rw (w.writer-is, w.self-is)
-        (answered_kept g.A.Answering.commands start unread _ _ held _ _ (c.loop-turn.invariant.answered start unread held has) w.in-Err.ensures.bytes);
-    few = let few = c.loop-turn.invariant.few in rw w.self-is (omega arith);
-  }
-]
-
-pub returns : goal.returns
-returns g c = λ start unread held has.
-    ran_unread g.A.Answering.commands g.A.Answering.leaves g.A.Answering.needs_place start unread _ held _ c.loop-turn.self _ _ _ (c.loop-turn.invariant.answered start unread held has)
-    c.failed-2.ensures.lines c.failed-2.ensures.fault c.failed-2.ensures.net
+pub returns-in-Some : goal.returns-in-Some
+returns-in-Some g c = λ start unread held has.
+    ran_failed g.A.Answering.commands g.A.Answering.fails g.A.Answering.leaves g.A.Answering.needs_place start _ unread _ held _ c.in-Some.fault _ _ _ _
+    (c.in-Some.ensures start unread held has) c.failed.ensures.lines c.failed.ensures.fault c.failed.ensures.net

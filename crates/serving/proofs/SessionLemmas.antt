@@ -1,0 +1,360 @@
+-- What sessions were told, as parts of the one history.
+use Rattle.std.proofs.Common.{◌≡◌, ◌≢◌, ℕ, Bool, true, false, List, [], ◌∷◌, ◌++◌, Option, Some, None, Result, Ok, Err, inl, inr, refl, sym, ap, ◌∙◌, subst, append-nil, append_assoc}
+use Rattle.std.specs.Prelude.{◌⊎◌, OnErr, OnOk}
+use mathlib.Core.List.{IsPrefix}
+use Rattle.net_data.specs.declared.events.Event.{Event}
+use Rattle.net_data.specs.Network.{Network}
+use Rattle.net_versions.specs.Versions.{VersionValue}
+use Rattle.work_units.specs.declared.replies.Posted.TheVariants.{Taken}
+use Rattle.desk_core.specs.declared.steps.Reply.TheVariants as reply
+use Rattle.desk_core.specs.Runs.{event_taken}
+use Rattle.desk_console.specs.Taken.{taken_by}
+use Rattle.sessions.specs.Lines.{is_silent, is_too_long, lines_of, trimmed, whole_lines}
+use Rattle.sessions.specs.Replies.{Answered, IsReply as IsAnswer, Replies}
+use Rattle.sessions.specs.Run.{IsBegun, IsCutAt, IsEndAt}
+use Rattle.sessions.specs.declared.faults.Fault.{Fault}
+use Rattle.sessions.specs.declared.faults.Fault.TheVariants.{OutOfMemory, Read, Write, NoPlace, Load}
+use Rattle.seats.specs.Minutes.{OnlyOthersSince, SeatValue}
+use Rattle.seats.specs.declared.rule.Sight.{Sight}
+use Rattle.versions.specs.Working.{Comes, IsHistory, IsWholeHistory, last_sight, left_at}
+use Rattle.versions.specs.declared.state.DeskAndChain.{DeskAndChain}
+use Rattle.versions.proofs.SeatLemmas.{came_last}
+use Rattle.histories.specs.Histories.{Authored, IsEnded, IsOpened, IsSeen, authored, authored_in, events_by, own_events}
+use Rattle.histories.proofs.CountLemmas.{IsPosted, post_is}
+use Rattle.histories.proofs.EventLemmas.{post_events}
+use Rattle.histories.proofs.ExplainLemmas.{authored_append, come_own, did_own, others_leave}
+use Rattle.histories.proofs.SeenLemmas.{ended, nth_later, opened_more, seen_in}
+use Rattle.beside.specs.Beside.{BesideValue, StartsBeside}
+use Rattle.beside.specs.Seats.{Came, CamePosting, Goes, posted_by}
+use Rattle.beside.specs.Right.{Moment, texts}
+use Rattle.serving.specs.Seated.{CommandsAs, CommandsSeated, KeepsRules, LosesSeated, SeatedValue}
+use Rattle.serving.specs.Served.{AreSeen, AreTold, AreWritten, IsLost, IsToldSession, lines_in, taken_in}
+use Rattle.serving.specs.Sittings.{Sits, fault_of}
+use Rattle.serving.proofs.LineLemmas.{LineTold, history_done, line_told, saw_came, saw_left, sights_then, versions_then}
+
+prefix_then : {A : Type 0} (xs ys zs : List A) → IsPrefix xs ys → IsPrefix ys zs → IsPrefix xs zs
+prefix_then {A} xs ys zs p q = (p.0 ++ q.0, sym (append_assoc xs p.0 q.0) ∙ (ap (λ (l : List A). l ++ q.0) p.1 ∙ q.1))
+
+-- the events of a part of a history begin those of the whole
+authored_grown : (saw log : List (Sight DeskAndChain)) → IsHistory saw → IsPrefix saw log → IsPrefix (authored_in saw) (authored_in log)
+authored_grown [] log is p = absurd is
+authored_grown (x ∷ xs) log is p = (authored (last_sight x xs) p.0, sym (authored_append x xs p.0) ∙ ap authored_in p.1)
+
+opened_later : (start : Network) (saw log : List (Sight DeskAndChain)) → IsOpened start saw → IsPrefix saw log → IsOpened start log
+opened_later start saw log opened p = subst (IsOpened start) p.1 (opened_more start saw p.0 opened)
+
+-- who answers knows more of the same history
+record Grows (b new : BesideValue) : Type 0 where
+  me : new.seat.me ≡ b.seat.me
+  saw : IsPrefix b.seat.saw new.seat.saw
+  history : IsHistory new.seat.saw
+  seen : IsPrefix b.seen new.seen
+
+-- ---- lines that were answered
+
+record Made (seats : ℕ) (posts : Bool) (collector : ℕ) (b : BesideValue) (lines : List (List ℕ)) (text : List ℕ) (new : BesideValue) : Type 0 where
+  moments : List Moment
+  asked : lines ≡ lines_in moments
+  told : text ≡ texts moments
+  grows : Grows b new
+  own : own_events b.seat.me new.seat.saw ≡ own_events b.seat.me b.seat.saw ++ taken_in moments
+  each : (all : List Authored) → IsPrefix (authored_in new.seat.saw) all → AreTold seats posts collector all b.seat.me b moments
+  views : (shown : List VersionValue) → IsPrefix new.seen shown → AreSeen shown moments
+
+-- a line of a session, as one of who comes to the hub
+unseated : (seats : ℕ) (line : List ℕ) (s : SeatedValue) (text : List ℕ) (new : SeatedValue) → Replies (CommandsSeated seats) line s text new
+    → Replies (CommandsAs seats s.posts s.collector) line s.beside text new.beside × KeepsRules s new
+unseated seats line s text new = go (is_too_long (trimmed line)) (is_silent (trimmed line))
+  where
+    go : (long quiet : Bool) → IsAnswer (CommandsSeated seats) long quiet (trimmed line) s text new
+        → IsAnswer (CommandsAs seats s.posts s.collector) long quiet (trimmed line) s.beside text new.beside × KeepsRules s new
+    go true quiet is = ((is.0, ap (λ (x : SeatedValue). x.beside) is.1), (ap (λ (x : SeatedValue). x.posts) is.1, ap (λ (x : SeatedValue). x.collector) is.1))
+    go false true is = ((is.0, ap (λ (x : SeatedValue). x.beside) is.1), (ap (λ (x : SeatedValue). x.posts) is.1, ap (λ (x : SeatedValue). x.collector) is.1))
+    go false false is = ((is.0, is.1.0, is.2), is.1.1)
+
+module _ (start : Network) (seats : ℕ) (posts : Bool) (collector : ℕ) where
+  made : (s : SeatedValue) (lines : List (List ℕ)) (text : List ℕ) (new : SeatedValue) → s.posts ≡ posts → s.collector ≡ collector → IsOpened start s.beside.seat.saw → IsHistory s.beside.seat.saw
+      → Answered (CommandsSeated seats) s lines text new → Made seats posts collector s.beside lines text new.beside
+  made s [] text new p c opened history is =
+      let same : new.beside ≡ s.beside = ap (λ (x : SeatedValue). x.beside) is.1 in
+      record {
+        moments = [];
+        asked = refl;
+        told = is.0;
+        grows = record {
+          me = ap (λ (x : BesideValue). x.seat.me) same;
+          saw = ([], append-nil s.beside.seat.saw ∙ ap (λ (x : BesideValue). x.seat.saw) (sym same));
+          history = subst (λ (x : BesideValue). IsHistory x.seat.saw) (sym same) history;
+          seen = ([], append-nil s.beside.seen ∙ ap (λ (x : BesideValue). x.seen) (sym same));
+        };
+        own = ap (λ (x : BesideValue). own_events s.beside.seat.me x.seat.saw) same ∙ sym (append-nil (own_events s.beside.seat.me s.beside.seat.saw));
+        each = λ all prefix. tt;
+        views = λ shown prefix. tt;
+      }
+  made s (line ∷ lines) text new p c opened history is =
+      let t : List ℕ = is.0 in
+      let mid : SeatedValue = is.1 in
+      let reply = unseated seats line s t mid is.3 in
+      let asked : Replies (CommandsAs seats posts collector) line s.beside t mid.beside =
+      subst (λ (x : Bool × ℕ). Replies (CommandsAs seats x.0 x.1) line s.beside t mid.beside) (λ i. (p i, c i)) reply.0 in
+      let l = line_told start seats posts collector line s.beside t mid.beside opened history asked in
+      let told : LineTold s.beside (taken_by (trimmed line) t) l.0 mid.beside = l.1 in
+      let rest : Made seats posts collector mid.beside lines is.2 new.beside =
+      made mid lines is.2 new (reply.1.0 ∙ p) (reply.1.1 ∙ c) (opened_later start s.beside.seat.saw mid.beside.seat.saw opened told.saw) told.history is.4 in
+      let m : Moment = record { line = line; text = t; after = mid.beside } in
+      record {
+        moments = m ∷ rest.moments;
+        asked = ap (λ (ls : List (List ℕ)). line ∷ ls) rest.asked;
+        told = is.5 ∙ ap (λ (x : List ℕ). t ++ x) rest.told;
+        grows = record {
+          me = rest.grows.me ∙ told.me;
+          saw = sights_then s.beside.seat.saw mid.beside.seat.saw new.beside.seat.saw told.saw rest.grows.saw;
+          history = rest.grows.history;
+          seen = versions_then s.beside.seen mid.beside.seen new.beside.seen told.seen rest.grows.seen;
+        };
+        own =
+            ap (λ n. own_events n new.beside.seat.saw) (sym told.me)
+            ∙ rest.own
+            ∙ ap (λ (es : List Event). es ++ taken_in rest.moments) (ap (λ n. own_events n mid.beside.seat.saw) told.me ∙ told.own)
+            ∙ append_assoc (own_events s.beside.seat.me s.beside.seat.saw) (taken_by (trimmed line) t) (taken_in rest.moments);
+        each = λ all prefix. (
+          record {
+            replies = asked;
+            number = λ event one.
+                let n = told.number event one in
+                record {
+                  number = n.0;
+                  told = l.2 event one ∙ ap (λ (x : List ℕ). x ++ 10 ∷ []) n.1;
+                  nth = nth_later (authored_in mid.beside.seat.saw) all n.0 _
+                      (prefix_then (authored_in mid.beside.seat.saw) (authored_in new.beside.seat.saw) all (authored_grown mid.beside.seat.saw new.beside.seat.saw told.history rest.grows.saw) prefix) n.2;
+                };
+            back = told.seen;
+          },
+          subst (λ n. AreTold seats posts collector all n mid.beside rest.moments) told.me (rest.each all prefix),
+        );
+        views = λ shown prefix. (versions_then mid.beside.seen new.beside.seen shown rest.grows.seen prefix, rest.views shown prefix);
+      }
+
+-- ---- a line whose answer was lost
+
+record Losing (lines : List (List ℕ)) (b new : BesideValue) : Type 0 where
+  lost : List Event
+  is_lost : IsLost lines lost
+  grows : Grows b new
+  own : own_events b.seat.me new.seat.saw ≡ own_events b.seat.me b.seat.saw ++ lost
+
+-- nothing was lost
+not_lost : (lines : List (List ℕ)) → IsLost lines []
+not_lost [] = refl
+not_lost (line ∷ lines) = inl refl
+
+kept_all : (lines : List (List ℕ)) (b new : BesideValue) → IsHistory b.seat.saw → new.seat ≡ b.seat → IsPrefix b.seen new.seen → Losing lines b new
+kept_all lines b new history same seen = record {
+  lost = [];
+  is_lost = not_lost lines;
+  grows = record {
+    me = ap (λ (s : SeatValue DeskAndChain). s.me) same;
+    saw = ([], append-nil b.seat.saw ∙ ap (λ (s : SeatValue DeskAndChain). s.saw) (sym same));
+    history = subst (λ (s : SeatValue DeskAndChain). IsHistory s.saw) (sym same) history;
+    seen = seen;
+  };
+  own = ap (λ (s : SeatValue DeskAndChain). own_events b.seat.me s.saw) same ∙ sym (append-nil (own_events b.seat.me b.seat.saw));
+}
+
+module _ (seats : ℕ) (line : List ℕ) (lines : List (List ℕ)) (b new : BesideValue) (history : IsHistory b.seat.saw) where
+  came_lost : Came seats b new → Losing (line ∷ lines) b new
+  came_lost came = record {
+    lost = [];
+    is_lost = inl refl;
+    grows = record {
+      me = ap (λ (s : SeatValue DeskAndChain). s.me) came.comes.saw;
+      saw = saw_came seats b.seat new.seat came.found came.comes;
+      history = came.comes.history;
+      seen = came.seen;
+    };
+    own = come_own seats b.seat new.seat came.found history came.comes ∙ sym (append-nil (own_events b.seat.me b.seat.saw));
+  }
+
+  posting_lost : (event : Event) → posted_by (trimmed line) ≡ event ∷ [] → CamePosting seats event b new → Losing (line ∷ lines) b new
+  posting_lost event one came =
+      let call = came.call in
+      let there : SeatValue DeskAndChain = came.came.0 in
+      let comes : Comes seats b.seat came.found there = came.came.1 in
+      let lost : List Event = event_taken call.event (reply.Post call.reply) in
+      record {
+        lost = lost;
+        is_lost = lost_is (post_is came.found.desk call.collector call.seq call.event call.reply came.left.desk call.made);
+        grows = record {
+          me = ap (λ (s : SeatValue DeskAndChain). s.me) came.came.2 ∙ ap (λ (s : SeatValue DeskAndChain). s.me) comes.saw;
+          saw = sights_then b.seat.saw there.saw new.seat.saw (saw_came seats b.seat there came.found comes) (saw_left there new.seat came.left came.came.2);
+          history = subst IsHistory (sym (ap (λ (s : SeatValue DeskAndChain). s.saw) came.came.2)) (history_done seats b.seat there came.found came.left comes call);
+          seen = came.seen;
+        };
+        own = did_own seats b.seat new.seat came.found came.left lost history came.came (post_events came.found came.left call.collector call.seq call.event call.reply call.made call.shown);
+      }
+    where
+      lost_is : IsPosted came.found.desk came.call.collector came.call.seq came.call.event came.call.reply came.left.desk → IsLost (line ∷ lines) (event_taken came.call.event (reply.Post came.call.reply))
+      lost_is (inl same) = inl same.0
+      lost_is (inr put) = inr (put.0 ∙ ap (λ (e : Event). e ∷ []) came.posted ∙ sym one)
+
+  goes_lost : Goes seats (posted_by (trimmed line)) b new → Losing (line ∷ lines) b new
+  goes_lost (inl same) = kept_all (line ∷ lines) b new history same.seat same.seen
+  goes_lost (inr (inl came)) = came_lost came
+  goes_lost (inr (inr posted)) = posting_lost posted.0 posted.1 posted.2
+
+losing : (seats : ℕ) (lines : List (List ℕ)) (s new : SeatedValue) → IsHistory s.beside.seat.saw → IsBegun (LosesSeated seats) lines s new → Losing lines s.beside new.beside
+losing seats [] s new history same =
+    let is : new.beside ≡ s.beside = ap (λ (x : SeatedValue). x.beside) same in
+    kept_all [] s.beside new.beside history (ap (λ (x : BesideValue). x.seat) is) ([], append-nil s.beside.seen ∙ ap (λ (x : BesideValue). x.seen) (sym is))
+losing seats (line ∷ lines) s new history (inl same) =
+    let is : new.beside ≡ s.beside = ap (λ (x : SeatedValue). x.beside) same in
+    kept_all (line ∷ lines) s.beside new.beside history (ap (λ (x : BesideValue). x.seat) is) ([], append-nil s.beside.seen ∙ ap (λ (x : BesideValue). x.seen) (sym is))
+losing seats (line ∷ lines) s new history (inr lost) = goes_lost seats line lines s.beside new.beside history lost.0
+
+-- ---- a session
+
+-- how the lines of a session ended
+record Lines (seats : ℕ) (posts : Bool) (collector : ℕ) (ended : Option Fault) (left : Option (List ℕ)) (read written : List ℕ) (b after : BesideValue) : Type 0 where
+  moments : List Moment
+  lost : List Event
+  grows : Grows b after
+  own : own_events b.seat.me after.seat.saw ≡ own_events b.seat.me b.seat.saw ++ (taken_in moments ++ lost)
+  each : (all : List Authored) → IsPrefix (authored_in after.seat.saw) all → AreTold seats posts collector all b.seat.me b moments
+  views : (shown : List VersionValue) → IsPrefix after.seen shown → AreSeen shown moments
+  outcome : AreWritten ended left read written moments lost
+
+module _ (start : Network) (seats : ℕ) (posts : Bool) (collector : ℕ) (b : BesideValue) (opened : IsOpened start b.seat.saw) (history : IsHistory b.seat.saw) (left : Option (List ℕ)) (read written : List ℕ) (after : SeatedValue) where
+  abbrev first : SeatedValue
+  first = record { beside = b; posts = posts; collector = collector }
+
+  -- all lines were answered
+  whole_lines_told : (ended : Option Fault) (lines : List (List ℕ)) → Answered (CommandsSeated seats) first lines written after
+      → ((moments : List Moment) → lines ≡ lines_in moments → written ≡ texts moments → AreWritten ended left read written moments []) → Lines seats posts collector ended left read written b after.beside
+  whole_lines_told ended lines answered outcome =
+      let m : Made seats posts collector b lines written after.beside = made start seats posts collector first lines written after refl refl opened history answered in
+      record {
+        moments = m.moments;
+        lost = [];
+        grows = m.grows;
+        own = m.own ∙ ap (λ (es : List Event). own_events b.seat.me b.seat.saw ++ es) (sym (append-nil (taken_in m.moments)));
+        each = m.each;
+        views = m.views;
+        outcome = outcome m.moments m.asked m.told;
+      }
+
+  -- the answers were cut off
+  cut_lines_told : (ended : Option Fault) → IsCutAt (CommandsSeated seats) (LosesSeated seats) first (lines_of read) written after
+      → ((moments : List Moment) (lost : List Event) (rest : List (List ℕ)) (more : List ℕ) → lines_of read ≡ lines_in moments ++ rest → texts moments ≡ written ++ more → IsLost rest lost
+      → AreWritten ended left read written moments lost) → Lines seats posts collector ended left read written b after.beside
+  cut_lines_told ended cut outcome =
+      let m : Made seats posts collector b cut.done cut.text cut.mid.beside = made start seats posts collector first cut.done cut.text cut.mid refl refl opened history cut.answered in
+      let l : Losing cut.left cut.mid.beside after.beside = losing seats cut.left cut.mid after m.grows.history cut.begun in
+      record {
+        moments = m.moments;
+        lost = l.lost;
+        grows = record {
+          me = l.grows.me ∙ m.grows.me;
+          saw = sights_then b.seat.saw cut.mid.beside.seat.saw after.beside.seat.saw m.grows.saw l.grows.saw;
+          history = l.grows.history;
+          seen = versions_then b.seen cut.mid.beside.seen after.beside.seen m.grows.seen l.grows.seen;
+        };
+        own =
+            ap (λ n. own_events n after.beside.seat.saw) (sym m.grows.me)
+            ∙ l.own
+            ∙ ap (λ (es : List Event). es ++ l.lost) (ap (λ n. own_events n cut.mid.beside.seat.saw) m.grows.me ∙ m.own)
+            ∙ append_assoc (own_events b.seat.me b.seat.saw) (taken_in m.moments) l.lost;
+        each = λ all prefix.
+            m.each all (prefix_then (authored_in cut.mid.beside.seat.saw) (authored_in after.beside.seat.saw) all
+            (authored_grown cut.mid.beside.seat.saw after.beside.seat.saw m.grows.history l.grows.saw) prefix);
+        views = λ shown prefix. m.views shown (versions_then cut.mid.beside.seen after.beside.seen shown l.grows.seen prefix);
+        outcome = outcome m.moments l.lost cut.left cut.front.0 (cut.whole ∙ ap (λ (ls : List (List ℕ)). ls ++ cut.left) m.asked) (sym m.told ∙ cut.front.1) l.is_lost;
+      }
+
+  lines_told : (ended : Option Fault) → IsEndAt (CommandsSeated seats) (LosesSeated seats) (Unit {0}) ended first left read written after → Lines seats posts collector ended left read written b after.beside
+  lines_told None is = whole_lines_told None (lines_of read) is.1 (λ moments asked told. (is.0, asked, told, refl))
+  lines_told (Some Read) is = whole_lines_told (Some Read) (whole_lines read) is (λ moments asked told. (asked, told, refl))
+  lines_told (Some Write) is = cut_lines_told (Some Write) is (λ moments lost rest more asked told none. (rest, more, asked, told, none))
+  lines_told (Some OutOfMemory) is = cut_lines_told (Some OutOfMemory) is (λ moments lost rest more asked told none. (rest, more, asked, told, none))
+  lines_told (Some NoPlace) is = cut_lines_told (Some NoPlace) is.1 (λ moments lost rest more asked told none. (rest, more, asked, told, none))
+  lines_told (Some (Load e)) is = absurd is
+
+-- from the first line to the last visit, once the hub has ended
+pub session_told : (start : Network) (seats : ℕ) (posts : Bool) (collector : ℕ) (b : BesideValue) (unread left held holds : Option (List ℕ)) (fault : Option Fault) (lines : ℕ) (seat : SeatValue DeskAndChain)
+    → StartsBeside start b → Sits seats posts collector b unread left held holds fault lines seat → (log : List (Sight DeskAndChain)) (state : DeskAndChain) → IsWholeHistory seats log state → OnlyOthersSince seat.me seat.saw log
+    → IsToldSession start seats posts collector (authored_in log) state.shown.chain b.seat.me unread left held holds fault lines × IsEnded start seats log state
+session_told start seats posts collector b unread left held holds fault lines seat opens sits log state whole since = (
+  record {
+    read = sits.ran.read;
+    consumed = sits.ran.consumed;
+    written = sits.ran.written;
+    appended = sits.ran.appended;
+    counted = sits.ran.counted;
+    opening = b;
+    opens = opens;
+    moments = l.moments;
+    each = l.each (authored_in log) (authored_grown after.seat.saw log l.grows.history to_log);
+    seen = λ apart. l.views state.shown.chain (seen_by apart sits.told sits.parts.seen sits.parts.fault sits.fault_is);
+    lost = l.lost;
+    own = own;
+    ended = sits.ended;
+    cause = cause_is sits.told sits.parts.fault sits.fault_is;
+    outcome = l.outcome;
+  },
+  end,
+)
+  where
+    opened : IsOpened start b.seat.saw
+    opened = subst (IsOpened start) (sym opens.seat) (record { desk = opens.desk; chain = opens.shown })
+
+    history : IsHistory b.seat.saw
+    history = subst IsHistory (sym opens.seat) tt
+
+    after : BesideValue
+    after = sits.after.beside
+
+    l : Lines seats posts collector sits.ended left sits.ran.read sits.ran.written b after
+    l = lines_told start seats posts collector b opened history left sits.ran.read sits.ran.written sits.after sits.ended sits.ran.outcome
+
+    found : DeskAndChain
+    found = sits.parts.found
+
+    comes : Comes seats after.seat found seat
+    comes = sits.parts.comes
+
+    to_end : IsPrefix seat.saw log
+    to_end = (since.since, sym since.whole)
+
+    to_log : IsPrefix after.seat.saw log
+    to_log = sights_then after.seat.saw seat.saw log (saw_came seats after.seat seat found comes) to_end
+
+    me : seat.me ≡ b.seat.me
+    me = ap (λ (s : SeatValue DeskAndChain). s.me) comes.saw ∙ l.grows.me
+
+    own : events_by b.seat.me (authored_in log) ≡ taken_in l.moments ++ l.lost
+    own =
+        ap (λ n. own_events n log) (sym me)
+        ∙ others_leave seat.me seat.saw log comes.history since
+        ∙ ap (λ n. own_events n seat.saw) (ap (λ (s : SeatValue DeskAndChain). s.me) comes.saw)
+        ∙ come_own seats after.seat seat found l.grows.history comes
+        ∙ ap (λ n. own_events n after.seat.saw) l.grows.me
+        ∙ l.own
+        ∙ ap (λ (saw : List (Sight DeskAndChain)). own_events b.seat.me saw ++ (taken_in l.moments ++ l.lost)) opens.seat
+
+    end : IsEnded start seats log state
+    end = ended start seats log state (opened_later start b.seat.saw log opened (sights_then b.seat.saw after.seat.saw log l.grows.saw to_log)) whole
+
+    -- what was published at the last visit begins what is published at the end
+    shown : IsPrefix found.shown.chain state.shown.chain
+    shown =
+        let opened_seat : IsOpened start seat.saw = opened_later start b.seat.saw seat.saw opened (sights_then b.seat.saw after.seat.saw seat.saw l.grows.saw (saw_came seats after.seat seat found comes)) in
+        let part : IsSeen start seat.saw (seat.saw ++ since.since) = seen_in start seat.saw since.since opened_seat (subst IsHistory since.whole whole.history) in
+        versions_then found.shown.chain (left_at log).shown.chain state.shown.chain
+        (subst (λ (x : DeskAndChain × List (Sight DeskAndChain)). IsPrefix x.0.shown.chain (left_at x.1).shown.chain) (λ i. (came_last seats after.seat found seat comes i, sym since.whole i)) part.chain) end.chain
+
+    seen_by : fault ≢ Some NoPlace → (told : Result (Unit {0}) Fault) → OnOk told (IsPrefix after.seen found.shown.chain) → OnErr told (told ≡ Err NoPlace) → fault ≡ fault_of told sits.ended → IsPrefix after.seen state.shown.chain
+    seen_by apart (Ok done) seen bad is = versions_then after.seen found.shown.chain state.shown.chain seen shown
+    seen_by apart (Err e) seen bad is = absurd (apart (is ∙ ap (λ (r : Result (Unit {0}) Fault). fault_of r sits.ended) bad))
+
+    cause_is : (told : Result (Unit {0}) Fault) → OnErr told (told ≡ Err NoPlace) → fault ≡ fault_of told sits.ended → (fault ≡ sits.ended) ⊎ (fault ≡ Some NoPlace)
+    cause_is (Ok done) bad is = inl is
+    cause_is (Err e) bad is = inr (is ∙ ap (λ (r : Result (Unit {0}) Fault). fault_of r sits.ended) bad)

@@ -1,0 +1,3 @@
+pub mod Seated
+pub mod Sittings
+pub mod Served

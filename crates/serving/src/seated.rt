@@ -1,0 +1,133 @@
+//! Who answers a session: a seat, which may post or only ask.
+
+ghost use Rattle.std.specs.Prelude.{◌≡◌, ◌≤◌, ◌∷◌, [], false, IfErr, IfOk};
+ghost use Rattle.answers.specs.Plain.{bad_line};
+ghost use Rattle.answers.specs.Text.{line_count};
+ghost use Rattle.desk_console.specs.Taken.{event_of};
+ghost use Rattle.script_words.specs.Commands.{IsWithin};
+ghost use Rattle.sessions.specs.Run.{CutsOff};
+ghost use Rattle.beside.specs.Seats.{Goes};
+ghost use Rattle.serving.specs.Seated.{DoesSeated, KeepsRules, is_event, is_post};
+
+use answers::{Answer, answer_other, write_bad_line};
+use beside::Beside;
+use net_data::{Event, Net};
+use script_words::{Command, read_line};
+use sessions::{Answering, Fault};
+use std::alloc::Global;
+use std::marker::Model;
+use std::sync::Wait;
+use versions::Naming;
+
+/// Whether a command is a post under a sequence number.
+fn is_post(command: &Command) -> bool
+    ensures { result ≡ is_post command.now }
+{
+    matches!(command, Command::Post(_, _, _))
+}
+
+/// The answer to what a session may not post, which goes.
+fn refuse<T: Drop>(alloc: Global, what: T) -> Result<Answer, Fault>
+    ensures text { IfOk result (λ answer. answer ≡ bad_line) }
+    ensures plain { IfOk result (λ answer. line_count answer ≡ 0) }
+    ensures fault { IfErr result (CutsOff (Unit {0})) }
+{
+    drop(what);
+    Ok(Answer::of_text(write_bad_line(alloc)?))
+}
+
+/// Who answers a session at its seat.
+#[derive(Drop)]
+pub struct Seated<'a, N: Naming, R: Wait> {
+    pub beside: Beside<'a, N, R>,
+    /// Whether it may post.
+    pub posts: bool,
+    /// The collector that posts its plain events.
+    pub collector: u8,
+}
+
+impl<'a, N: Naming, R: Wait> Model for Seated<'a, N, R> {
+    ghost use Rattle.serving.specs.Seated.{SeatedValue};
+
+    ghost Value = { SeatedValue };
+
+    ghost view = { λ s. record { beside = s.beside; posts = s.posts; collector = s.collector } };
+}
+
+impl<'a, N: Naming, R: Wait> Seated<'a, N, R> {
+    /// Posts an event by the session's collector, if it may.
+    fn post_event(&mut self, alloc: Global, event: Event) -> Result<Answer, Fault>
+        ensures does { IfOk result (λ answer. DoesSeated N.seats (Command.Event event) self.old answer self.new) }
+        ensures goes { Goes N.seats (event ∷ []) self.old.beside self.new.beside }
+        ensures rules { KeepsRules self.old self.new }
+        ensures lines { IfOk result (λ answer. line_count answer ≤ 1) }
+        ensures fault { IfErr result (CutsOff (Unit {0})) }
+    {
+        if self.posts {
+            self.beside.post_next(alloc, self.collector, event)
+        } else {
+            refuse(alloc, event)
+        }
+    }
+
+    /// Does what a command says that is no plain event.
+    fn obey_other(&mut self, alloc: Global, command: Command) -> Result<Answer, Fault>
+        requires within { IsWithin command }
+        requires other { is_event command ≡ false }
+        ensures does { IfOk result (λ answer. DoesSeated N.seats command self.old answer self.new) }
+        ensures goes { Goes N.seats (event_of command) self.old.beside self.new.beside }
+        ensures rules { KeepsRules self.old self.new }
+        ensures lines { IfOk result (λ answer. line_count answer ≤ 1) }
+        ensures fault { IfErr result (CutsOff (Unit {0})) }
+    {
+        if !self.posts && is_post(&command) {
+            refuse(alloc, command)
+        } else {
+            self.beside.obey(alloc, command)
+        }
+    }
+
+    /// Does what a command says.
+    fn obey(&mut self, alloc: Global, command: Command) -> Result<Answer, Fault>
+        requires { IsWithin command }
+        ensures does { IfOk result (λ answer. DoesSeated N.seats command self.old answer self.new) }
+        ensures goes { Goes N.seats (event_of command) self.old.beside self.new.beside }
+        ensures rules { KeepsRules self.old self.new }
+        ensures lines { IfOk result (λ answer. line_count answer ≤ 1) }
+        ensures fault { IfErr result (CutsOff (Unit {0})) }
+    {
+        match command {
+            Command::Event(event) => self.post_event(alloc, event),
+            other => self.obey_other(alloc, other),
+        }
+    }
+}
+
+impl<'a, N: Naming, R: Wait> Answering for Seated<'a, N, R> {
+    ghost use Rattle.beside.specs.Beside.{LeavesBeside};
+    ghost use Rattle.serving.specs.Seated.{CommandsSeated, LosesSeated};
+
+    ghost commands = { CommandsSeated N.seats };
+
+    ghost fails = { LosesSeated N.seats };
+
+    ghost leaves = { λ s. LeavesBeside N.seats s.beside };
+
+    ghost needs_place = { Unit {0} };
+
+    fn answer(&mut self, alloc: Global, line: &[u8]) -> Result<Answer, Fault> {
+        match read_line(alloc, line)? {
+            Some(command) => self.obey(alloc, command),
+            None => Ok(Answer::of_text(answer_other(alloc, line)?)),
+        }
+    }
+
+    fn into_net(self, alloc: Global) -> Result<Net, Fault> {
+        let Seated {
+            beside,
+            posts: _,
+            collector: _,
+        } = self;
+        beside.into_net(alloc)
+    }
+}

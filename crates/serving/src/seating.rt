@@ -1,0 +1,140 @@
+//! Sessions at their seats, before they begin.
+
+ghost use Rattle.std.specs.Prelude.{◌≡◌, ◌+◌, ◌<◌, ◌≤◌, ◌∷◌, ◌++◌, [], ℕ, Err, Some, IfOk, OnOk, slice_index_or, vec_len};
+ghost use Rattle.versions.specs.Working.{left_at};
+ghost use Rattle.beside.specs.Beside.{newcomer};
+ghost use Rattle.serving.specs.Sittings.{AreSeated, AreSeatedTo, HasAdmitted, SeatsLast, seat_at, unbegun};
+
+use crate::channels::Channel;
+use crate::sittings::Sitting;
+use beside::Visitor;
+use seats::Seat;
+use sessions::Fault;
+use std::alloc::Global;
+use versions::{BySeats, DeskAndChain, Guest, Hub, Naming, UnnamedWithSeats};
+
+/// Adds to the end of a list.
+pub(crate) fn push<T: Drop>(list: &mut Vec<T>, item: T) -> Result<(), Fault>
+    ensures { OnOk result (list.new.items ≡ list.old.items ++ item ∷ []) }
+{
+    match list.push(item) {
+        Ok(()) => Ok(()),
+        Err(_) => Err(Fault::OutOfMemory),
+    }
+}
+
+/// Lets go of what a run needed that can't go on.
+pub(crate) fn give_up<T: Drop, X>(what: T, fault: Fault) -> Result<X, Fault>
+    ensures { result ≡ Err fault }
+{
+    drop(what);
+    Err(fault)
+}
+
+/// Seats behind the first, in rising number.
+pub(crate) fn admit_more(
+    alloc: Global,
+    unnamed: &mut UnnamedWithSeats,
+    more: usize,
+) -> Result<Vec<Seat<DeskAndChain>>, Fault>
+    requires { unnamed.old.seats ≡ 1 }
+    ensures { IfOk result (λ v. HasAdmitted unnamed.old unnamed.new more v.items) }
+{
+    let mut seats = Vec::with_capacity(alloc, more)?;
+    for at in 0..more {
+        let _ = at;
+        push(&mut seats, unnamed.admit())?;
+    }
+    Ok(seats)
+}
+
+/// A session at its seat, which has not begun.
+fn seat_one<N: Naming, R: Drop, W: Drop>(
+    hub: &Hub<N, BySeats>,
+    guest: Guest<N>,
+    channel: Channel<R, W>,
+) -> Result<Sitting<N, R, W>, Fault>
+    requires { left_at guest.saw ≡ hub.now.state }
+    ensures { IfOk result (λ s. s ≡ unbegun (newcomer guest hub.now.state) channel) }
+{
+    match Visitor::new(hub, guest) {
+        Ok(visitor) => Ok(Sitting {
+            visitor: Some(visitor),
+            guest: None,
+            channel,
+            lines: 0,
+            fault: None,
+        }),
+        Err(_) => Err(Fault::NoPlace),
+    }
+}
+
+/// Adds a session at its seat, which has not begun.
+fn seat_next<N: Naming, R: Drop, W: Drop>(
+    hub: &Hub<N, BySeats>,
+    guest: Guest<N>,
+    channel: Channel<R, W>,
+    sittings: &mut Vec<Sitting<N, R, W>>,
+) -> Result<(), Fault>
+    requires { left_at guest.saw ≡ hub.now.state }
+    ensures { OnOk result (sittings.new.items ≡ sittings.old.items ++ unbegun (newcomer guest hub.now.state) channel ∷ []) }
+{
+    match seat_one(hub, guest, channel) {
+        Ok(sitting) => push(sittings, sitting),
+        Err(fault) => Err(fault),
+    }
+}
+
+/// Adds a session at its seat, which has not begun, and whose channel is the last of those that are left.
+fn seat_last<N: Naming, R: Drop, W: Drop>(
+    hub: &Hub<N, BySeats>,
+    guest: Guest<N>,
+    channels: &mut Vec<Channel<R, W>>,
+    sittings: &mut Vec<Sitting<N, R, W>>,
+) -> Result<(), Fault>
+    requires { left_at guest.saw ≡ hub.now.state }
+    ensures { OnOk result (SeatsLast (newcomer guest hub.now.state) channels.old.items channels.new.items sittings.old.items sittings.new.items) }
+{
+    match channels.pop() {
+        Some(channel) => seat_next(hub, guest, channel, sittings),
+        None => Err(Fault::NoPlace),
+    }
+}
+
+/// Adds the sessions behind the first, the last first.
+fn seat_more<N: Naming, R: Drop, W: Drop>(
+    hub: &Hub<N, BySeats>,
+    mut seats: Vec<Seat<DeskAndChain>>,
+    channels: &mut Vec<Channel<R, W>>,
+    sittings: &mut Vec<Sitting<N, R, W>>,
+) -> Result<(), Fault>
+    requires seats { (j : ℕ) (d : _) → j < vec_len seats → slice_index_or seats.items j d ≡ seat_at N.table hub.now.state (j + 1) }
+    requires count { (vec_len channels.old ≡ vec_len seats + 1) × (vec_len sittings.old ≡ 0) }
+    ensures { OnOk result (AreSeatedTo 1 N.table hub.now.state channels.old.items channels.new.items sittings.new.items) }
+{
+    while let Some(seat) = seats.pop() {
+        if let Err(fault) = seat_last(hub, Guest::over(seat), channels, sittings) {
+            return Err(fault);
+        }
+    }
+    Ok(())
+}
+
+/// All sessions at their seats, the last first.
+pub(crate) fn seat_all<N: Naming, R: Drop, W: Drop>(
+    alloc: Global,
+    hub: &Hub<N, BySeats>,
+    first: Guest<N>,
+    seats: Vec<Seat<DeskAndChain>>,
+    mut channels: Vec<Channel<R, W>>,
+) -> Result<Vec<Sitting<N, R, W>>, Fault>
+    requires first { first ≡ seat_at N.table hub.now.state 0 }
+    requires seats { (j : ℕ) (d : _) → j < vec_len seats → slice_index_or seats.items j d ≡ seat_at N.table hub.now.state (j + 1) }
+    requires count { vec_len channels ≡ vec_len seats + 1 }
+    ensures { IfOk result (λ v. AreSeated N.table hub.now.state channels.items v.items) }
+{
+    let mut sittings = Vec::new(alloc);
+    seat_more(hub, seats, &mut channels, &mut sittings)?;
+    seat_last(hub, first, &mut channels, &mut sittings)?;
+    Ok(sittings)
+}
