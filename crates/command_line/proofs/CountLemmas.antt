@@ -8,7 +8,7 @@ use Rattle.std.proofs.lemmas.Result.{OkIff-at_ok}
 use Rattle.std.proofs.lemmas.Str.Parse.{IsNumeralModel, numerals_by_value, parse_plain, parse_plus, tells_digits}
 use Rattle.clap.specs.Words.{Row, Text}
 use Rattle.command_line.specs.declared.words.Order.{Order}
-use Rattle.command_line.specs.declared.words.Order.TheVariants.{Run, Play, Check, Picture, Import, Export, Explain}
+use Rattle.command_line.specs.declared.words.Order.TheVariants.{Run, Play, Serve, Check, Picture, Import, Export, Explain}
 use Rattle.command_line.specs.Words.{IsOrder, IsPadded, IsWithin, IsWorkers}
 
 own : IsNumeralModel (AllDigits 10) (digits_value 10)
@@ -48,13 +48,14 @@ module _ {E : Type 0} (text : List ℕ) (r : Result ℕ E) (parsed : ParsesUnsig
   ]
 
 -- an order has at most 32 workers
-count_within : (text : Option Text) (n : ℕ) → IsWorkers text n → n ≤ 32
-count_within None n is = omega arith
-count_within (Some text) n is = is.1
+count_within : (otherwise : ℕ) (text : Option Text) (n : ℕ) → otherwise ≤ 32 → IsWorkers otherwise text n → n ≤ 32
+count_within otherwise None n few is = omega arith
+count_within otherwise (Some text) n few is = is.1
 
 pub order_within : (order : Order) (found : Option (Text × List Row)) → IsOrder order found → IsWithin order
-order_within (Run net workers save explained json strict) found is = count_within _ workers is.3
+order_within (Run net workers save explained json strict) found is = count_within 0 _ workers (omega arith) is.3
 order_within (Play net steps save explained json strict) found is = tt
+order_within (Serve net seats workers save explained json no_files) found is = count_within 1 _ workers (omega arith) is.4
 order_within (Check net explained json) found is = tt
 order_within (Picture net about svg explained) found is = tt
 order_within (Import dir explained) found is = tt

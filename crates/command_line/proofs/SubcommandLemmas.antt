@@ -12,7 +12,7 @@ use Rattle.clap.specs.Takes.{is_given}
 use Rattle.clap.specs.Faults.{built_fault, check_fault, entered_fault, fault_of, level_fault, other_fault, step_fault, turn_fault, walk_fault, word_fault}
 use Rattle.clap.specs.declared.error.Error.{Error}
 use Rattle.clap.specs.declared.error.kind.ErrorKind.TheVariants.{DisplayHelp, InvalidSubcommand, MissingSubcommand}
-use Rattle.command_line.specs.Words.{net_rule, steps_rule, dir_rule, workers_rule, save_rule, explained_rule, json_rule, strict_rule, about_rule, svg_rule, check_app, desk_app, explain_app, export_app, import_app, picture_app, play_app, run_app, is_whole, IsWordFault}
+use Rattle.command_line.specs.Words.{net_rule, steps_rule, seats_rule, dir_rule, workers_rule, save_rule, explained_rule, json_rule, strict_rule, no_files_rule, about_rule, svg_rule, check_app, desk_app, explain_app, export_app, import_app, picture_app, play_app, run_app, serve_app, is_whole, IsWordFault}
 use Rattle.command_line.specs.declared.words.WordFault.TheVariants.{Clap}
 use Rattle.command_line.proofs.RowLemmas.{AllFill, Fills, none_of_both, set_fills, set_true_fills, help_fills, level_filled, given_value}
 
@@ -117,6 +117,9 @@ run_built = built_leaf (inherited desk_app.top run_app.top)
 abbrev play_built : Shape
 play_built = built_leaf (inherited desk_app.top play_app.top)
 
+abbrev serve_built : Shape
+serve_built = built_leaf (inherited desk_app.top serve_app.top)
+
 abbrev check_built : Shape
 check_built = built_leaf (inherited desk_app.top check_app.top)
 
@@ -145,6 +148,9 @@ net_fills = set_fills (rule_at 1 net_rule) refl refl
 steps_fills : Fills (rule_at 2 steps_rule)
 steps_fills = set_fills (rule_at 2 steps_rule) refl refl
 
+seats_fills : Fills (rule_at 2 seats_rule)
+seats_fills = set_fills (rule_at 2 seats_rule) refl refl
+
 dir_fills : Fills (rule_at 1 dir_rule)
 dir_fills = set_fills (rule_at 1 dir_rule) refl refl
 
@@ -166,6 +172,9 @@ explained_fills = set_true_fills (rule_at 2 explained_rule) refl refl
 strict_fills : Fills (rule_at 2 strict_rule)
 strict_fills = set_true_fills (rule_at 2 strict_rule) refl refl
 
+no_files_fills : Fills (rule_at 2 no_files_rule)
+no_files_fills = set_true_fills (rule_at 2 no_files_rule) refl refl
+
 about_fills : Fills (rule_at 2 about_rule)
 about_fills = set_fills (rule_at 2 about_rule) refl refl
 
@@ -180,6 +189,9 @@ run_fills = (net_fills, (workers_fills, (save_fills, (explained_fills, (json_fil
 
 play_fills : AllFill play_built.rules
 play_fills = (net_fills, (steps_fills, (save_fills, (explained_fills, (json_fills, (strict_fills, (asks_fills, tt)))))))
+
+serve_fills : AllFill serve_built.rules
+serve_fills = (net_fills, (seats_fills, (workers_fills, (save_fills, (explained_fills, (json_fills, (no_files_fills, (asks_fills, tt))))))))
 
 check_fills : AllFill check_built.rules
 check_fills = (net_fills, (explained_fills, (json_fills, (asks_fills, tt))))
@@ -239,14 +251,17 @@ import_whole words e = let dir = one_value import_built words import_fills e (co
 play_whole : (words : List Text) → HasNoFault play_built words → is_whole (rows_at play_built words) ≡ true
 play_whole words e = let both = both_values play_built words play_fills e (codes "net") (codes "steps") refl in rw (both.0, both.1) refl
 
+serve_whole : (words : List Text) → HasNoFault serve_built words → is_whole (rows_at serve_built words) ≡ true
+serve_whole words e = let both = both_values serve_built words serve_fills e (codes "net") (codes "seats") refl in rw (both.0, both.1) refl
+
 export_whole : (words : List Text) → HasNoFault export_built words → is_whole (rows_at export_built words) ≡ true
 export_whole words e = let both = both_values export_built words export_fills e (codes "net") (codes "dir") refl in rw (both.0, both.1) refl
 
 entered_whole : (p : Text × List Text) (found : Text × List Row) → IsNotHelp p.0 → entered_fault (built desk_app) (Some p) ≡ []
     → entered (built desk_app) (Some p) ≡ Some found → is_whole found ≡ true
 entered_whole p found right e is =
-    go (answers_to p.0 (label_of run_built)) (answers_to p.0 (label_of play_built)) (answers_to p.0 (label_of check_built))
-    (answers_to p.0 (label_of picture_built)) (answers_to p.0 (label_of import_built)) (answers_to p.0 (label_of export_built))
+    go (answers_to p.0 (label_of run_built)) (answers_to p.0 (label_of play_built)) (answers_to p.0 (label_of serve_built))
+    (answers_to p.0 (label_of check_built)) (answers_to p.0 (label_of picture_built)) (answers_to p.0 (label_of import_built)) (answers_to p.0 (label_of export_built))
     (answers_to p.0 (label_of explain_built)) (bytes_eq (codes "help") p.0) not_help e is
   where
     not_help : bytes_eq (codes "help") p.0 ≡ true → ⊥
@@ -262,9 +277,10 @@ entered_whole p found right e is =
         cond picture (Some picture_built) (cond import (Some import_built) (cond export (Some export_built)
         (cond explain (Some explain_built) (cond (help || false) (Some help_built) None))))
 
-    first : (run play check picture import export explain help : Bool) → Option Shape
-    first run play check picture import export explain help =
-        cond run (Some run_built) (cond play (Some play_built) (cond check (Some check_built) (last picture import export explain help)))
+    first : (run play serve check picture import export explain help : Bool) → Option Shape
+    first run play serve check picture import export explain help =
+        cond run (Some run_built) (cond play (Some play_built) (cond serve (Some serve_built)
+        (cond check (Some check_built) (last picture import export explain help))))
 
     IsFit : Option Shape → Type 0
     IsFit shape = option_map_or (λ s. level_fault s [] nothing_held p.1 false []) shape [] ≡ [] → option_map (λ s. rows_at s p.1) shape ≡ Some found
@@ -278,11 +294,12 @@ entered_whole p found right e is =
     go_on false false false false true not e is = absurd (not refl)
     go_on false false false false false not e is = cc
 
-    go : (run play check picture import export explain help : Bool) → (help ≡ true → ⊥) → IsFit (first run play check picture import export explain help)
-    go true play check picture import export explain help not e is = is_found run_built (run_whole p.1 e) is
-    go false true check picture import export explain help not e is = is_found play_built (play_whole p.1 e) is
-    go false false true picture import export explain help not e is = is_found check_built (check_whole p.1 e) is
-    go false false false picture import export explain help not e is = go_on picture import export explain help not e is
+    go : (run play serve check picture import export explain help : Bool) → (help ≡ true → ⊥) → IsFit (first run play serve check picture import export explain help)
+    go true play serve check picture import export explain help not e is = is_found run_built (run_whole p.1 e) is
+    go false true serve check picture import export explain help not e is = is_found play_built (play_whole p.1 e) is
+    go false false true check picture import export explain help not e is = is_found serve_built (serve_whole p.1 e) is
+    go false false false true picture import export explain help not e is = is_found check_built (check_whole p.1 e) is
+    go false false false false picture import export explain help not e is = go_on picture import export explain help not e is
 
 whole_found : (words : List Text) (found : Text × List Row) → fault_of desk_app words ≡ [] → subcommand_of desk_app words ≡ Some found → is_whole found ≡ true
 whole_found words found e is =

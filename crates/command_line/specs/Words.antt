@@ -7,7 +7,7 @@ use Rattle.clap.specs.Simple.{on_top}
 use Rattle.clap.specs.declared.builder.action.ArgAction.TheVariants.{SetTrue}
 use Rattle.clap.specs.declared.error.kind.ErrorKind.TheVariants.{MissingSubcommand}
 use Rattle.command_line.specs.declared.words.Order.{Order}
-use Rattle.command_line.specs.declared.words.Order.TheVariants.{Run, Play, Check, Picture, Import, Export, Explain}
+use Rattle.command_line.specs.declared.words.Order.TheVariants.{Run, Play, Serve, Check, Picture, Import, Export, Explain}
 use Rattle.command_line.specs.declared.words.WordFault.{WordFault}
 use Rattle.command_line.specs.declared.words.WordFault.TheVariants.{Clap, Workers}
 
@@ -83,6 +83,38 @@ json_play_app = with_rule explained_play_app json_rule
 abbrev pub play_app : App
 play_app = with_rule json_play_app strict_rule
 
+-- SEATS is required
+abbrev pub seats_rule : Rule
+seats_rule = record (new_rule (codes "seats")) { required = true; value_names = 1 }
+
+-- `--no-files`, which has no value
+abbrev pub no_files_rule : Rule
+no_files_rule = record (new_rule (codes "no-files")) { long = Some (codes "no-files"); action = Some SetTrue }
+
+-- `serve NET SEATS`
+abbrev pub seats_app : App
+seats_app = with_rule (net_app (codes "serve")) seats_rule
+
+-- `serve NET SEATS --workers N`
+abbrev pub workers_serve_app : App
+workers_serve_app = with_rule seats_app workers_rule
+
+-- `serve NET SEATS --workers N --save FILE`
+abbrev pub saved_serve_app : App
+saved_serve_app = with_rule workers_serve_app save_rule
+
+-- `serve NET SEATS --workers N --save FILE --explain`
+abbrev pub explained_serve_app : App
+explained_serve_app = with_rule saved_serve_app explained_rule
+
+-- `serve NET SEATS --workers N --save FILE --explain --json`
+abbrev pub json_serve_app : App
+json_serve_app = with_rule explained_serve_app json_rule
+
+-- `serve NET SEATS --workers N --save FILE --explain --json --no-files`
+abbrev pub serve_app : App
+serve_app = with_rule json_serve_app no_files_rule
+
 -- `check NET --explain`
 abbrev pub explained_check_app : App
 explained_check_app = with_rule (net_app (codes "check")) explained_rule
@@ -155,9 +187,13 @@ desk_app_up_to_run = with_subcommand bare_app run_app.top
 abbrev pub desk_app_up_to_play : App
 desk_app_up_to_play = with_subcommand desk_app_up_to_run play_app.top
 
+-- `route_desk` with its commands as far as `serve`
+abbrev pub desk_app_up_to_serve : App
+desk_app_up_to_serve = with_subcommand desk_app_up_to_play serve_app.top
+
 -- `route_desk` with its commands as far as `check`
 abbrev pub desk_app_up_to_check : App
-desk_app_up_to_check = with_subcommand desk_app_up_to_play check_app.top
+desk_app_up_to_check = with_subcommand desk_app_up_to_serve check_app.top
 
 -- `route_desk` with its commands as far as `picture`
 abbrev pub desk_app_up_to_picture : App
@@ -175,10 +211,10 @@ desk_app_up_to_export = with_subcommand desk_app_up_to_import export_app.top
 abbrev pub desk_app : App
 desk_app = with_subcommand desk_app_up_to_export explain_app.top
 
--- what is given for N says this many workers; it says none if nothing is given
-abbrev pub IsWorkers : Option Text → ℕ → Type 0
-IsWorkers None n = n ≡ 0
-IsWorkers (Some text) n = (text ≡ decimal n) × (n ≤ 32)
+-- what is given for N says this many workers; if nothing is given, it is the number before
+abbrev pub IsWorkers : ℕ → Option Text → ℕ → Type 0
+IsWorkers otherwise None n = n ≡ otherwise
+IsWorkers otherwise (Some text) n = (text ≡ decimal n) × (n ≤ 32)
 
 -- the matches have this flag: its value is `true`
 abbrev pub HasFlag : Text → List Row → Type 0
@@ -188,7 +224,7 @@ HasFlag id rows = first_of id rows ≡ Some (codes "true")
 abbrev pub IsOrder : Order → Option (Text × List Row) → Type 0
 IsOrder (Run net workers save explained json strict) found =
     (rows : List Row) × (found ≡ Some (codes "run", rows)) × (first_of (codes "net") rows ≡ Some net.now)
-    × IsWorkers (first_of (codes "workers") rows) workers × (first_of (codes "save") rows ≡ option_map (λ s. s.now) save)
+    × IsWorkers 0 (first_of (codes "workers") rows) workers × (first_of (codes "save") rows ≡ option_map (λ s. s.now) save)
     × (IsTrue explained ↔ HasFlag (codes "explain") rows) × (IsTrue json ↔ HasFlag (codes "json") rows)
     × (IsTrue strict ↔ HasFlag (codes "strict") rows)
 IsOrder (Play net steps save explained json strict) found =
@@ -196,6 +232,11 @@ IsOrder (Play net steps save explained json strict) found =
     × (first_of (codes "steps") rows ≡ Some steps.now) × (first_of (codes "save") rows ≡ option_map (λ s. s.now) save)
     × (IsTrue explained ↔ HasFlag (codes "explain") rows) × (IsTrue json ↔ HasFlag (codes "json") rows)
     × (IsTrue strict ↔ HasFlag (codes "strict") rows)
+IsOrder (Serve net seats workers save explained json no_files) found =
+    (rows : List Row) × (found ≡ Some (codes "serve", rows)) × (first_of (codes "net") rows ≡ Some net.now)
+    × (first_of (codes "seats") rows ≡ Some seats.now) × IsWorkers 1 (first_of (codes "workers") rows) workers
+    × (first_of (codes "save") rows ≡ option_map (λ s. s.now) save) × (IsTrue explained ↔ HasFlag (codes "explain") rows)
+    × (IsTrue json ↔ HasFlag (codes "json") rows) × (IsTrue no_files ↔ HasFlag (codes "no-files") rows)
 IsOrder (Check net explained json) found =
     (rows : List Row) × (found ≡ Some (codes "check", rows)) × (first_of (codes "net") rows ≡ Some net.now)
     × (IsTrue explained ↔ HasFlag (codes "explain") rows) × (IsTrue json ↔ HasFlag (codes "json") rows)
@@ -217,6 +258,7 @@ IsOrder (Explain what json) found =
 abbrev pub IsWithin : Order → Type 0
 IsWithin (Run net workers save explained json strict) = workers ≤ 32
 IsWithin (Play net steps save explained json strict) = Unit {0}
+IsWithin (Serve net seats workers save explained json no_files) = workers ≤ 32
 IsWithin (Check net explained json) = Unit {0}
 IsWithin (Picture net about svg explained) = Unit {0}
 IsWithin (Import dir explained) = Unit {0}
@@ -232,6 +274,7 @@ abbrev pub is_whole : Text × List Row → Bool
 is_whole (name, rows) =
     ((bytes_eq name (codes "run") || (bytes_eq name (codes "check") || bytes_eq name (codes "picture"))) && has_value (codes "net") rows)
     || (bytes_eq name (codes "play") && (has_value (codes "net") rows && has_value (codes "steps") rows))
+    || (bytes_eq name (codes "serve") && (has_value (codes "net") rows && has_value (codes "seats") rows))
     || (bytes_eq name (codes "import") && has_value (codes "dir") rows)
     || (bytes_eq name (codes "export") && (has_value (codes "net") rows && has_value (codes "dir") rows))
     || bytes_eq name (codes "explain")
@@ -248,13 +291,18 @@ IsNoCount text = (n : ℕ) → n ≤ 32 → text ≢ decimal n
 abbrev pub HasBadCount : List Row → Type 0
 HasBadCount rows = (text : Text) × (first_of (codes "workers") rows ≡ Some text) × IsNoCount text
 
--- the subcommand is `run`, with such an N, and asks for faults to be explained exactly if this is true
+-- a subcommand of this name has workers
+abbrev pub HasWorkers : Text → Type 0
+HasWorkers name = (name ≡ codes "run") ⊎ (name ≡ codes "serve")
+
+-- the subcommand is `run` or `serve`, with such an N, and asks for faults to be explained exactly if this is true
 abbrev pub HasBadWorkers : Bool → Option (Text × List Row) → Type 0
 HasBadWorkers explained found =
-    (rows : List Row) × (found ≡ Some (codes "run", rows)) × HasBadCount rows × (IsTrue explained ↔ HasFlag (codes "explain") rows)
+    (name : Text) × (rows : List Row) × (found ≡ Some (name, rows)) × HasWorkers name × HasBadCount rows
+    × (IsTrue explained ↔ HasFlag (codes "explain") rows)
 
 -- Clap: memory was wanting, or the words have one of these faults, or they have none and name no subcommand
--- Workers: the words have no fault, N of `run` says no number of workers, and whether they ask for faults to be explained
+-- Workers: the words have no fault, N of `run` or of `serve` says no number of workers, and whether they ask for faults to be explained
 abbrev pub IsWordFault : Kinds → Option (Text × List Row) → WordFault → Type 0
 IsWordFault kinds found (Clap e) = HasKind kinds e ⊎ ((kinds ≡ []) × (found ≡ None) × (kind_of e ≡ MissingSubcommand))
 IsWordFault kinds found (Workers explained) = (kinds ≡ []) × HasBadWorkers explained found

@@ -2,139 +2,20 @@
 
 ghost use Rattle.std.specs.Prelude.{◌≡◌, IfOk, false};
 ghost use Rattle.clap.specs.declared.builder.command.Command.TheViews.{out-Command};
-ghost use Rattle.clap.specs.Words.{app_of, rule_of};
-ghost use Rattle.command_line.specs.Words.{explained_rule, json_rule, strict_rule, net_rule, steps_rule, dir_rule, workers_rule, save_rule, about_rule, svg_rule, what_rule, net_app, workers_app, saved_run_app, explained_run_app, json_run_app, run_app, files_app, saved_play_app, explained_play_app, json_play_app, play_app, explained_check_app, check_app, about_app, svg_picture_app, picture_app, dir_import_app, import_app, dir_export_app, export_app, what_app, explain_app, bare_app, desk_app_up_to_run, desk_app_up_to_play, desk_app_up_to_check, desk_app_up_to_picture, desk_app_up_to_import, desk_app_up_to_export, desk_app};
+ghost use Rattle.clap.specs.Words.{app_of};
+ghost use Rattle.command_line.specs.Words.{net_app, workers_app, saved_run_app, explained_run_app, json_run_app, run_app, files_app, saved_play_app, explained_play_app, json_play_app, play_app, seats_app, workers_serve_app, saved_serve_app, explained_serve_app, json_serve_app, serve_app, explained_check_app, check_app, about_app, svg_picture_app, picture_app, dir_import_app, import_app, dir_export_app, export_app, what_app, explain_app, bare_app, desk_app_up_to_run, desk_app_up_to_play, desk_app_up_to_serve, desk_app_up_to_check, desk_app_up_to_picture, desk_app_up_to_import, desk_app_up_to_export, desk_app};
 
-use clap::{Arg, ArgAction, Command};
+use crate::arguments::{
+    FAULT_EXPLAINED, SCRIPT_EXPLAINED, SCRIPT_SAVED, SCRIPT_WORKERS, SEAT_WORKERS, SEATS_SAVED,
+    about_argument, dir_argument, explained_argument, json_argument, net_argument,
+    no_files_argument, save_argument, seats_argument, steps_argument, strict_argument,
+    svg_argument, what_argument, workers_argument,
+};
+use clap::Command;
 use std::alloc::{AllocError, Global};
 
 /// The version that is told, with the kit by which the program is proved.
 const VERSION: &str = "1.0.0, proved with rattle-kit-13f";
-
-/// What `--explain` does where a script is answered.
-const SCRIPT_EXPLAINED: &str =
-    "Say of each refused line and of a fault, on standard error, what is wrong";
-
-/// What `--explain` does where no script is answered.
-const FAULT_EXPLAINED: &str = "Say on standard error what is wrong, and where";
-
-/// The argument NET, which is required.
-fn net_argument<'a>(alloc: Global, help: &'a str) -> Arg<'a>
-    ensures rule { rule_of result ≡ net_rule }
-    ensures local { result.global ≡ false }
-{
-    Arg::new(alloc, "net")
-        .required(true)
-        .value_name("NET")
-        .help(help)
-}
-
-/// The argument STEPS, which is required.
-fn steps_argument<'a>(alloc: Global) -> Arg<'a>
-    ensures rule { rule_of result ≡ steps_rule }
-    ensures local { result.global ≡ false }
-{
-    Arg::new(alloc, "steps")
-        .required(true)
-        .value_name("STEPS")
-        .help("File with the script")
-}
-
-/// The argument DIR, which is required.
-fn dir_argument<'a>(alloc: Global, help: &'a str) -> Arg<'a>
-    ensures rule { rule_of result ≡ dir_rule }
-    ensures local { result.global ≡ false }
-{
-    Arg::new(alloc, "dir")
-        .required(true)
-        .value_name("DIR")
-        .help(help)
-}
-
-/// The option `--workers N`.
-fn workers_argument<'a>(alloc: Global) -> Arg<'a>
-    ensures rule { rule_of result ≡ workers_rule }
-    ensures local { result.global ≡ false }
-{
-    Arg::new(alloc, "workers")
-        .long("workers")
-        .value_name("N")
-        .help("Threads that settle jobs beside the script, 0 to 32; 0 if it isn't given")
-}
-
-/// The option `--save FILE`.
-fn save_argument<'a>(alloc: Global) -> Arg<'a>
-    ensures rule { rule_of result ≡ save_rule }
-    ensures local { result.global ≡ false }
-{
-    Arg::new(alloc, "save").long("save").value_name("FILE").help(
-        "Write the network to this file after a script that ended without a fault",
-    )
-}
-
-/// The flag `--explain`, which has no value.
-fn explained_argument<'a>(alloc: Global, help: &'a str) -> Arg<'a>
-    ensures rule { rule_of result ≡ explained_rule }
-    ensures local { result.global ≡ false }
-{
-    Arg::new(alloc, "explain")
-        .long("explain")
-        .action(ArgAction::SetTrue)
-        .help(help)
-}
-
-/// The flag `--json`, which has no value.
-fn json_argument<'a>(alloc: Global) -> Arg<'a>
-    ensures rule { rule_of result ≡ json_rule }
-    ensures local { result.global ≡ false }
-{
-    Arg::new(alloc, "json")
-        .long("json")
-        .action(ArgAction::SetTrue)
-        .help("Write each answer as a JSON object")
-}
-
-/// The flag `--strict`, which has no value.
-fn strict_argument<'a>(alloc: Global) -> Arg<'a>
-    ensures rule { rule_of result ≡ strict_rule }
-    ensures local { result.global ≡ false }
-{
-    Arg::new(alloc, "strict")
-        .long("strict")
-        .action(ArgAction::SetTrue)
-        .help("If a line is refused, save nothing and end with status 1")
-}
-
-/// The option `--about X`.
-fn about_argument<'a>(alloc: Global) -> Arg<'a>
-    ensures rule { rule_of result ≡ about_rule }
-    ensures local { result.global ≡ false }
-{
-    Arg::new(alloc, "about").long("about").value_name("X").help(
-        "Show how each point leads its traffic to this destination",
-    )
-}
-
-/// The flag `--svg`, which has no value.
-fn svg_argument<'a>(alloc: Global) -> Arg<'a>
-    ensures rule { rule_of result ≡ svg_rule }
-    ensures local { result.global ≡ false }
-{
-    Arg::new(alloc, "svg")
-        .long("svg")
-        .action(ArgAction::SetTrue)
-        .help("Draw an SVG text, which needs no Graphviz")
-}
-
-/// The argument WHAT, which may be left out.
-fn what_argument<'a>(alloc: Global) -> Arg<'a>
-    ensures rule { rule_of result ≡ what_rule }
-    ensures local { result.global ≡ false }
-{
-    Arg::new(alloc, "what").value_name("WHAT").help(
-        "Its number or its name, as 27, BadRow or IsDest; all are listed if it isn't given",
-    )
-}
 
 /// A command with the argument NET.
 fn net_command<'a>(
@@ -162,7 +43,7 @@ fn workers_command<'a>(alloc: Global) -> Result<Command<'a>, AllocError>
         "Answer a script of commands, read from standard input",
         "File with the network, or - for standard input up to the line %%",
     )?;
-    command.arg(workers_argument(alloc))
+    command.arg(workers_argument(alloc, SCRIPT_WORKERS))
 }
 
 /// The command `run` with all but its flags.
@@ -171,7 +52,7 @@ fn saved_run_command<'a>(alloc: Global) -> Result<Command<'a>, AllocError>
     ensures local { IfOk result (λ c. (out-Command c).has_globals ≡ false) }
 {
     let command = workers_command(alloc)?;
-    command.arg(save_argument(alloc))
+    command.arg(save_argument(alloc, SCRIPT_SAVED))
 }
 
 /// The command `run` with all but its last two flags.
@@ -221,7 +102,7 @@ fn saved_play_command<'a>(alloc: Global) -> Result<Command<'a>, AllocError>
     ensures local { IfOk result (λ c. (out-Command c).has_globals ≡ false) }
 {
     let command = files_command(alloc)?;
-    command.arg(save_argument(alloc))
+    command.arg(save_argument(alloc, SCRIPT_SAVED))
 }
 
 /// The command `play` with all but its last two flags.
@@ -249,6 +130,65 @@ fn play_command<'a>(alloc: Global) -> Result<Command<'a>, AllocError>
 {
     let command = json_play_command(alloc)?;
     command.arg(strict_argument(alloc))
+}
+
+/// The command `serve` with its two files.
+fn seats_command<'a>(alloc: Global) -> Result<Command<'a>, AllocError>
+    ensures app { IfOk result (λ c. app_of c ≡ seats_app) }
+    ensures local { IfOk result (λ c. (out-Command c).has_globals ≡ false) }
+{
+    let command = net_command(
+        alloc,
+        "serve",
+        "Answer many sessions at one desk, each with its own input and output",
+        "File with the network",
+    )?;
+    command.arg(seats_argument(alloc))
+}
+
+/// The command `serve` with its two files and its workers.
+fn workers_serve_command<'a>(alloc: Global) -> Result<Command<'a>, AllocError>
+    ensures app { IfOk result (λ c. app_of c ≡ workers_serve_app) }
+    ensures local { IfOk result (λ c. (out-Command c).has_globals ≡ false) }
+{
+    let command = seats_command(alloc)?;
+    command.arg(workers_argument(alloc, SEAT_WORKERS))
+}
+
+/// The command `serve` with all but its flags.
+fn saved_serve_command<'a>(alloc: Global) -> Result<Command<'a>, AllocError>
+    ensures app { IfOk result (λ c. app_of c ≡ saved_serve_app) }
+    ensures local { IfOk result (λ c. (out-Command c).has_globals ≡ false) }
+{
+    let command = workers_serve_command(alloc)?;
+    command.arg(save_argument(alloc, SEATS_SAVED))
+}
+
+/// The command `serve` with all but its last two flags.
+fn explained_serve_command<'a>(alloc: Global) -> Result<Command<'a>, AllocError>
+    ensures app { IfOk result (λ c. app_of c ≡ explained_serve_app) }
+    ensures local { IfOk result (λ c. (out-Command c).has_globals ≡ false) }
+{
+    let command = saved_serve_command(alloc)?;
+    command.arg(explained_argument(alloc, FAULT_EXPLAINED))
+}
+
+/// The command `serve` with all but its last flag.
+fn json_serve_command<'a>(alloc: Global) -> Result<Command<'a>, AllocError>
+    ensures app { IfOk result (λ c. app_of c ≡ json_serve_app) }
+    ensures local { IfOk result (λ c. (out-Command c).has_globals ≡ false) }
+{
+    let command = explained_serve_command(alloc)?;
+    command.arg(json_argument(alloc))
+}
+
+/// The command `serve`.
+fn serve_command<'a>(alloc: Global) -> Result<Command<'a>, AllocError>
+    ensures app { IfOk result (λ c. app_of c ≡ serve_app) }
+    ensures local { IfOk result (λ c. (out-Command c).has_globals ≡ false) }
+{
+    let command = json_serve_command(alloc)?;
+    command.arg(no_files_argument(alloc))
 }
 
 /// The command `check` with all but its last flag.
@@ -395,11 +335,19 @@ fn desk_up_to_play<'a>(alloc: Global) -> Result<Command<'a>, AllocError>
     desk.subcommand(play_command(alloc)?)
 }
 
+/// The command `route_desk` with its commands as far as `serve`.
+fn desk_up_to_serve<'a>(alloc: Global) -> Result<Command<'a>, AllocError>
+    ensures app { IfOk result (λ c. app_of c ≡ desk_app_up_to_serve) }
+{
+    let desk = desk_up_to_play(alloc)?;
+    desk.subcommand(serve_command(alloc)?)
+}
+
 /// The command `route_desk` with its commands as far as `check`.
 fn desk_up_to_check<'a>(alloc: Global) -> Result<Command<'a>, AllocError>
     ensures app { IfOk result (λ c. app_of c ≡ desk_app_up_to_check) }
 {
-    let desk = desk_up_to_play(alloc)?;
+    let desk = desk_up_to_serve(alloc)?;
     desk.subcommand(check_command(alloc)?)
 }
 

@@ -55,14 +55,14 @@ fn worker_count(text: &str) -> Option<u32>
     }
 }
 
-/// The number of workers that the matches of `run` say.
-fn workers_at(matches: &ArgMatches) -> Option<u32>
-    ensures some { IfSome result (IsWorkers (first_of (codes "workers") (rows_of (found_of matches.now)))) }
+/// The number of workers that matches say, which is another one if they say none.
+fn workers_at(matches: &ArgMatches, otherwise: u32) -> Option<u32>
+    ensures some { IfSome result (IsWorkers otherwise (first_of (codes "workers") (rows_of (found_of matches.now)))) }
     ensures none { result ≡ None → HasBadCount (rows_of (found_of matches.now)) }
 {
     match value_at(matches, "workers") {
         Some(text) => worker_count(text),
-        None => Some(0),
+        None => Some(otherwise),
     }
 }
 
@@ -84,7 +84,7 @@ fn run_order<'a>(matches: &ArgMatches<'a>) -> Result<Order<'a>, NoOrder>
         return Err(NoOrder::NotWhole);
     };
     let explained = flag_at(matches, "explain");
-    let Some(workers) = workers_at(matches) else {
+    let Some(workers) = workers_at(matches, 0) else {
         return Err(NoOrder::Workers { explained });
     };
     let save = value_at(matches, "save");
@@ -114,6 +114,31 @@ fn play_order<'a>(matches: &ArgMatches<'a>) -> Option<Order<'a>>
         explained: flag_at(matches, "explain"),
         json: flag_at(matches, "json"),
         strict: flag_at(matches, "strict"),
+    })
+}
+
+/// What the matches of `serve` order.
+fn serve_order<'a>(matches: &ArgMatches<'a>) -> Result<Order<'a>, NoOrder>
+    ensures order { IfOk result (λ order. IsOrder order (Some (codes "serve", rows_of (found_of matches.now)))) }
+    ensures not_whole { result ≡ Err NoOrder.NotWhole → is_whole (codes "serve", rows_of (found_of matches.now)) ≡ false }
+    ensures workers { (explained : Bool) → result ≡ Err (NoOrder.Workers explained) → HasBadWorkers explained (Some (codes "serve", rows_of (found_of matches.now))) }
+{
+    let (Some(net), Some(seats)) = (value_at(matches, "net"), value_at(matches, "seats")) else {
+        return Err(NoOrder::NotWhole);
+    };
+    let explained = flag_at(matches, "explain");
+    let Some(workers) = workers_at(matches, 1) else {
+        return Err(NoOrder::Workers { explained });
+    };
+    let no_files = flag_at(matches, "no-files");
+    Ok(Order::Serve {
+        net,
+        seats,
+        workers,
+        save: value_at(matches, "save"),
+        explained,
+        json: flag_at(matches, "json"),
+        no_files,
     })
 }
 
@@ -195,6 +220,7 @@ pub(crate) fn order_of<'a>(matches: &ArgMatches<'a>) -> Result<Order<'a>, NoOrde
     match name {
         "run" => run_order(inner),
         "play" => play_order(inner).ok_or(NoOrder::NotWhole),
+        "serve" => serve_order(inner),
         "check" => check_order(inner).ok_or(NoOrder::NotWhole),
         "picture" => picture_order(inner).ok_or(NoOrder::NotWhole),
         "import" => import_order(inner).ok_or(NoOrder::NotWhole),

@@ -37,6 +37,18 @@ pub enum Order<'a> {
         json: bool,
         strict: bool,
     },
+    /// To answer the sessions that the file SEATS says at one desk over the network of a file, with this many worker threads beside
+    /// them, 0 to 32, to write the network to a file then, if one is named, to explain faults, if that is wanted, to answer with
+    /// JSON objects where a session doesn't say otherwise, if that is wanted, and to write no pictures to files, if that is wanted.
+    Serve {
+        net: &'a str,
+        seats: &'a str,
+        workers: u32,
+        save: Option<&'a str>,
+        explained: bool,
+        json: bool,
+        no_files: bool,
+    },
     /// To check the settled tables of the network of a file, to explain a fault, if that is wanted, and to tell what was found
     /// as a JSON object, if that is wanted.
     Check {

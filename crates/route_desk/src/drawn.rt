@@ -8,22 +8,51 @@ use crate::files::{Devices, save_text};
 use crate::notes::Notes;
 use crate::reasons::write_reason;
 use desk_console::read_picture;
-use std::cell::{Cell, RefCell};
+use std::cell::RefCell;
 use std::io;
 use std::io::ErrorKind;
+use std::sync::atomic::{AtomicBool, Ordering};
 
 /// The byte that begins an answer with a picture, and stands for each line feed of the picture.
 const MARK: u8 = 0x0b;
 
+/// What is done with the pictures that are asked for.
+#[derive(Clone, Copy, PartialEq, Eq)]
+pub enum Pictures {
+    /// Each is written to its file.
+    Written,
+    /// None is written.
+    Refused,
+}
+
+/// Who is told why a picture isn't written to its file.
+pub trait Told: Drop {
+    /// Tells the reason of a file.
+    fn tell(&self, rt: &HostRuntime, file: &str, error: &io::Error);
+}
+
+/// The notes of a run are told, if there are any: they say it with the number of the line.
+impl<'a> Told for Option<&'a RefCell<Notes>> {
+    fn tell(&self, rt: &HostRuntime, file: &str, error: &io::Error) {
+        if let Some(notes) = self {
+            if let Ok(mut notes) = notes.try_borrow_mut() {
+                notes.explain(write_reason(rt.alloc(), file, error));
+            }
+        }
+    }
+}
+
 /// A writer that takes the pictures out of what is answered, and writes each to its file. In the place of the answer stands
-/// `picture FILE`, or `refused 64 Write` if the file can't be written.
+/// `picture FILE`, or `refused 64 Write` if the file can't or mustn't be written.
 #[derive(Drop)]
-pub struct PictureWriter<'a, W: io::Write> {
+pub struct PictureWriter<'a, T: Told, W: io::Write> {
     rt: &'a HostRuntime,
+    /// What is done with pictures.
+    pictures: Pictures,
     /// Where it is told that memory was refused.
-    refused: &'a Cell<bool>,
-    /// Where the system's reason is told if a file can't be written, none if nobody asks for it.
-    notes: Option<&'a RefCell<Notes>>,
+    refused: &'a AtomicBool,
+    /// Who is told the system's reason if a file can't be written.
+    told: T,
     /// Whether an answer with a picture is being written.
     is_open: bool,
     /// What was written of it, without its mark.
@@ -31,50 +60,59 @@ pub struct PictureWriter<'a, W: io::Write> {
     writer: W,
 }
 
-/// The answer in the place of one whose file can't be written. The reason is noted. It fails if memory was refused.
-fn refuse(
-    rt: &HostRuntime,
-    notes: Option<&RefCell<Notes>>,
-    file: &str,
-    error: io::Error,
-) -> io::Result<String> {
+/// The answer in the place of one whose file can't be written. The reason is told. It fails if memory was refused.
+fn refuse<T: Told>(rt: &HostRuntime, told: &T, file: &str, error: io::Error) -> io::Result<String> {
     if error.kind() == ErrorKind::OutOfMemory {
         return Err(error);
     }
-    if let Some(notes) = notes {
-        if let Ok(mut notes) = notes.try_borrow_mut() {
-            notes.explain(write_reason(rt.alloc(), file, &error));
-        }
-    }
+    told.tell(rt, file, &error);
     Ok(String::from_str(rt.alloc(), "refused 64 Write\n")?)
 }
 
+/// Writes a picture to its file, if pictures are written.
+fn put_picture(rt: &HostRuntime, pictures: Pictures, file: &str, picture: &str) -> io::Result<()> {
+    match pictures {
+        Pictures::Written => save_text(rt, file, picture, Devices::Refused),
+        Pictures::Refused => Err(io::Error::new(
+            ErrorKind::PermissionDenied,
+            "pictures aren't written: --no-files is given",
+        )),
+    }
+}
+
 /// Writes the picture of an answer to its file, and gives the answer in its place.
-fn draw(rt: &HostRuntime, notes: Option<&RefCell<Notes>>, answer: &[u8]) -> io::Result<String> {
+fn draw<T: Told>(
+    rt: &HostRuntime,
+    pictures: Pictures,
+    told: &T,
+    answer: &[u8],
+) -> io::Result<String> {
     let Ok(line) = str::from_utf8(answer) else {
         return Err(io::Error::from(ErrorKind::InvalidData));
     };
     let Some((file, picture)) = read_picture(rt.alloc(), line)? else {
         return Err(io::Error::from(ErrorKind::InvalidData));
     };
-    match save_text(rt, file, picture.as_str(), Devices::Refused) {
+    match put_picture(rt, pictures, file, picture.as_str()) {
         Ok(()) => Ok(format!(in rt.alloc(); "picture {file}\n")?),
-        Err(error) => refuse(rt, notes, file, error),
+        Err(error) => refuse(rt, told, file, error),
     }
 }
 
-impl<'a, W: io::Write> PictureWriter<'a, W> {
-    /// A writer, where it tells that memory was refused, and the notes that it keeps.
+impl<'a, T: Told, W: io::Write> PictureWriter<'a, T, W> {
+    /// A writer, what it does with pictures, where it tells that memory was refused, and who is told why a file can't be written.
     pub fn new(
         rt: &'a HostRuntime,
-        refused: &'a Cell<bool>,
-        notes: Option<&'a RefCell<Notes>>,
+        pictures: Pictures,
+        refused: &'a AtomicBool,
+        told: T,
         writer: W,
-    ) -> PictureWriter<'a, W> {
+    ) -> PictureWriter<'a, T, W> {
         PictureWriter {
             rt,
+            pictures,
             refused,
-            notes,
+            told,
             is_open: false,
             answer: Vec::new(rt.alloc()),
             writer,
@@ -98,8 +136,8 @@ impl<'a, W: io::Write> PictureWriter<'a, W> {
 
     /// Ends an answer with a picture: the picture is written, and the answer in its place.
     fn close(&mut self) -> io::Result<()> {
-        let told = draw(self.rt, self.notes, self.answer.as_slice())?;
-        self.writer.write_all(told.as_bytes())?;
+        let answer = draw(self.rt, self.pictures, &self.told, self.answer.as_slice())?;
+        self.writer.write_all(answer.as_bytes())?;
         self.answer.clear();
         self.is_open = false;
         Ok(())
@@ -119,7 +157,7 @@ impl<'a, W: io::Write> PictureWriter<'a, W> {
     }
 }
 
-impl<'a, W: io::Write> io::Write for PictureWriter<'a, W> {
+impl<'a, T: Told, W: io::Write> io::Write for PictureWriter<'a, T, W> {
     fn write(&mut self, buf: &[u8]) -> io::Result<usize> {
         let written = if self.is_open {
             self.take(buf)
@@ -128,7 +166,7 @@ impl<'a, W: io::Write> io::Write for PictureWriter<'a, W> {
         };
         if let Err(error) = &written {
             if error.kind() == ErrorKind::OutOfMemory {
-                self.refused.set(true);
+                self.refused.store(true, Ordering::SeqCst);
             }
         }
         written

@@ -106,7 +106,7 @@ fn report_fault(
 }
 
 /// Writes the network of a run to the file that it saves to, or says why it can't.
-fn save_net(
+pub fn save_net(
     rt: &HostRuntime,
     net: &Net,
     saving: Saving<'_>,

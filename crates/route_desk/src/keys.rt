@@ -1,9 +1,9 @@
-//! The keys of a network text: what each has to be, and which is nearest to one that there isn't.
+//! The keys of a network text and of SEATS: what each has to be, and which is nearest to one that there isn't.
 
 use net_text::Key;
 use toml::{Table, Value};
 
-/// A key of a network text, with what it has to be, and an example.
+/// A key of a text, with what it has to be, and an example.
 #[derive(Clone, Copy)]
 pub struct KeyForm {
     pub name: &'static str,
@@ -15,8 +15,19 @@ pub struct KeyForm {
     pub entry: &'static str,
 }
 
-/// All keys, in the order in which they are read.
-pub const KEYS: &[KeyForm] = &[
+/// A table of a text, by the keys that it may have.
+#[derive(Clone, Copy)]
+pub enum Keys {
+    /// A network text.
+    Network,
+    /// The text SEATS.
+    Seats,
+    /// A seat of it.
+    Seat,
+}
+
+/// All keys of a network text, in the order in which they are read.
+const NETWORK_KEYS: &[KeyForm] = &[
     KeyForm {
         name: "format",
         value: "1 or 2",
@@ -61,6 +72,80 @@ pub const KEYS: &[KeyForm] = &[
     },
 ];
 
+/// The one key of SEATS.
+const SEATS_KEYS: &[KeyForm] = &[KeyForm {
+    name: "seat",
+    value: "a list of tables, at least one",
+    example: "[[seat]]",
+    entry: "",
+}];
+
+/// All keys of a seat, in the order in which they are read.
+const SEAT_KEYS: &[KeyForm] = &[
+    KeyForm {
+        name: "name",
+        value: "1 to 32 letters, digits, - or _",
+        example: "name = \"console\"",
+        entry: "",
+    },
+    KeyForm {
+        name: "in",
+        value: "the name of a file or a FIFO, or - for standard input",
+        example: "in = \"console.in\"",
+        entry: "",
+    },
+    KeyForm {
+        name: "out",
+        value: "the name of a file or a FIFO, or - for standard output",
+        example: "out = \"console.out\"",
+        entry: "",
+    },
+    KeyForm {
+        name: "answers",
+        value: "text or json",
+        example: "answers = \"json\"",
+        entry: "",
+    },
+    KeyForm {
+        name: "posts",
+        value: "true or false",
+        example: "posts = false",
+        entry: "",
+    },
+    KeyForm {
+        name: "collector",
+        value: "a number from 0 to 255",
+        example: "collector = 1",
+        entry: "",
+    },
+    KeyForm {
+        name: "reopen",
+        value: "true or false",
+        example: "reopen = false",
+        entry: "",
+    },
+];
+
+impl Keys {
+    /// The form of each key.
+    pub fn forms(self) -> &'static [KeyForm] {
+        match self {
+            Keys::Network => NETWORK_KEYS,
+            Keys::Seats => SEATS_KEYS,
+            Keys::Seat => SEAT_KEYS,
+        }
+    }
+
+    /// All keys, in a sentence.
+    pub fn told(self) -> &'static str {
+        match self {
+            Keys::Network => "the keys are format, ni, tfr, points, pairs, sets and plans",
+            Keys::Seats => "the one key is seat, as [[seat]]",
+            Keys::Seat => "the keys are name, in, out, answers, posts, collector and reopen",
+        }
+    }
+}
+
 /// The name of a key, none of one that isn't known.
 pub fn name_of(key: Key) -> Option<&'static str> {
     match key {
@@ -76,8 +161,8 @@ pub fn name_of(key: Key) -> Option<&'static str> {
 }
 
 /// The form of a key of this name.
-pub fn form_of(name: &str) -> Option<&'static KeyForm> {
-    KEYS.iter().find(|form| form.name == name)
+pub fn form_of(keys: Keys, name: &str) -> Option<&'static KeyForm> {
+    keys.forms().iter().find(|form| form.name == name)
 }
 
 /// How many bytes two names have in common at their front and at their end.
@@ -95,9 +180,9 @@ fn likeness(one: &str, other: &str) -> usize {
 }
 
 /// The key that is nearest to a name, none if none has half of it.
-pub fn nearest(name: &str) -> Option<&'static str> {
+pub fn nearest(keys: Keys, name: &str) -> Option<&'static str> {
     let (mut found, mut most) = (None, (name.len() / 2).max(1));
-    for form in KEYS {
+    for form in keys.forms() {
         let like = likeness(form.name, name);
         if like > most || (like == most && found.is_none()) {
             most = like;

@@ -11,28 +11,33 @@
 //!    `--strict` nothing is saved if a line was refused.
 //! 2. `route_desk play NET STEPS` does the same with the script of the file STEPS, which is opened once the network is
 //!    loaded.
-//! 3. `route_desk check NET` works out the tables of all planned destinations of that network, by as many threads as
+//! 3. `route_desk serve NET SEATS` answers many sessions at one desk over the network of the file NET, each with the input and the
+//!    output that the file SEATS says, in a thread of its own. `--workers N` is 1 if it isn't given. A FIFO that a session reads is
+//!    opened again when its writers have gone, if SEATS doesn't say otherwise, and what was cut off in the middle of a line is dropped.
+//!    A fault of one session ends that session alone. Once all have ended the network is saved, if a file is named. With `--no-files`
+//!    pictures aren't written, and refused.
+//! 4. `route_desk check NET` works out the tables of all planned destinations of that network, by as many threads as
 //!    there are processors, checks each by the local rule, and writes `ok P` for P plans, or `bad X Y c` for the first
 //!    wrong one.
-//! 4. `route_desk picture NET` writes the network as a Graphviz DOT text, or with `--svg` as an SVG document; with `--about X`
+//! 5. `route_desk picture NET` writes the network as a Graphviz DOT text, or with `--svg` as an SVG document; with `--about X`
 //!    it shows how traffic goes to the destination X. The words `picture FILE` and `picture FILE X` of a script write the picture of
 //!    what is published then to a file.
-//! 5. `route_desk import DIR` writes the network text that the tables points.csv, sets.csv and routes.csv of a folder say;
+//! 6. `route_desk import DIR` writes the network text that the tables points.csv, sets.csv and routes.csv of a folder say;
 //!    `route_desk export NET DIR` writes these tables.
-//! 6. If standard input is a terminal, `run NET` says on standard error how large the network is, and prompts for each line there.
-//! 7. `route_desk explain WHAT` writes what the refusal, fault, cause or complaint of that number or name means and what
+//! 7. If standard input is a terminal, `run NET` says on standard error how large the network is, and prompts for each line there.
+//! 8. `route_desk explain WHAT` writes what the refusal, fault, cause or complaint of that number or name means and what
 //!    to do; without WHAT the title and the meaning of each, a line each.
-//! 8. It exits with 0 if the script was answered to its end: a refused line is no fault of a run, but with `--strict`; or if all
-//!    tables are right, or if what was asked for is explained, drawn or written.
-//! 9. It exits with 1 if a table is wrong, if the network isn't loaded, if there is no picture, or where memory, reading, writing or
-//!    the want of a place for a reader ended the run; in all but the first of these standard error has one line, `route_desk: ` and
-//!    the fault, but nothing if whoever read standard output went away. Memory that is wanting while the arguments are fetched is such
-//!    a fault.
-//! 10. It exits with 2 where the command line isn't read, with `clap`'s text on standard error, or one line if an argument
+//! 9. It exits with 0 if the script was answered to its end: a refused line is no fault of a run, but with `--strict`; or if all
+//!    sessions were, if all tables are right, or if what was asked for is explained, drawn or written.
+//! 10. It exits with 1 if a table is wrong, if the network or SEATS isn't loaded, if there is no picture, or where memory, reading,
+//!    writing or the want of a place for a reader ended the run or one of its sessions; in all but the first of these standard error
+//!    has one line, `route_desk: ` and the fault, but nothing if whoever read standard output went away. Each session that a fault
+//!    ended has such a line with its name. Memory that is wanting while the arguments are fetched is such a fault.
+//! 11. It exits with 2 where the command line isn't read, with `clap`'s text on standard error, or one line if an argument
 //!    isn't UTF-8, N is no number from 0 to 32, X is no signalling point code, or nothing is called WHAT. Help and the version are
 //!    printed on standard output, with 0.
 //!
-//! Stands on `net_saving`, `net_sheets`, `pictures`, `console`, `beside`, `explanations`, `json_answers`, `command_line`, `clap`. Nothing else changes with it.
+//! Stands on `net_saving`, `net_sheets`, `pictures`, `console`, `beside`, `serving`, `explanations`, `json_answers`, `command_line`, `clap`. Nothing else changes with it.
 #![tactic(auto)]
 
 mod drawing;
@@ -41,6 +46,7 @@ mod endings;
 mod explaining;
 mod files;
 mod fresh;
+mod held_lines;
 mod keys;
 mod loading;
 mod missing;
@@ -52,6 +58,14 @@ mod reasons;
 mod reports;
 mod runs;
 mod saying;
+mod seat_faults;
+mod seat_files;
+mod seat_inputs;
+mod seat_outputs;
+mod seat_reasons;
+mod seat_reports;
+mod seat_text;
+mod seating;
 mod sentences;
 mod sheets;
 mod standing;
@@ -65,11 +79,13 @@ ghost use Rattle.command_line.specs.Words.{IsWithin};
 use clap::Error;
 use command_line::{Order, WordFault, read_words};
 use console::Fault;
+use drawn::Pictures;
 use endings::{Saving, finish};
 use orders::{check, draw, explain, export, import};
 use reports::{report, tell_bytes};
 use runs::{Manner, play_file, run_net};
 use saying::{say, write_lines};
+use seating::{SeatManner, serve_seats};
 use std::alloc::{AllocError, Global};
 use std::io::ErrorKind;
 use std::process::ExitCode;
@@ -147,7 +163,15 @@ fn play(
     }
 }
 
-/// Does what the words of the command line ask for; a check and workers take threads.
+/// What is done with pictures, if files may be written or not.
+fn pictures_of(no_files: bool) -> Pictures {
+    if no_files {
+        return Pictures::Refused;
+    }
+    Pictures::Written
+}
+
+/// Does what the words of the command line ask for; a check, workers and sessions take threads.
 fn obey(
     rt: &HostRuntime,
     threads: &(impl Threads + Wait + Sync),
@@ -186,6 +210,22 @@ fn obey(
             };
             play(rt, net, steps, save, manner)
         }
+        Order::Serve {
+            net,
+            seats,
+            workers,
+            save,
+            explained,
+            json,
+            no_files,
+        } => {
+            let manner = SeatManner {
+                explained,
+                json,
+                pictures: pictures_of(no_files),
+            };
+            serve_seats(rt, threads, net, seats, workers, save, manner)
+        }
         Order::Check {
             net,
             explained,
@@ -220,7 +260,7 @@ fn refuse_workers(rt: &HostRuntime, explained: bool) -> io::Result<ExitCode> {
 }
 
 /// Reads the words of the command line, and does what they ask for.
-fn serve(
+fn follow(
     rt: &HostRuntime,
     threads: &(impl Threads + Wait + Sync),
     words: &[&str],
@@ -247,7 +287,7 @@ fn main(rt: HostRuntime) -> io::Result<ExitCode> {
         Err(error) => return report_unread(&rt, &error),
     };
     match texts(rt.alloc(), words.as_slice()) {
-        Ok(texts) => serve(&rt, &rt, texts.as_slice()),
+        Ok(texts) => follow(&rt, &rt, texts.as_slice()),
         Err(_) => report(&rt, Some(Fault::OutOfMemory)),
     }
 }

@@ -4,15 +4,15 @@ ghost use Rattle.std.specs.Prelude.{None, Some, is_some, if◌then◌else◌};
 
 use json_answers::Front;
 use std::alloc::Global;
-use std::cell::Cell;
 use std::io;
+use std::sync::atomic::{AtomicBool, Ordering};
 
 /// A writer that gets each answer as an object of JSON, if that is wanted.
 #[derive(Drop)]
 pub struct ObjectWriter<'a, W: io::Write> {
     alloc: Global,
     /// Where it is told that memory was refused, none if the answers stay as they are.
-    refused: Option<&'a Cell<bool>>,
+    refused: Option<&'a AtomicBool>,
     /// The answer that is being written.
     front: Front,
     writer: W,
@@ -20,7 +20,7 @@ pub struct ObjectWriter<'a, W: io::Write> {
 
 impl<'a, W: io::Write> ObjectWriter<'a, W> {
     /// A writer, and where it tells that memory was refused if its answers are to be objects.
-    pub fn new(alloc: Global, refused: Option<&'a Cell<bool>>, writer: W) -> ObjectWriter<'a, W> {
+    pub fn new(alloc: Global, refused: Option<&'a AtomicBool>, writer: W) -> ObjectWriter<'a, W> {
         ObjectWriter {
             alloc,
             refused,
@@ -43,7 +43,7 @@ impl<'a, W: io::Write> io::Write for ObjectWriter<'a, W> {
                 Ok(buf.len())
             }
             Err(error) => {
-                refused.set(true);
+                refused.store(true, Ordering::SeqCst);
                 Err(io::Error::from(error))
             }
         }
@@ -55,7 +55,7 @@ impl<'a, W: io::Write> io::Write for ObjectWriter<'a, W> {
 }
 
 /// Where it is told that memory was refused, if answers are to be objects.
-pub fn place_if(json: bool, refused: &Cell<bool>) -> Option<&Cell<bool>> {
+pub fn place_if(json: bool, refused: &AtomicBool) -> Option<&AtomicBool> {
     if json {
         return Some(refused);
     }

@@ -1,4 +1,4 @@
-//! Where an entry of a network text stands.
+//! Where an entry of a network text stands, or a seat of SEATS and its keys.
 
 /// A place in a text: its line, and its byte in the line, both from 1.
 #[derive(Clone, Copy)]
@@ -30,12 +30,83 @@ fn without_spaces(text: &[u8]) -> &[u8] {
     }
 }
 
-/// Whether a line begins with a key.
+/// A text without a bracket before it and the spaces before that and behind it, if there is one.
+fn without_bracket(text: &[u8]) -> &[u8] {
+    let text = without_spaces(text);
+    match text.strip_prefix(b"[") {
+        Some(after) => without_spaces(after),
+        None => text,
+    }
+}
+
+/// What follows a key that a line begins with, or that it is the header of.
+fn after_key<'a>(line: &'a [u8], key: &str) -> Option<&'a [u8]> {
+    let front = without_bracket(without_bracket(line));
+    match front.strip_prefix(key.as_bytes()) {
+        Some(after) => Some(without_spaces(after)),
+        None => None,
+    }
+}
+
+/// Whether a line begins with a key, or is the header of its table.
 fn begins_with(line: &[u8], key: &str) -> bool {
-    match without_spaces(line).strip_prefix(key.as_bytes()) {
-        Some(after) => without_spaces(after).starts_with(b"="),
+    match after_key(line, key) {
+        Some(after) => after.starts_with(b"=") || after.starts_with(b"]"),
         None => false,
     }
+}
+
+/// Whether a line is a header of a table.
+fn is_header(line: &[u8]) -> bool {
+    without_spaces(line).starts_with(b"[")
+}
+
+/// A part of a text, and how many lines come before it.
+#[derive(Clone, Copy)]
+pub struct Section<'a> {
+    pub bytes: &'a [u8],
+    pub before: u64,
+}
+
+impl Section<'_> {
+    /// The place in the whole text of a place in the part.
+    pub fn place(&self, place: Place) -> Place {
+        Place {
+            line: place.line.saturating_add(self.before),
+            column: place.column,
+        }
+    }
+}
+
+/// A part of a text up to the next header behind its first line.
+fn up_to_header(bytes: &[u8], before: u64) -> Section<'_> {
+    let mut end = 0usize;
+    for line in bytes.split(|byte| *byte == b'\n') {
+        if end > 0 && is_header(line) {
+            break;
+        }
+        end = end.saturating_add(line.len()).saturating_add(1);
+    }
+    Section {
+        bytes: bytes.get(..end).unwrap_or(bytes),
+        before,
+    }
+}
+
+/// The part of a text from a header of a table on, by its position among those of the same name, up to the next header.
+pub fn section_of<'a>(text: &'a [u8], name: &str, position: usize) -> Option<Section<'a>> {
+    let (mut bytes, mut lines, mut left) = (0usize, 0u64, position);
+    for line in text.split(|byte| *byte == b'\n') {
+        if is_header(line) && begins_with(line, name) {
+            if left == 0 {
+                return Some(up_to_header(text.get(bytes..).unwrap_or(&[]), lines));
+            }
+            left = left.saturating_sub(1);
+        }
+        lines = lines.saturating_add(1);
+        bytes = bytes.saturating_add(line.len()).saturating_add(1);
+    }
+    None
 }
 
 /// The line that begins with a key, from 1, and all from there on.

@@ -1,6 +1,6 @@
 //! Why a run ends early, in a sentence on standard error: what is wrong, where, and what to do.
 
-use crate::keys::{KeyForm, entry_at, entry_without_text, form_of, name_of, nearest};
+use crate::keys::{KeyForm, Keys, entry_at, entry_without_text, form_of, name_of, nearest};
 use crate::places::{Place, place_at, place_of};
 use crate::saying::say;
 use crate::sentences::front_of;
@@ -16,13 +16,13 @@ use toml::Table;
 
 /// Where in a text something is wrong, and what.
 #[derive(Drop)]
-struct Wrong {
-    place: Option<Place>,
-    sentence: String,
+pub struct Wrong {
+    pub place: Option<Place>,
+    pub sentence: String,
 }
 
 /// Says what is wrong with a text, and where, if that is known.
-fn tell(rt: &HostRuntime, name: &str, wrong: Result<Wrong, AllocError>) {
+pub fn tell(rt: &HostRuntime, name: &str, wrong: Result<Wrong, AllocError>) {
     let Ok(wrong) = wrong else {
         return;
     };
@@ -49,7 +49,7 @@ fn write_document(
 }
 
 /// Where a text is no TOML document, and why.
-fn wrong_document(alloc: Global, bytes: &[u8]) -> Result<Wrong, AllocError> {
+pub fn wrong_document(alloc: Global, bytes: &[u8]) -> Result<Wrong, AllocError> {
     match toml::table_from_slice(alloc, bytes) {
         Ok(_) => Err(AllocError),
         Err(error) => write_document(alloc, bytes, &error),
@@ -57,23 +57,23 @@ fn wrong_document(alloc: Global, bytes: &[u8]) -> Result<Wrong, AllocError> {
 }
 
 /// What there is to say of a key that isn't known.
-fn write_unknown(alloc: Global, name: &str) -> Result<String, AllocError> {
-    let keys = "the keys are format, ni, tfr, points, pairs, sets and plans";
-    if name == "tfr" {
+fn write_unknown(alloc: Global, keys: Keys, name: &str) -> Result<String, AllocError> {
+    let told = keys.told();
+    if form_of(keys, name).is_some() {
         return String::from_str(
             alloc,
             "tfr is a key of format 2 alone: write format = 2, or leave it out",
         );
     }
-    match nearest(name) {
-        Some(nearest) => format!(in alloc; "there is no key {name}; is {nearest} meant? {keys}"),
-        None => format!(in alloc; "there is no key {name}; {keys}"),
+    match nearest(keys, name) {
+        Some(nearest) => format!(in alloc; "there is no key {name}; is {nearest} meant? {told}"),
+        None => format!(in alloc; "there is no key {name}; {told}"),
     }
 }
 
-/// Whether a key of a document is none that it may have: any key is known, but `tfr` only if the format isn't 1.
-fn is_unknown(table: &Table, name: &str) -> bool {
-    if form_of(name).is_none() {
+/// Whether a key of a table is none that it may have: any key is known, but `tfr` only if the format isn't 1.
+pub fn is_unknown(keys: Keys, table: &Table, name: &str) -> bool {
+    if form_of(keys, name).is_none() {
         return true;
     }
     let format = match table.get("format") {
@@ -93,11 +93,16 @@ fn is_before(place: Option<Place>, other: Option<Place>) -> bool {
 }
 
 /// The first key of a text that isn't known.
-fn wrong_name(alloc: Global, bytes: &[u8], table: &Table) -> Result<Wrong, AllocError> {
+pub fn wrong_name(
+    alloc: Global,
+    keys: Keys,
+    bytes: &[u8],
+    table: &Table,
+) -> Result<Wrong, AllocError> {
     let (mut found, mut first): (Option<&String>, Option<Place>) = (None, None);
     for name in table.keys() {
         let place = place_of(bytes, name.as_str(), 0);
-        if is_unknown(table, name.as_str()) && (found.is_none() || is_before(place, first)) {
+        if is_unknown(keys, table, name.as_str()) && (found.is_none() || is_before(place, first)) {
             found = Some(name);
             first = place;
         }
@@ -105,21 +110,21 @@ fn wrong_name(alloc: Global, bytes: &[u8], table: &Table) -> Result<Wrong, Alloc
     let name = found.map_or("", |name| name.as_str());
     Ok(Wrong {
         place: first,
-        sentence: write_unknown(alloc, name)?,
+        sentence: write_unknown(alloc, keys, name)?,
     })
 }
 
 /// What is wrong with the value of a key.
-fn write_value(alloc: Global, table: &Table, form: &KeyForm) -> Result<String, AllocError> {
+pub fn write_value(alloc: Global, table: &Table, form: &KeyForm) -> Result<String, AllocError> {
     let (name, value, example) = (form.name, form.value, form.example);
     let Some(given) = table.get(name) else {
         return format!(in alloc; "the key {name} is missing: it has to be {value}, as {example}");
     };
     match entry_without_text(given) {
-        Some(place) => {
+        Some(place) if !form.entry.is_empty() => {
             format!(in alloc; "{name} has to be {value}, and entry {place} is none, as {example}")
         }
-        None => format!(in alloc; "{name} has to be {value}, as {example}"),
+        _ => format!(in alloc; "{name} has to be {value}, as {example}"),
     }
 }
 
@@ -129,8 +134,8 @@ fn wrong_key(alloc: Global, bytes: &[u8], key: Key) -> Result<Wrong, AllocError>
         Ok(table) => table,
         Err(_) => return Err(AllocError),
     };
-    let Some(form) = name_of(key).and_then(|name| form_of(name)) else {
-        return wrong_name(alloc, bytes, &table);
+    let Some(form) = name_of(key).and_then(|name| form_of(Keys::Network, name)) else {
+        return wrong_name(alloc, Keys::Network, bytes, &table);
     };
     Ok(Wrong {
         place: place_of(bytes, form.name, 0),
@@ -199,7 +204,7 @@ fn wrong_entry(
 /// That an entry can't be read, and what one is.
 fn write_unread(alloc: Global, key: Key) -> Result<String, AllocError> {
     let name = name_of(key).unwrap_or("");
-    let entry = form_of(name).map_or("", |form| form.entry);
+    let entry = form_of(Keys::Network, name).map_or("", |form| form.entry);
     format!(in alloc; "the entry can't be read; an entry of {name} is {entry}")
 }
 

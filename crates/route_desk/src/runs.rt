@@ -3,7 +3,7 @@
 
 ghost use Rattle.std.specs.Prelude.{◌≤◌};
 
-use crate::drawn::PictureWriter;
+use crate::drawn::{PictureWriter, Pictures};
 use crate::explaining::{NotedReader, NotedWriter};
 use crate::loading::{explain_input, load_file, open_file};
 use crate::notes::Notes;
@@ -69,6 +69,7 @@ fn input_notes(alloc: Global, explained: bool) -> Option<RefCell<Notes>> {
 /// counted, and it is made objects of JSON if that is wanted.
 type Answers<'a> = PictureWriter<
     'a,
+    Option<&'a RefCell<Notes>>,
     NotedWriter<'a, CountingWriter<'a, ObjectWriter<'a, SeenWriter<'a, Printer<'a, HostRuntime>>>>>,
 >;
 
@@ -84,7 +85,7 @@ fn answers_to<'a>(
     let objects = ObjectWriter::new(rt.alloc(), place, output);
     let counted = CountingWriter::new(manner.strict.then_some(seen), objects);
     let noted = NotedWriter::new(rt, notes, counted);
-    PictureWriter::new(rt, &seen.is_out_of_memory, notes, noted)
+    PictureWriter::new(rt, Pictures::Written, &seen.is_out_of_memory, notes, noted)
 }
 
 /// Runs the script of a reader from a network, in line or beside that many workers.

@@ -1,66 +1,84 @@
-//! Standard input and output of a run: what the system says where one of them fails, and how many answers are refusals.
+//! The input and the output of a run: what the system says where one of them fails, and how many answers are refusals.
 
 use console::{Fault, ScriptEnd};
-use std::cell::Cell;
 use std::io;
 use std::io::ErrorKind;
+use std::sync::atomic::{AtomicBool, AtomicI32, AtomicU64, Ordering};
 
 /// What begins the answer to a refused line.
 const REFUSED: &[u8] = b"refused ";
 
-/// What is seen of a run by its reader and its writers.
+/// What is seen of a run by its reader and its writers. They may be in another thread.
 #[derive(Drop)]
 pub struct Seen {
-    /// Whether memory was refused for an object of JSON or a picture.
-    pub is_out_of_memory: Cell<bool>,
-    /// The system's number of what was wrong with standard input.
-    input: Cell<Option<i32>>,
-    /// The same of standard output.
-    output: Cell<Option<i32>>,
+    /// Whether memory was refused for an object of JSON, a picture or what a reader holds back.
+    pub is_out_of_memory: AtomicBool,
+    /// The system's number of what was wrong with the input, 0 if it isn't known.
+    input: AtomicI32,
+    /// The same of the output.
+    output: AtomicI32,
     /// How many lines were refused, 0 if that isn't counted.
-    refused: Cell<u64>,
+    refused: AtomicU64,
 }
 
 impl Seen {
     /// Nothing yet.
     pub fn new() -> Seen {
         Seen {
-            is_out_of_memory: Cell::new(false),
-            input: Cell::new(None),
-            output: Cell::new(None),
-            refused: Cell::new(0),
+            is_out_of_memory: AtomicBool::new(false),
+            input: AtomicI32::new(0),
+            output: AtomicI32::new(0),
+            refused: AtomicU64::new(0),
         }
     }
 
     /// How many lines were refused, 0 if that isn't counted.
     pub fn refused(&self) -> u64 {
-        self.refused.get()
+        self.refused.load(Ordering::SeqCst)
+    }
+
+    /// What the system said of the input or the output, if one of them ended a run with that fault.
+    pub fn error_of(&self, fault: &Fault) -> Option<io::Error> {
+        let number = match fault {
+            Fault::Read => self.input.load(Ordering::SeqCst),
+            Fault::Write => self.output.load(Ordering::SeqCst),
+            _ => 0,
+        };
+        if number == 0 {
+            return None;
+        }
+        Some(io::Error::from_raw_os_error(number))
     }
 
     /// What the system said of standard input or output, if one of them ended the run with that fault, with its name.
     pub fn reason_of(&self, fault: &Fault) -> Option<(&'static str, io::Error)> {
-        let (name, number) = match fault {
-            Fault::Read => ("standard input", self.input.get()?),
-            Fault::Write => ("standard output", self.output.get()?),
-            _ => return None,
-        };
-        Some((name, io::Error::from_raw_os_error(number)))
+        let error = self.error_of(fault)?;
+        match fault {
+            Fault::Read => Some(("standard input", error)),
+            _ => Some(("standard output", error)),
+        }
+    }
+
+    /// The fault of a run that ended with a fault, or with none: if memory for what it reads or writes was refused, that was it.
+    pub fn fault_of(&self, fault: Option<Fault>) -> Option<Fault> {
+        if self.is_out_of_memory.load(Ordering::SeqCst) {
+            return Some(Fault::OutOfMemory);
+        }
+        fault
     }
 
     /// The end of a run: if memory for an object or a picture was refused, that was its fault.
     pub fn end_of(&self, mut end: ScriptEnd) -> ScriptEnd {
-        if self.is_out_of_memory.get() {
-            end.fault = Some(Fault::OutOfMemory);
-        }
+        end.fault = self.fault_of(end.fault);
         end
     }
 }
 
 /// Notes what the system said, if it isn't that the call was interrupted, which is tried again.
-fn note<T>(told: &io::Result<T>, place: &Cell<Option<i32>>) {
+fn note<T>(told: &io::Result<T>, place: &AtomicI32) {
     if let Err(error) = told {
         if error.kind() != ErrorKind::Interrupted {
-            place.set(error.raw_os_error());
+            place.store(error.raw_os_error().unwrap_or(0), Ordering::SeqCst);
         }
     }
 }
@@ -155,7 +173,9 @@ fn count_refusals(seen: &Seen, mut begun: Option<usize>, bytes: &[u8]) -> Option
     for byte in bytes {
         begun = begun_after(begun, *byte);
         if begun == Some(REFUSED.len()) {
-            seen.refused.set(seen.refused.get().saturating_add(1));
+            let so_far = seen.refused.load(Ordering::SeqCst);
+            seen.refused
+                .store(so_far.saturating_add(1), Ordering::SeqCst);
         }
     }
     begun

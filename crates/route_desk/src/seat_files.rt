@@ -1,0 +1,271 @@
+//! The files of seats: what each is, and what is surely wrong with one, found out before anything is run.
+
+use crate::seat_faults::Flaw;
+use crate::seat_text::SeatEntry;
+use crate::targets::{Target, target_of};
+use std::alloc::AllocError;
+use std::fs::{File, Metadata, OpenOptions};
+use std::io::ErrorKind;
+use std::os::fd::AsRawFd;
+use std::os::unix::fs::{FileTypeExt, MetadataExt};
+use std::{fs, io};
+
+/// What a seat reads.
+#[derive(Clone, Copy, PartialEq, Eq)]
+pub enum InputKind {
+    /// Standard input.
+    Standard,
+    /// A file, or a FIFO whose end is the end.
+    File,
+    /// A FIFO that is opened again when its writers have gone.
+    Fifo,
+}
+
+/// What a seat writes.
+#[derive(Drop)]
+pub enum OutputKind {
+    /// Standard output.
+    Standard,
+    /// A regular file, which is open.
+    File(File),
+    /// A FIFO or a device, which is opened at the first write: to open a FIFO waits for a reader.
+    Later,
+}
+
+/// Why seats can't be run.
+#[derive(Drop)]
+pub enum StreamFault {
+    /// The entry in this place, counted from 0, is wrong.
+    Entry(usize, Flaw),
+    /// The input of the seat in this place can't be read, for what the system says.
+    Read(usize, io::Error),
+    /// The output of the seat in this place can't be written, for what the system says.
+    Write(usize, io::Error),
+    /// Memory was refused.
+    OutOfMemory,
+}
+
+impl From<AllocError> for StreamFault {
+    fn from(_refused: AllocError) -> StreamFault {
+        StreamFault::OutOfMemory
+    }
+}
+
+/// What has no content, and can be opened by anyone.
+const NOTHING: &str = "/dev/null";
+
+/// The greatest number of a standard stream.
+const LAST_STANDARD: i32 = 2;
+
+/// Opens what has no content, to be read or to be written.
+fn open_nothing(rt: &HostRuntime, is_read: bool) -> io::Result<File> {
+    let mut how = OpenOptions::new();
+    how.read(is_read);
+    how.write(!is_read);
+    how.open(rt, NOTHING)
+}
+
+/// A file that has the least number that is free, if that is the number of a standard stream: it can't be used as that one.
+fn hold_next(rt: &HostRuntime) -> io::Result<Option<File>> {
+    let file = open_nothing(rt, false)?;
+    let number = file.as_raw_fd();
+    if number > LAST_STANDARD {
+        return Ok(None);
+    }
+    if number == 0 {
+        return Ok(Some(file));
+    }
+    drop(file);
+    Ok(Some(open_nothing(rt, true)?))
+}
+
+/// Holds the numbers of those standard streams that are closed: a file of a seat that got one would be read or written in its place.
+pub fn hold_closed(rt: &HostRuntime) -> Result<Vec<File>, AllocError> {
+    let mut held = Vec::new(rt.alloc());
+    for _number in 0..=LAST_STANDARD {
+        let Ok(Some(file)) = hold_next(rt) else {
+            break;
+        };
+        if held.push(file).is_err() {
+            return Err(AllocError);
+        }
+    }
+    Ok(held)
+}
+
+/// Whether a name leads to a FIFO.
+fn is_fifo(rt: &HostRuntime, name: &str) -> bool {
+    match fs::metadata(rt, name) {
+        Ok(it) => it.file_type().is_fifo(),
+        Err(_) => false,
+    }
+}
+
+/// Tries whether an input can be read, as far as that is known without waiting for a writer.
+fn try_input(rt: &HostRuntime, name: &str) -> io::Result<()> {
+    if name == "-" {
+        return Ok(());
+    }
+    let kind = fs::metadata(rt, name)?.file_type();
+    if kind.is_dir() {
+        return Err(io::Error::new(ErrorKind::IsADirectory, "a folder isn't read"));
+    }
+    if kind.is_socket() {
+        return Err(io::Error::new(ErrorKind::InvalidInput, "a socket isn't read"));
+    }
+    if kind.is_file() {
+        let _file = fs::open(rt, name)?;
+    }
+    Ok(())
+}
+
+/// What the input of an entry is.
+fn input_of(rt: &HostRuntime, entry: &SeatEntry) -> Result<InputKind, Flaw> {
+    let name = entry.input.as_str();
+    match (name != "-" && is_fifo(rt, name), entry.reopen) {
+        (true, Some(false)) => Ok(InputKind::File),
+        (true, _) => Ok(InputKind::Fifo),
+        (false, Some(_)) => Err(Flaw::NoFifo),
+        (false, None) if name == "-" => Ok(InputKind::Standard),
+        (false, None) => Ok(InputKind::File),
+    }
+}
+
+/// What the inputs of all entries are.
+pub fn inputs_of(rt: &HostRuntime, entries: &[SeatEntry]) -> Result<Vec<InputKind>, StreamFault> {
+    let mut kinds = Vec::with_capacity(rt.alloc(), entries.len())?;
+    for (place, entry) in entries.iter().enumerate() {
+        if let Err(error) = try_input(rt, entry.input.as_str()) {
+            return Err(StreamFault::Read(place, error));
+        }
+        match input_of(rt, entry) {
+            Ok(kind) => {
+                if kinds.push(kind).is_err() {
+                    return Err(StreamFault::OutOfMemory);
+                }
+            }
+            Err(flaw) => return Err(StreamFault::Entry(place, flaw)),
+        }
+    }
+    Ok(kinds)
+}
+
+/// Opens a regular file that is there, or makes one that isn't. What has come into its place meanwhile, and is none, is left alone.
+fn open_regular(rt: &HostRuntime, path: &str, is_there: bool) -> io::Result<OutputKind> {
+    let mut how = OpenOptions::new();
+    how.write(true);
+    how.create_new(!is_there);
+    let file = how.open(rt, path)?;
+    if !file.metadata()?.is_file() {
+        return Err(io::Error::new(ErrorKind::InvalidInput, "this is no file"));
+    }
+    Ok(OutputKind::File(file))
+}
+
+/// Opens an output, if that doesn't wait.
+fn open_output(rt: &HostRuntime, name: &str) -> io::Result<OutputKind> {
+    if name == "-" {
+        return Ok(OutputKind::Standard);
+    }
+    if is_fifo(rt, name) {
+        return Ok(OutputKind::Later);
+    }
+    match target_of(rt, name)? {
+        Target::Device => Ok(OutputKind::Later),
+        Target::File { path, there } => open_regular(rt, path.as_str(), there.is_some()),
+    }
+}
+
+/// Opens the outputs of all entries, if that doesn't wait.
+fn open_outputs(rt: &HostRuntime, entries: &[SeatEntry]) -> Result<Vec<OutputKind>, StreamFault> {
+    let mut outputs = Vec::with_capacity(rt.alloc(), entries.len())?;
+    for (place, entry) in entries.iter().enumerate() {
+        match open_output(rt, entry.output.as_str()) {
+            Ok(output) => {
+                if outputs.push(output).is_err() {
+                    return Err(StreamFault::OutOfMemory);
+                }
+            }
+            Err(error) => return Err(StreamFault::Write(place, error)),
+        }
+    }
+    Ok(outputs)
+}
+
+/// Which file a name leads to.
+#[derive(Clone, Copy, PartialEq, Eq)]
+struct Identity {
+    device: u64,
+    node: u64,
+}
+
+/// Whether what is there is read or written by one seat alone: a device may serve several under its names.
+fn is_own(it: &Metadata) -> bool {
+    it.is_file() || it.file_type().is_fifo()
+}
+
+/// Which regular file or FIFO a name leads to, none if it is another thing.
+fn identity_of(rt: &HostRuntime, name: &str) -> Option<Identity> {
+    if name == "-" {
+        return None;
+    }
+    match fs::metadata(rt, name) {
+        Ok(it) if is_own(&it) => Some(Identity {
+            device: it.dev(),
+            node: it.ino(),
+        }),
+        _ => None,
+    }
+}
+
+/// Notes which file a name leads to; whether that was noted before.
+fn is_noted(rt: &HostRuntime, noted: &mut Vec<Identity>, name: &str) -> Result<bool, StreamFault> {
+    let Some(identity) = identity_of(rt, name) else {
+        return Ok(false);
+    };
+    if noted.as_slice().contains(&identity) {
+        return Ok(true);
+    }
+    if noted.push(identity).is_err() {
+        return Err(StreamFault::OutOfMemory);
+    }
+    Ok(false)
+}
+
+/// The first entry with a file that is that of another, or of its other key, under whatever name.
+fn find_doubled(rt: &HostRuntime, entries: &[SeatEntry]) -> Result<(), StreamFault> {
+    let mut noted = Vec::new(rt.alloc());
+    for (place, entry) in entries.iter().enumerate() {
+        if is_noted(rt, &mut noted, entry.input.as_str())? {
+            return Err(StreamFault::Entry(place, Flaw::FileTwice("in")));
+        }
+        if is_noted(rt, &mut noted, entry.output.as_str())? {
+            return Err(StreamFault::Entry(place, Flaw::FileTwice("out")));
+        }
+    }
+    Ok(())
+}
+
+/// Cuts the open files to nothing.
+fn cut(outputs: &[OutputKind]) -> Result<(), StreamFault> {
+    for (place, output) in outputs.iter().enumerate() {
+        if let OutputKind::File(file) = output {
+            if let Err(error) = file.set_len(0) {
+                return Err(StreamFault::Write(place, error));
+            }
+        }
+    }
+    Ok(())
+}
+
+/// Opens the outputs of all entries: regular files are made, or cut to nothing once it is known that nothing is wrong with any file.
+pub fn outputs_of(rt: &HostRuntime, entries: &[SeatEntry]) -> Result<Vec<OutputKind>, StreamFault> {
+    let outputs = open_outputs(rt, entries)?;
+    if let Err(fault) = find_doubled(rt, entries) {
+        return Err(fault);
+    }
+    match cut(outputs.as_slice()) {
+        Ok(()) => Ok(outputs),
+        Err(fault) => Err(fault),
+    }
+}

@@ -1,0 +1,88 @@
+//! Where the answers of a seat go, and who is told why a picture isn't written.
+
+use crate::drawn::Told;
+use crate::reasons::write_reason;
+use crate::saying::say;
+use crate::seat_files::OutputKind;
+use crate::seat_text::SeatEntry;
+use std::fs::{File, OpenOptions};
+use std::io;
+use std::io::{ErrorKind, Printer, Write};
+
+/// A FIFO or a device, which is opened at the first write: to open a FIFO waits for a reader.
+#[derive(Drop)]
+pub struct LaterOutput<'a> {
+    rt: &'a HostRuntime,
+    name: &'a str,
+    file: Option<File>,
+}
+
+impl<'a> LaterOutput<'a> {
+    /// The file, opened if it isn't yet. It is neither made nor cut.
+    fn opened(&mut self) -> io::Result<&mut File> {
+        if self.file.is_none() {
+            let mut how = OpenOptions::new();
+            how.write(true);
+            self.file = Some(how.open(self.rt, self.name)?);
+        }
+        match &mut self.file {
+            Some(file) => Ok(file),
+            None => Err(io::Error::from(ErrorKind::NotFound)),
+        }
+    }
+}
+
+/// Where the answers of a seat go.
+#[derive(Drop)]
+pub enum SeatOutput<'a> {
+    /// Standard output.
+    Standard(Printer<'a, HostRuntime>),
+    /// A regular file.
+    Open(File),
+    /// A FIFO or a device.
+    Later(LaterOutput<'a>),
+}
+
+impl<'a> SeatOutput<'a> {
+    /// The output of an entry.
+    pub fn new(rt: &'a HostRuntime, entry: &'a SeatEntry, kind: OutputKind) -> SeatOutput<'a> {
+        match kind {
+            OutputKind::Standard => SeatOutput::Standard(io::writer(rt)),
+            OutputKind::File(file) => SeatOutput::Open(file),
+            OutputKind::Later => SeatOutput::Later(LaterOutput {
+                rt,
+                name: entry.output.as_str(),
+                file: None,
+            }),
+        }
+    }
+}
+
+impl<'a> io::Write for SeatOutput<'a> {
+    fn write(&mut self, buf: &[u8]) -> io::Result<usize> {
+        match self {
+            SeatOutput::Standard(output) => output.write(buf),
+            SeatOutput::Open(file) => file.write(buf),
+            SeatOutput::Later(output) => output.opened()?.write(buf),
+        }
+    }
+
+    fn flush(&mut self) -> io::Result<()> {
+        Ok(())
+    }
+}
+
+/// A seat whose pictures that aren't written are told on standard error, if that is wanted.
+#[derive(Drop)]
+pub struct SeatTold<'a> {
+    /// The name of the seat, none if nothing is told.
+    pub seat: Option<&'a str>,
+}
+
+impl<'a> Told for SeatTold<'a> {
+    fn tell(&self, rt: &HostRuntime, file: &str, error: &io::Error) {
+        if let (Some(seat), Ok(reason)) = (self.seat, write_reason(rt.alloc(), file, error)) {
+            say(rt, &[seat, ": ", reason.as_str()]);
+        }
+    }
+}

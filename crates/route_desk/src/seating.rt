@@ -1,0 +1,315 @@
+//! The order `serve`: many sessions at one desk, each with its own input and output.
+
+ghost use Rattle.std.specs.Prelude.{◌≤◌};
+
+use crate::drawn::{PictureWriter, Pictures};
+use crate::endings::{Saving, save_net};
+use crate::loading::load_file;
+use crate::objects::{ObjectWriter, place_if};
+use crate::reasons::explain_file;
+use crate::reports::report;
+use crate::seat_files::{InputKind, OutputKind, hold_closed, inputs_of, outputs_of};
+use crate::seat_inputs::SeatInput;
+use crate::seat_outputs::{SeatOutput, SeatTold};
+use crate::seat_reports::{SeatsText, refuse_desk, refuse_streams, refuse_text, tell_end};
+use crate::seat_text::{SeatEntry, read_seats};
+use crate::streams::{Seen, SeenReader, SeenWriter};
+use console::Fault;
+use net_data::Net;
+use serving::{Channel, DeskEnd, run_seats};
+use std::alloc::{AllocError, Global};
+use std::io::ErrorKind;
+use std::process::ExitCode;
+use std::sync::Wait;
+use std::thread::Threads;
+use std::{fs, io};
+use worker_pool::Plain;
+
+/// How the sessions of a desk tell what they do.
+#[derive(Clone, Copy)]
+pub struct SeatManner {
+    /// Whether a fault is explained on standard error.
+    pub explained: bool,
+    /// Whether each answer is an object of JSON, if a seat doesn't say it otherwise.
+    pub json: bool,
+    /// What is done with pictures.
+    pub pictures: Pictures,
+}
+
+/// The lines of a seat, of which it is seen why they can't be read.
+type Lines<'a> = SeenReader<'a, SeatInput<'a>>;
+
+/// The answers of a seat: pictures go to their files, the rest is made objects of JSON if that is wanted.
+type Answers<'a> = PictureWriter<
+    'a,
+    SeatTold<'a>,
+    ObjectWriter<'a, SeenWriter<'a, SeatOutput<'a>>>,
+>;
+
+/// The lines of a seat.
+fn lines_of<'a>(
+    rt: &'a HostRuntime,
+    entry: &'a SeatEntry,
+    kind: InputKind,
+    seen: &'a Seen,
+) -> Lines<'a> {
+    SeenReader::new(
+        seen,
+        SeatInput::new(rt, entry, kind, &seen.is_out_of_memory),
+    )
+}
+
+/// The answers of a seat.
+fn answers_of<'a>(
+    rt: &'a HostRuntime,
+    entry: &'a SeatEntry,
+    kind: OutputKind,
+    seen: &'a Seen,
+    manner: SeatManner,
+) -> Answers<'a> {
+    let output = SeenWriter::new(seen, SeatOutput::new(rt, entry, kind));
+    let json = entry.json.unwrap_or(manner.json);
+    let objects = ObjectWriter::new(rt.alloc(), place_if(json, &seen.is_out_of_memory), output);
+    let told = SeatTold {
+        seat: manner.explained.then_some(entry.name.as_str()),
+    };
+    PictureWriter::new(rt, manner.pictures, &seen.is_out_of_memory, told, objects)
+}
+
+/// The sessions of all seats.
+fn channels_of<'a>(
+    rt: &'a HostRuntime,
+    entries: &'a [SeatEntry],
+    inputs: &[InputKind],
+    outputs: Vec<OutputKind>,
+    seen: &'a [Seen],
+    manner: SeatManner,
+) -> Result<Vec<Channel<Lines<'a>, Answers<'a>>>, AllocError> {
+    let mut channels = Vec::with_capacity(rt.alloc(), entries.len())?;
+    let mut outputs = outputs.into_iter();
+    for (place, entry) in entries.iter().enumerate() {
+        let (Some(input), Some(output), Some(seen)) = (
+            inputs.get(place),
+            outputs.next(),
+            seen.get(place),
+        ) else {
+            break;
+        };
+        let channel = Channel {
+            reader: lines_of(rt, entry, *input, seen),
+            writer: answers_of(rt, entry, output, seen, manner),
+            posts: entry.posts,
+            collector: entry.collector,
+        };
+        if channels.push(channel).is_err() {
+            return Err(AllocError);
+        }
+    }
+    Ok(channels)
+}
+
+/// What is seen of each of so many seats: nothing yet.
+fn unseen(alloc: Global, count: usize) -> Result<Vec<Seen>, AllocError> {
+    let mut seen = Vec::with_capacity(alloc, count)?;
+    for _ in 0..count {
+        if seen.push(Seen::new()).is_err() {
+            return Err(AllocError);
+        }
+    }
+    Ok(seen)
+}
+
+/// Says of each seat why it ended early, in the order of the text; whether one did.
+fn tell_ends(
+    rt: &HostRuntime,
+    entries: &[SeatEntry],
+    seen: &[Seen],
+    end: &DeskEnd<Lines<'_>, Answers<'_>>,
+    explained: bool,
+) -> bool {
+    let mut is_any = false;
+    for (place, entry) in entries.iter().enumerate() {
+        if let (Some(seen), Some(end)) = (seen.get(place), end.ends.get(place)) {
+            is_any |= tell_end(rt, entry, seen, end.fault, explained);
+        }
+    }
+    is_any
+}
+
+/// Saves the network of a desk that was run, if a file is named, and says why it can't.
+fn save_end(
+    rt: &HostRuntime,
+    net: Option<&Net>,
+    saving: Option<Saving<'_>>,
+    explained: bool,
+) -> io::Result<ExitCode> {
+    match (net, saving) {
+        (_, None) => Ok(ExitCode::SUCCESS),
+        (Some(net), Some(saving)) => save_net(rt, net, saving, explained),
+        (None, Some(_)) => report(rt, Some(Fault::OutOfMemory)),
+    }
+}
+
+/// Ends a desk that was run: says which seats ended early, and saves its network if a file is named.
+fn finish_seats(
+    rt: &HostRuntime,
+    entries: &[SeatEntry],
+    seen: &[Seen],
+    end: &DeskEnd<Lines<'_>, Answers<'_>>,
+    saving: Option<Saving<'_>>,
+    explained: bool,
+) -> io::Result<ExitCode> {
+    let is_any = tell_ends(rt, entries, seen, end, explained);
+    let saved = save_end(rt, end.net.as_ref(), saving, explained)?;
+    if is_any {
+        return Ok(ExitCode::from(1));
+    }
+    Ok(saved)
+}
+
+/// Runs the sessions of all seats at a desk over a network, beside that many workers.
+fn run_channels<'a>(
+    rt: &HostRuntime,
+    threads: &(impl Threads + Wait + Sync),
+    net: Net,
+    workers: u32,
+    channels: Result<Vec<Channel<Lines<'a>, Answers<'a>>>, AllocError>,
+) -> Result<DeskEnd<Lines<'a>, Answers<'a>>, Fault>
+    requires { workers ≤ 32 }
+{
+    let Ok(channels) = channels else {
+        return Err(Fault::OutOfMemory);
+    };
+    if channels.is_empty() {
+        return Err(Fault::OutOfMemory);
+    }
+    run_seats(threads, rt.alloc(), workers, &Plain, net, channels)
+}
+
+/// Runs the seats of a text whose files are open, and ends the desk.
+fn run_open(
+    rt: &HostRuntime,
+    threads: &(impl Threads + Wait + Sync),
+    entries: &[SeatEntry],
+    inputs: &[InputKind],
+    outputs: Vec<OutputKind>,
+    net: Net,
+    workers: u32,
+    saving: Option<Saving<'_>>,
+    manner: SeatManner,
+) -> io::Result<ExitCode>
+    requires { workers ≤ 32 }
+{
+    let Ok(seen) = unseen(rt.alloc(), entries.len()) else {
+        return report(rt, Some(Fault::OutOfMemory));
+    };
+    let seen = seen.as_slice();
+    let channels = channels_of(rt, entries, inputs, outputs, seen, manner);
+    match run_channels(rt, threads, net, workers, channels) {
+        Ok(end) => finish_seats(rt, entries, seen, &end, saving, manner.explained),
+        Err(fault) => refuse_desk(rt, &fault, manner.explained),
+    }
+}
+
+/// Runs the seats of a text over the network of a file, once their inputs are known. Outputs are cut once the network is loaded.
+fn run_over(
+    rt: &HostRuntime,
+    threads: &(impl Threads + Wait + Sync),
+    net: &str,
+    text: SeatsText<'_>,
+    entries: &[SeatEntry],
+    inputs: &[InputKind],
+    workers: u32,
+    saving: Option<Saving<'_>>,
+    manner: SeatManner,
+) -> io::Result<ExitCode>
+    requires { workers ≤ 32 }
+{
+    let net = match load_file(rt, net, manner.explained) {
+        Ok(net) => net,
+        Err(fault) => return report(rt, Some(fault)),
+    };
+    match outputs_of(rt, entries) {
+        Ok(outputs) => run_open(
+            rt, threads, entries, inputs, outputs, net, workers, saving, manner,
+        ),
+        Err(fault) => refuse_streams(rt, text, entries, &fault, manner.explained),
+    }
+}
+
+/// Runs the seats of a text over the network of a file.
+fn run_text(
+    rt: &HostRuntime,
+    threads: &(impl Threads + Wait + Sync),
+    net: &str,
+    text: SeatsText<'_>,
+    workers: u32,
+    saving: Option<Saving<'_>>,
+    manner: SeatManner,
+) -> io::Result<ExitCode>
+    requires { workers ≤ 32 }
+{
+    let entries = match read_seats(rt.alloc(), text.bytes) {
+        Ok(entries) => entries,
+        Err(fault) => return refuse_text(rt, text, &fault, manner.explained),
+    };
+    let entries = entries.as_slice();
+    match inputs_of(rt, entries) {
+        Ok(inputs) => run_over(
+            rt,
+            threads,
+            net,
+            text,
+            entries,
+            inputs.as_slice(),
+            workers,
+            saving,
+            manner,
+        ),
+        Err(fault) => refuse_streams(rt, text, entries, &fault, manner.explained),
+    }
+}
+
+/// The bytes of the text SEATS.
+fn read_text(rt: &HostRuntime, name: &str, explained: bool) -> Result<Vec<u8>, Fault> {
+    match fs::read(rt, name) {
+        Ok(bytes) => Ok(bytes),
+        Err(error) if error.kind() == ErrorKind::OutOfMemory => Err(Fault::OutOfMemory),
+        Err(error) => {
+            if explained {
+                explain_file(rt, name, &error);
+            }
+            Err(Fault::Read)
+        }
+    }
+}
+
+/// Answers the sessions that the text of a file says, at one desk over the network of another.
+pub fn serve_seats(
+    rt: &HostRuntime,
+    threads: &(impl Threads + Wait + Sync),
+    net: &str,
+    seats: &str,
+    workers: u32,
+    save: Option<&str>,
+    manner: SeatManner,
+) -> io::Result<ExitCode>
+    requires { workers ≤ 32 }
+{
+    let Ok(_held) = hold_closed(rt) else {
+        return report(rt, Some(Fault::OutOfMemory));
+    };
+    let saving = match Saving::new(rt, save, manner.explained) {
+        Ok(saving) => saving,
+        Err(fault) => return report(rt, Some(fault)),
+    };
+    let bytes = match read_text(rt, seats, manner.explained) {
+        Ok(bytes) => bytes,
+        Err(fault) => return report(rt, Some(fault)),
+    };
+    let text = SeatsText {
+        name: seats,
+        bytes: bytes.as_slice(),
+    };
+    run_text(rt, threads, net, text, workers, saving, manner)
+}
