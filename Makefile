@@ -6,7 +6,7 @@
 # make keep      proves the program's crates as `rt check` does, which keeps the proof of each function: for who will change them
 # make install   builds the program, if its sources have changed, and puts it and its manual page below PREFIX, /usr/local if none is given
 # make dist      builds the program, if its sources have changed, and packs it with its pages and examples into dist/
-# make soak      runs many threads at one hub, thirty million events, and tells what became of them
+# make soak      runs many threads at one hub, thirty million events, and sixteen sessions at one desk for a minute, and tells what became of them
 # make hostile   takes memory away from the program and breaks its input and output, at each place in turn
 
 PROGRAM = crates/route_desk/out/route_desk

@@ -1,13 +1,14 @@
 #!/usr/bin/env python3
-"""Proves and builds the program, and says how far it is: how many crates are done, of how many, and the minutes so far.
+"""Proves and builds a program, and says how far it is: how many crates are done, of how many, and the minutes so far.
 
-build.py        proves the program's crates by the gate's command, with no wrong bodies and no tests: from nothing, or from what an
-                earlier run of the gate or of this proved of the same files on this machine. Each crate is proved in a copy of it and of
-                those below it, as soon as these are. Where `build.py keep` was run before, it goes on from what that left.
-build.py keep   proves them as `rt check` does, which keeps the proof of each function in the tree, so that a check of a crate
-                starts from there. It takes longer. The prover works on one crate of a tree at a time, so each crate is proved
-                in a copy of the tree too, and what was proved is put beside its sources in the tree and in the other copies: the
-                prover knows it by a sum of the sources, wherever they stand. The first crate gets a job for each processor.
+build.py [CRATE]  proves the crates of the program CRATE, of route_desk if none is named, by the gate's command, with no wrong bodies and no
+                  tests: from nothing, or from what an earlier run of the gate or of this proved of the same files on this machine. Each crate
+                  is proved in a copy of it and of those below it, as soon as these are. Where `build.py keep` was run before, it goes on
+                  from what that left.
+build.py keep     proves those of route_desk as `rt check` does, which keeps the proof of each function in the tree, so that a check of a
+                  crate starts from there. It takes longer. The prover works on one crate of a tree at a time, so each crate is proved
+                  in a copy of the tree too, and what was proved is put beside its sources in the tree and in the other copies: the
+                  prover knows it by a sum of the sources, wherever they stand. The first crate gets a job for each processor.
 
 In both ways the crate with the most work above it goes first; others are proved beside it, one job each, and give way to it.
 """
@@ -20,7 +21,8 @@ import tempfile
 import time
 from concurrent.futures import FIRST_COMPLETED, ThreadPoolExecutor, wait
 
-PROGRAM = "route_desk"
+# the program that is proved
+PROGRAM = next((it for it in sys.argv[1:] if it != "keep"), "route_desk")
 START = time.monotonic()
 # the provers that run
 RUNNING = set()
@@ -194,11 +196,12 @@ def prove_side_by_side(graph, crates, count, room):
 
 
 def build(crates, count):
-    """Proves what is left, and builds and starts the program."""
+    """Proves what is left, and builds the program, and runs it as its stored run does."""
     log, proved = f"crates/{PROGRAM}/out.log", set()
-    command = ["rt", "run", "--jobs", str(count), "--", "--help"]
-    with open(log, "w", encoding="utf-8") as kept:
-        run = subprocess.Popen(command, cwd=f"crates/{PROGRAM}", stdout=subprocess.PIPE, stderr=subprocess.STDOUT, text=True)
+    with open(f"crates/{PROGRAM}/args", encoding="utf-8") as words:
+        command = ["rt", "run", "--jobs", str(count), "--", *words.read().splitlines()]
+    with open(log, "w", encoding="utf-8") as kept, open(f"crates/{PROGRAM}/stdin", "rb") as given:
+        run = subprocess.Popen(command, cwd=f"crates/{PROGRAM}", stdin=given, stdout=subprocess.PIPE, stderr=subprocess.STDOUT, text=True)
         for line in run.stdout:
             kept.write(line)
             words = line.split()
@@ -217,6 +220,8 @@ def main():
     os.chdir(f"{os.path.dirname(os.path.abspath(__file__))}/..")
     keeps = sys.argv[1:] == ["keep"]
     graph = read_graph()
+    if PROGRAM not in graph or not os.path.exists(f"crates/{PROGRAM}/src/main.rt"):
+        sys.exit(f"build.py: {PROGRAM} is no program of crates.txt")
     crates, count = needed(graph, PROGRAM, []), lanes()
     print(f"proving {len(crates)} crates, those that changed; the first time it takes about half an hour on four processors", flush=True)
     kept = [it for it in crates[:-1] if os.path.exists(f"crates/{it}/out/rlib/stamp")]

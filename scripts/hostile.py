@@ -4,9 +4,9 @@
 scripts/refuse.c, which is compiled with `cc` and loaded before the C library, refuses the k-th request for memory (alone, and with
 all after it), stops reading or writing after k bytes, lets one byte through a call, interrupts the k-th call, and refuses to keep a file
 or to change its name. Each k has a run of its own, until none is reached. What such a run may do is said at `memory`, `reads`, `writes`,
-`saves`, `names` and `calls`; nothing else may happen. The inputs are a script that uses every word, networks that aren't loaded, command lines, and the worked examples, of
-which --short leaves out most; for the few long ones k grows by a tenth at a time. The last line is
-'N cases, M failed': a case is an input and a way of breaking."""
+`saves`, `names`, `serves`, `cuts` and `calls`; nothing else may happen. The inputs are a script that uses every word, two sessions at
+one desk, networks that aren't loaded, command lines, and the worked examples, of which --short leaves out most; for the few long ones k
+grows by a tenth at a time. The last line is 'N cases, M failed': a case is an input and a way of breaking."""
 import os
 import subprocess
 import sys
@@ -17,6 +17,9 @@ sys.dont_write_bytecode = True
 from worked import HERE, examples_of, synced
 
 MEMORY, READ, WRITE, PLACE = (b"route_desk: " + fault + b"\n" for fault in (b"1 OutOfMemory", b"63 Read", b"64 Write", b"50 NoPlace"))
+# what is told of a run of two sessions, or of one of them, that ends for want of memory, and where their answers go
+ENDED = {b"route_desk: " + name + fault for name in (b"", b"feed: ", b"tool: ") for fault in (b"1 OutOfMemory", b"50 NoPlace")}
+OUTPUTS = "feed.out", "tool.out"
 # the file to which the script with every word draws a picture
 PICTURE = "now.dot"
 # what `clap` says if the words of the command line can't be read for want of memory
@@ -37,8 +40,8 @@ class Case:
         self.head, self.answered = head, answered
         self.wanted, self.written, _ = self.run()
 
-    def run(self, **broken):
-        """How a run ends (standard output, standard error, status), its files then, and whether anything was broken."""
+    def run(self, text=None, **broken):
+        """How a run ends (standard output, standard error, status), its files then, and whether anything was broken. Its input may be another."""
         Case.runs += 1
         with tempfile.TemporaryDirectory() as folder, tempfile.TemporaryDirectory() as beside:
             for name, text in self.files.items():
@@ -46,7 +49,7 @@ class Case:
                     it.write(text)
             typed, note = os.path.join(beside, "typed"), os.path.join(beside, "note")
             with open(typed, "wb") as it:
-                it.write(self.text)
+                it.write(self.text if text is None else text)
             more = {f"REFUSE_{key.upper()}": str(value) for key, value in broken.items()}
             with open(typed, "rb") as it:
                 ran = subprocess.run([self.program, *self.words], stdin=it, capture_output=True, cwd=folder, timeout=60,
@@ -85,6 +88,10 @@ class Case:
                 raise Wrong(self, f"{way} {k} {more}", got, left)
             yield k, got
             k += 1 + (k // 10 if self.large else 0)
+
+    def resaved(self, network):
+        """The text that a network text is saved as."""
+        return Case(self.name, ["run", "kept", "--save", "kept"], files={"kept": network}).written["kept"]
 
     def want(self, right, what, got):
         """Wants that a run went right."""
@@ -162,6 +169,14 @@ def names(case):
         case.want(1 < k < 10, f"{way} is reached {k - 1} times", got)
 
 
+def cuts(case):
+    """A script that ends after any of its bytes is answered as if its last line had its line end."""
+    for k in range(case.head, len(case.text)):
+        got = case.run(text=case.text[:k])[0]
+        whole = b"".join(case.wanted[0].splitlines(True)[:sum(end <= k for end in case.answered)])
+        case.want(got == case.run(text=case.text[:k] + b"\n")[0] and got[0].startswith(whole), f"it ends after {k} bytes", got)
+
+
 def calls(case):
     """One byte a call, and a call that is interrupted, change nothing."""
     got, left, _ = case.run(single=1)
@@ -170,6 +185,28 @@ def calls(case):
     case.want(got == case.wanted, "a byte a call", got)
     for k, got in case.each("interrupt"):
         case.want(got == case.wanted, f"call {k} interrupted", got)
+
+
+def serves(case):
+    """Of two sessions at one desk each is answered whole, or ends with 1 or 50 after a prefix of its answers, or no session runs at all. What
+    is saved is the network with the event of the one that posts, or without it; after a fault it may stay as it was."""
+    saved = {case.resaved(case.written["kept"]), case.resaved(case.files["network"])}
+    for every in 0, 1:
+        k, reached = 1, True
+        while reached:
+            got, left, reached = case.run(memory=k, all=every)
+            told = [left.get(name, b"") for name in OUTPUTS]
+            if got == case.wanted:
+                right = told == [case.written[name] for name in OUTPUTS]
+            elif got == CLAP:
+                right = left == case.files
+            else:
+                right = reached and got[0] == b"" and got[2] == 1 and set(got[1].splitlines()) <= ENDED
+                right = right and all(case.written[name].startswith(text) for name, text in zip(OUTPUTS, told))
+            stays = got[2] != 0 and left["kept"] == case.files["kept"]
+            if not (right and (stays or case.resaved(left["kept"]) in saved)):
+                raise Wrong(case, f"request {k} refused, all after it: {every}", got, left)
+            k += 1
 
 
 def plain(case):
@@ -196,16 +233,31 @@ def case_of(example, form):
     return Case(name, ["run", "network", "--save", "kept"], script, {"network": network, "kept": b"before\n"}, 0, ends, large)
 
 
+def desks():
+    """Two sessions at one desk, one that posts and one that may only ask, alone and beside workers. No answer depends on which of them is first."""
+    seats = "".join(f'[[seat]]\nname = "{name}"\nin = "{name}.in"\nout = "{name}.out"\nposts = {posts}\n' for name, posts in (("feed", "true"), ("tool", "false")))
+    with open(os.path.join(HERE, "..", "mated-pair.toml"), "rb") as it:
+        files = {"network": it.read(), "seats": seats.encode(), "kept": b"before\n"}
+    files["feed.in"] = b"post 1 1 fail 3 0\nsync\nstatus 2-1-1 2-1-2\n"
+    files["tool.in"] = b"fail 4 0\nnothing\nchanges\n"
+    words = ["serve", "network", "seats", "--save", "kept"]
+    yield Case("two sessions", [*words, "--workers", "0"], files=files), (serves, calls)
+    yield Case("two sessions beside workers", [*words, "--workers", "2"], files=files), (serves,)
+
+
 def cases(short):
     """Each case, with the ways in which it is broken."""
     every_word = examples_of(os.path.join(HERE, "every-word.txt"))[0]
-    for form, ways in ("run", (memory, reads, writes, calls)), ("play", (memory, reads, calls)), ("save", (memory, reads, saves, names, calls)):
+    for form, ways in ("run", (memory, reads, writes, cuts, calls)), ("play", (memory, reads, calls)), ("save", (memory, reads, saves, names, calls)):
         yield case_of(every_word, form), ways
     example = examples_of(os.path.join(HERE, "messages.txt"))[0]
     script = "".join(line + "\n" for _, line, _ in synced(example.lines))
     yield Case("beside workers", ["run", "-", "--workers", "2"], f"{example.network}%%\n{script}".encode("latin-1")), (beside,)
     same = case_of(example, "run")
+    yield same, (cuts,)
     yield Case("as JSON", [*same.words, "--json"], same.text, None, same.head, same.answered), (memory, reads, writes, calls)
+    yield case_of(examples_of(os.path.join(HERE, "what-if.txt"))[0], "run"), (cuts,)
+    yield from desks()
     network = {"network": every_word.network.encode()}
     yield Case("check", ["check", "network"], files=network, head=len(network["network"]) + 1), (memory, reads, writes, calls)
     for words in (["--help"], ["run", "--help"]):

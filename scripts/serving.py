@@ -1,7 +1,11 @@
 #!/usr/bin/env python3
 """serving.py PROGRAM: wants that many sessions at one desk are told one history, and that none of them gets in another's way.
 
-Each case is a function whose name says what is wanted. The last line is 'N passed, M failed'."""
+Each case is a function whose name says what is wanted. The last line is 'N passed, M failed'.
+
+serving.py --soak SECONDS PROGRAM: sixteen sessions over FIFOs at one desk for so long, of which twelve post and four only ask, and tells what
+became of them. It fails unless each accepted event was told once, under its number, and the saved network is that of these events in the
+order of their numbers."""
 import json
 import os
 import random
@@ -63,8 +67,9 @@ def start(folder, entries, *more):
 
 
 def saved_in_line(folder, events):
-    """The text that a run of these events in line saves."""
-    subprocess.run([PROGRAM, "run", NETWORK, "--save", "in_line"], input="".join(f"{it}\n" for it in events), capture_output=True, text=True, timeout=120, cwd=folder, check=True)
+    """The text that a run of these events in line saves. A `sync` now and then leaves room for those that follow."""
+    script = "".join(f"{event}\nsync\n" if at % 10_000 == 0 else f"{event}\n" for at, event in enumerate(events, 1))
+    subprocess.run([PROGRAM, "run", NETWORK, "--save", "in_line"], input=script, capture_output=True, text=True, timeout=600, cwd=folder, check=True)
     return read(folder, "in_line")
 
 
@@ -239,9 +244,85 @@ CASES = [
 ]
 
 
+# ---- the soak
+
+def memory_of(running):
+    """The memory of a program that runs, in kilobytes."""
+    with open(f"/proc/{running.pid}/status", encoding="utf-8") as lines:
+        return next(int(it.split()[1]) for it in lines if it.startswith("VmRSS"))
+
+
+def soak_seat(folder, at, until, events):
+    """Sends fifty lines of a seat at once, reads their answers, and goes on so until that moment. Gives how many lines were answered, and notes each
+    event that was taken under its number, which has to be new."""
+    chance, sent = random.Random(at), 0
+    answers = None
+    with open(os.path.join(folder, f"{at}.in"), "w", encoding="utf-8") as lines:
+        while time.monotonic() < until:
+            script = soak_script(chance, asks=at % 4 == 3)
+            lines.write("".join(f"{line}\n" for line in script))
+            lines.flush()
+            # the desk opens an output at its first answer
+            answers = answers or open(os.path.join(folder, f"{at}.out"), encoding="utf-8")
+            for line in script:
+                answer = answers.readline()
+                want(answer.endswith("\n"), f"seat {at}: the answer to {line} is missing")
+                if answer.startswith("taken "):
+                    number = int(answer.split()[1])
+                    want(number not in events, f"seat {at}: {number} was told twice")
+                    events[number] = line
+            sent += len(script)
+            time.sleep(0.02)
+    answers.close()
+    return sent
+
+
+def soak_script(chance, asks):
+    """Fifty lines: questions, or events with a `sync` at their end."""
+    if asks:
+        return [chance.choice(["version", "status 2-1-1 2-1-2", "trace 2-1-1 2-1-2 3", "audit", "sync"]) for _ in range(50)]
+    return [f"{chance.choice(CHANGES)} {chance.choice(LINKS)}" for _ in range(49)] + ["sync"]
+
+
+def soak(folder, seconds):
+    for at in range(16):
+        os.mkfifo(os.path.join(folder, f"{at}.in"))
+        os.mkfifo(os.path.join(folder, f"{at}.out"))
+    entries = [{"name": f"s{at}", "in": f"{at}.in", "out": f"{at}.out", "reopen": False, "collector": at, "posts": at % 4 != 3} for at in range(16)]
+    running = start(folder, entries, "--workers", "4", "--save", "kept")
+    events, sent, faults = {}, {}, []
+
+    def seat(at, until):
+        try:
+            sent[at] = soak_seat(folder, at, until, events)
+        except (Failure, OSError) as why:
+            faults.append(str(why))
+
+    until = time.monotonic() + seconds
+    seats = [threading.Thread(target=seat, args=(at, until)) for at in range(16)]
+    for it in seats:
+        it.start()
+    first = None
+    while any(it.is_alive() for it in seats):
+        time.sleep(1)
+        if running.poll() is None:
+            last = memory_of(running)
+            first = first or last
+    errors = running.communicate(timeout=60)[1]
+    want(not faults, "; ".join(faults))
+    want((errors, running.returncode) == ("", 0), f"the run: {errors}")
+    want(sorted(events) == list(range(1, len(events) + 1)), f"the numbers are not those from 1 to {len(events)}")
+    want(read(folder, "kept") == saved_in_line(folder, [events[number] for number in sorted(events)]), "the saved network")
+    print(f"{sum(sent.values())} lines of 16 sessions answered in {seconds} s, {len(events)} events, each told once; memory {first} kB after a second, {last} at the end; load {os.getloadavg()[0]:.1f}")
+
+
 def main():
     global PROGRAM
-    PROGRAM = os.path.abspath(sys.argv[1])
+    PROGRAM = os.path.abspath(sys.argv[-1])
+    if sys.argv[1] == "--soak":
+        with tempfile.TemporaryDirectory() as folder:
+            soak(folder, int(sys.argv[2]))
+        return
     passed = failed = 0
     for case in CASES:
         with tempfile.TemporaryDirectory() as folder:

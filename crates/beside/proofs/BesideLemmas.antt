@@ -1,5 +1,5 @@
 -- What the script's thread finds and leaves.
-use Rattle.std.proofs.Common.{◌≡◌, ◌≢◌, append_assoc, append-nil, ℕ, ◌+◌, ◌-◌, ◌<◌, ◌^◌, ◌==◌, arith, inl, inr, false, List, [], ◌∷◌, ◌++◌, refl, sym, ap, subst, ◌∙◌, ne_eqb, Option, Some, None, Result, Ok, Err}
+use Rattle.std.proofs.Common.{◌≡◌, ◌≢◌, append_assoc, append-nil, ℕ, ◌+◌, ◌-◌, ◌^◌, ◌==◌, arith, inl, inr, false, List, [], ◌∷◌, ◌++◌, refl, sym, ap, subst, ◌∙◌, ne_eqb, Option, Some, None, Result, Ok, Err}
 use Rattle.std.specs.Prelude.{IfOk, OnOk, true}
 use Rattle.work_units.specs.declared.replies.Refusal.TheVariants.{EndOfNumbers}
 use Rattle.answers.specs.Replies.{refused_text}
@@ -25,8 +25,9 @@ use Rattle.sessions.specs.Run.{Ran}
 use Rattle.sessions.specs.declared.faults.Fault.{Fault}
 use Rattle.sessions.specs.declared.faults.Fault.TheVariants.{OutOfMemory}
 use Rattle.sessions.proofs.RunLemmas.{ran_nothing}
-use Rattle.beside.specs.Beside.{BesideValue, CommandsBeside, DoesAt, DoesThere, Finds, KeepsSynced, LeavesBeside, Looks, StartsBeside, at_console, newcomer}
+use Rattle.beside.specs.Beside.{BesideValue, CommandsBeside, DoesAt, DoesThere, Finds, KeepsSynced, LeavesBeside, Looks, StartsBeside, Visits, VisitsAt, at_console, newcomer}
 use Rattle.beside.specs.Runs.{IsFresh, RanBeside}
+use Rattle.beside.specs.Seats.{Came, StaysSeated}
 
 -- a script's thread that has just come to a new hub
 pub opens_fresh : (net : Network) (pair : PairValue) (b : BesideValue) → IsFresh net pair → (seat : SeatValue DeskAndChain) → seat.saw ≡ sight 0 pair.state ∷ [] → b ≡ newcomer seat pair.state → StartsBeside net b
@@ -86,15 +87,15 @@ posted_next seats (Err e) text_of collector event old found new last is less h =
 pub begins_itself : (xs : List VersionValue) → IsPrefix xs xs
 begins_itself xs = ([], append-nil xs)
 
-pub begins_later : (xs ys zs : List VersionValue) → IsPrefix xs ys → IsPrefix ys zs → IsPrefix xs zs
-begins_later xs ys zs p q = (p.0 ++ q.0, sym (append_assoc xs p.0 q.0) ∙ (ap (λ w. w ++ q.0) p.1 ∙ q.1))
+pub prefix_then : {A : Type 0} (xs ys zs : List A) → IsPrefix xs ys → IsPrefix ys zs → IsPrefix xs zs
+prefix_then xs ys zs p q = (p.0 ++ q.0, sym (append_assoc xs p.0 q.0) ∙ (ap (λ w. w ++ q.0) p.1 ∙ q.1))
 
 -- a look after others
 pub looks_later : (first old new : BesideValue) (version : VersionValue) → old.seat ≡ first.seat → old.left ≡ first.left → IsPrefix first.seen old.seen → Looks old version new → Looks first version new
 looks_later first old new version seat same begins is = record {
   seat = is.seat ∙ seat;
   left = is.left ∙ same;
-  seen = begins_later first.seen old.seen new.seen begins is.seen;
+  seen = prefix_then first.seen old.seen new.seen begins is.seen;
   is_chain = is.is_chain;
   ends = is.ends;
 }
@@ -128,7 +129,7 @@ finds_by seats old found there left comes seen = record {
 
 -- who came and changed nothing is told what it found
 pub visited : (seats : ℕ) (Done : ConsoleValue → List ℕ → ConsoleValue → Type 0) (old : BesideValue) (found : DeskAndChain) (text : List ℕ) (new : BesideValue)
-    → (finds : Finds seats old found) × (new ≡ record old { seat = finds.there; left = found; seen = found.shown.chain }) → Done (at_console found.desk) text (at_console found.desk) → DoesAt seats Done old found text new
+    → VisitsAt seats old found new → Done (at_console found.desk) text (at_console found.desk) → DoesAt seats Done old found text new
 visited seats Done old found text new is done = record {
   finds = is.0;
   leaves = inl (ap (λ (b : BesideValue). b.seat) is.1, ap (λ (b : BesideValue). b.left) is.1);
@@ -166,12 +167,25 @@ beside_of seat seen synced watch = record { seat = seat; left = left_at seat.saw
 -- who comes and is told what is published
 pub visit_found : {F : Type 0} (r : Result (Unit {0}) F) (seats : ℕ) (seat there : SeatValue DeskAndChain) (seen chain : List VersionValue) (synced : VersionValue) (watch : WatchValue) (found : DeskAndChain) → Comes seats seat found there
     → OnOk r ((chain ≡ found.shown.chain) × IsPrefix seen chain)
-    → OnOk r ((finds : Finds seats (beside_of seat seen synced watch) found) × (beside_of there chain synced watch ≡ record (beside_of seat seen synced watch) { seat = finds.there; left = found; seen = found.shown.chain }))
+    → OnOk r (VisitsAt seats (beside_of seat seen synced watch) found (beside_of there chain synced watch))
 visit_found (Ok x) seats seat there seen chain synced watch found comes told = (
   finds_by seats (beside_of seat seen synced watch) found there refl comes (subst (IsPrefix seen) told.0 told.1),
   (λ i. record { seat = there; left = came_last seats seat found there comes i; seen = told.0 i; synced = synced; watch = watch }),
 )
 visit_found (Err e) seats seat there seen chain synced watch found comes told = tt
+
+-- who comes to the hub, however it finds it
+pub came_somewhere : {F : Type 0} (r : Result (Unit {0}) F) (seats : ℕ) (old : BesideValue) (found : DeskAndChain) (new : BesideValue) → OnOk r (VisitsAt seats old found new) → OnOk r (Visits seats old new)
+came_somewhere (Ok x) seats old found new is = (found, is)
+came_somewhere (Err e) seats old found new is = tt
+
+-- who came, and stays then
+pub came_stays : (seats : ℕ) (old there new : BesideValue) → Came seats old there → StaysSeated there new → Came seats old new
+came_stays seats old there new came stays = record {
+  found = came.found;
+  comes = subst (Comes seats old.seat came.found) (sym stays.seat) came.comes;
+  seen = prefix_then old.seen there.seen new.seen came.seen stays.seen;
+}
 
 pub each_ok : {T F : Type 0} (r : Result T F) (P Q : T → Type 0) → ((t : T) → P t → Q t) → IfOk r P → IfOk r Q
 each_ok (Ok t) P Q f h = f t h

@@ -1,25 +1,20 @@
 -- At each line of a script beside workers all versions are the ones of their numbers.
-use Rattle.std.proofs.Common.{◌≡◌, ℕ, ◌+◌, Bool, true, false, List, [], ◌∷◌, ◌++◌, Option, Some, None, Result, Ok, Err, map, refl, sym, ap, ◌∙◌, subst, length, arith, length-append, append-nil, append_assoc}
+use Rattle.std.proofs.Common.{◌≡◌, ℕ, ◌+◌, Bool, true, false, List, [], ◌∷◌, ◌++◌, Option, Some, None, map, refl, sym, ap, ◌∙◌, subst, append-nil}
 use Rattle.std.specs.Prelude.{if◌then◌else◌}
 use Rattle.std.specs.Option.{option_map_or}
 use mathlib.Core.List.{IsPrefix}
 use Rattle.net_data.specs.declared.events.Event.{Event}
 use Rattle.net_data.specs.Network.{Network}
-use Rattle.net_versions.specs.Versions.{VersionValue, settled_version}
+use Rattle.net_versions.specs.Versions.{VersionValue}
 use Rattle.tokens.specs.Words.{words_of}
 use Rattle.answers.specs.Help.{other_answer}
 use Rattle.script_words.specs.Commands.{command_of}
 use Rattle.script_words.specs.declared.commands.Command.{Command}
 use Rattle.script_words.specs.declared.commands.Command.TheVariants as command
-use Rattle.work_units.specs.declared.replies.Refusal.{Refusal}
-use Rattle.desk_core.specs.declared.steps.Step.{Step}
-use Rattle.desk_core.specs.declared.steps.Step.TheVariants as step
-use Rattle.desk_core.specs.declared.steps.Reply.{Reply}
-use Rattle.desk_core.specs.declared.steps.Reply.TheVariants as reply
 use Rattle.desk_core.specs.Desk.{DeskValue, new_desk}
-use Rattle.desk_core.specs.Steps.{IsNext, IsReply, Posts, Publishes, last_of, publish_refusal, with_version}
-use Rattle.desk_core.specs.Runs.{IsRightVersion, IsRunOf, IsSteadyDesk, Steps, accepted_by, first_numbers, numbers_after}
-use Rattle.desk_core.proofs.RunLemmas.{right_after, run_none, run_one, run_then}
+use Rattle.desk_core.specs.Steps.{Posts, last_of}
+use Rattle.desk_core.specs.Runs.{IsRightVersion, IsRunOf, IsSteadyDesk, first_numbers, numbers_after}
+use Rattle.desk_core.proofs.RunLemmas.{right_after, run_none}
 use Rattle.answers.specs.Replies.{posted_text}
 use Rattle.desk_console.specs.Commands.{Obeys}
 use Rattle.desk_console.specs.Console.{ConsoleValue}
@@ -29,17 +24,14 @@ use Rattle.desk_console.specs.Taken.{event_of, says_taken, taken_by}
 use Rattle.desk_console.proofs.RunLemmas.{line_runs}
 use Rattle.sessions.specs.Lines.{is_silent, is_too_long, trimmed}
 use Rattle.sessions.specs.Replies.{Answered, IsReply as IsAnswer, Replies}
-use Rattle.versions.specs.Chains.{ChainPrefixValue, EndsWith, IsChain}
-use Rattle.versions.specs.Hubs.{IsHub, with_next}
 use Rattle.seats.specs.Minutes.{SeatValue}
-use Rattle.versions.specs.Working.{AreWorks, Comes, IsOfWorker, IsWorkedOn, Works, shown_after}
+use Rattle.versions.specs.Working.{Comes, IsWorkedOn}
 use Rattle.versions.specs.declared.state.DeskAndChain.{DeskAndChain}
-use Rattle.versions.proofs.ChainLemmas.{goes_on}
-use Rattle.versions.proofs.KeptLemmas.{abandoned, gave, next_follows, opened, took}
-use Rattle.beside.specs.Beside.{BesideValue, CommandsBeside, DoesAt, Finds, LeavesBeside, Looks, ObeysBeside, StartsBeside, at_console}
+use Rattle.beside.specs.Beside.{BesideValue, CommandsBeside, DoesAt, Finds, LeavesBeside, Looks, ObeysBeside, StartsBeside, VisitsAt, at_console}
 use Rattle.histories.specs.Right.{AreRight}
 use Rattle.histories.proofs.CountLemmas.{post_publishes_none, prefix_right}
 use Rattle.histories.proofs.KeepLemmas.{Keeps, ends_same, keeps_opened, keeps_stay, keeps_worked, new_is_steady}
+use Rattle.beside.proofs.BesideLemmas.{prefix_then}
 use Rattle.beside.specs.Right.{AreRightMoments, IsRightBeside, IsRightScript, Moment, texts}
 
 -- ---- a line
@@ -57,6 +49,18 @@ pub data Moves (old : BesideValue) (taken : List Event) (new : BesideValue) : Ty
   stays : taken ≡ [] → new.seat ≡ old.seat → new.left ≡ old.left → new.seen ≡ old.seen → Moves old taken new
   acts : (found : DeskAndChain) → Acts old taken found new → Moves old taken new
   looks : (version : VersionValue) → taken ≡ [] → Looks old version new → Moves old taken new
+  comes_and_looks : (there : BesideValue) (found : DeskAndChain) (version : VersionValue) → taken ≡ [] → Acts old [] found there → Looks there version new → Moves old taken new
+
+-- who comes and changes nothing
+pub visit_acts : (old : BesideValue) (found : DeskAndChain) (new : BesideValue) → VisitsAt 1 old found new → Acts old [] found new
+visit_acts old found new is =
+    let left : new.left ≡ found = ap (λ (b : BesideValue). b.left) is.1 in record {
+      finds = is.0;
+      shown = ap (λ (s : DeskAndChain). s.shown) left;
+      told = ap (λ (b : BesideValue). b.seen) is.1;
+      published = ap (λ (s : DeskAndChain). s.desk.published) left;
+      runs = subst (λ (s : DeskAndChain). IsRunOf found.desk [] s.desk) (sym left) (run_none found.desk);
+    }
 
 -- a line that changes nothing
 stays_same : (old : BesideValue) (taken : List Event) (new : BesideValue) → taken ≡ [] → new ≡ old → Moves old taken new
@@ -103,7 +107,8 @@ module _ (line : List ℕ) (old : BesideValue) (text : List ℕ) (new : BesideVa
   obeyed (Some (command.Give k)) e is = stays_same old (taken_by line text) new (none_taken (Some (command.Give k)) e refl) is.1
   obeyed (Some (command.Abandon k)) e is = stays_same old (taken_by line text) new (none_taken (Some (command.Abandon k)) e refl) is.1
   obeyed (Some command.Publish) e is = stays_same old (taken_by line text) new (none_taken (Some command.Publish) e refl) is.1
-  obeyed (Some command.Sync) e is = looks is.0 (none_taken (Some command.Sync) e refl) is.1
+  obeyed (Some command.Sync) e is =
+      comes_and_looks is.there is.visits.0 is.syncs.0 (none_taken (Some command.Sync) e refl) (visit_acts old is.visits.0 is.there is.visits.1) is.syncs.1
   obeyed (Some command.Version) e is = done_there (Some command.Version) e is.0 is.1 (ap (λ (c : ConsoleValue). c.desk.published) is.1.done.1)
   obeyed (Some (command.About asked y x)) e is = looks is.0 (none_taken (Some (command.About asked y x)) e refl) is.1
   obeyed (Some (command.Trace y x s)) e is = looks is.0 (none_taken (Some (command.Trace y x s)) e refl) is.1
@@ -139,10 +144,6 @@ line_moves line old text new = go (is_too_long (trimmed line)) (is_silent (trimm
 
 -- ---- what is found later
 
--- what begins a beginning
-prefix_then : (xs ys zs : List VersionValue) → IsPrefix xs ys → IsPrefix ys zs → IsPrefix xs zs
-prefix_then xs ys zs p q = (p.0 ++ q.0, sym (append_assoc xs p.0 q.0) ∙ (ap (λ (l : List VersionValue). l ++ q.0) p.1 ∙ q.1))
-
 -- the script's thread comes to the hub once more
 abbrev pub Later : BesideValue → Type 0
 Later b = (found : DeskAndChain) × Finds 1 b found
@@ -168,6 +169,7 @@ later_before old taken new (looks version none is) later = (
     seen = prefix_then old.seen new.seen later.0.shown.chain is.seen later.1.seen;
   },
 )
+later_before old taken new (comes_and_looks there found version none comes is) later = (found, comes.finds)
 
 -- before all lines that are still answered
 pub finds_later : (old : BesideValue) (lines : List (List ℕ)) (text : List ℕ) (new : BesideValue) → Answered (CommandsBeside 1) old lines text new → Later new → Later old
@@ -182,13 +184,20 @@ module _ (start : DeskValue) (steady : IsSteadyDesk start) (es : List Event) whe
   keeps_no_more : (taken : List Event) (s : DeskAndChain) → taken ≡ [] → Keeps start es s → Keeps start (es ++ taken) s
   keeps_no_more taken s none h = subst (λ (l : List Event). Keeps start l s) (sym (ap (λ (l : List Event). es ++ l) none ∙ append-nil es)) h
 
+  -- after something was done under the lock
+  pub keeps_acted : (old : BesideValue) (taken : List Event) (found : DeskAndChain) (new : BesideValue) → Keeps start es old.left → Acts old taken found new → Keeps start (es ++ taken) new.left
+  keeps_acted old taken found new h is =
+      let kept : Keeps start es found = keeps_worked start steady es old.left found h (is.finds.worked refl) in
+      keeps_stay start steady es taken found new.left kept is.runs is.shown (ends_same found new.left kept.ends is.shown is.published)
+
   -- after a line
   pub keeps_moved : (old : BesideValue) (taken : List Event) (new : BesideValue) → Keeps start es old.left → Moves old taken new → Keeps start (es ++ taken) new.left
   keeps_moved old taken new h (stays none seat left seen) = subst (Keeps start (es ++ taken)) (sym left) (keeps_no_more taken old.left none h)
-  keeps_moved old taken new h (acts found is) =
-      let kept : Keeps start es found = keeps_worked start steady es old.left found h (is.finds.worked refl) in
-      keeps_stay start steady es taken found new.left kept is.runs is.shown (ends_same found new.left kept.ends is.shown is.published)
+  keeps_moved old taken new h (acts found is) = keeps_acted old taken found new h is
   keeps_moved old taken new h (looks version none is) = subst (Keeps start (es ++ taken)) (sym is.left) (keeps_no_more taken old.left none h)
+  keeps_moved old taken new h (comes_and_looks there found version none comes is) =
+      let kept : Keeps start es there.left = subst (λ (l : List Event). Keeps start l there.left) (append-nil es) (keeps_acted old [] found there h comes) in
+      subst (Keeps start (es ++ taken)) (sym is.left) (keeps_no_more taken there.left none kept)
 
   -- all that the reader knows is right
   pub seen_right : (b : BesideValue) → Keeps start es b.left → Later b → AreRight start es None b.seen

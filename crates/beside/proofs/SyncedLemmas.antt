@@ -1,5 +1,5 @@
 -- Scripts with a `sync` between their events and what they ask are answered beside workers as in line.
-use Rattle.std.proofs.Common.{◌≡◌, ℕ, ◌+◌, ◌-◌, ◌^◌, ◌<◌, ◌≤◌, ◌==◌, ◌&&◌, not, Bool, true, false, List, [], ◌∷◌, ◌++◌, Option, Some, None, refl, sym, ap, ◌∙◌, subst, length, arith, length-append}
+use Rattle.std.proofs.Common.{◌≡◌, ℕ, ◌+◌, ◌-◌, ◌^◌, ◌<◌, ◌≤◌, ◌==◌, ◌&&◌, not, Bool, true, false, List, [], ◌∷◌, ◌++◌, Option, Some, None, refl, sym, ap, ◌∙◌, subst, length, arith, length-append, append-nil}
 use Rattle.std.specs.Prelude.{if◌then◌else◌}
 use Rattle.std.proofs.lemmas.List.{take_all}
 use Rattle.net_data.specs.declared.events.Event.{Event}
@@ -36,13 +36,14 @@ use Rattle.versions.specs.Chains.{ChainPrefixValue, EndsWith}
 use Rattle.versions.specs.Worked.{LosesNothing}
 use Rattle.versions.specs.declared.state.DeskAndChain.{DeskAndChain}
 use Rattle.versions.proofs.WorkedLemmas.{worked_keeps}
-use Rattle.beside.specs.Beside.{BesideValue, CommandsBeside, DoesAt, Finds, KeepsSynced, LeavesBeside, Looks, ObeysBeside, StartsBeside, SyncsBeside, WatchesBeside, at_console}
+use Rattle.beside.specs.Beside.{BesideValue, CommandsBeside, DoesAt, Finds, KeepsSynced, LeavesBeside, Looks, ObeysBeside, StartsBeside, SyncsThere, VisitsAt, WatchesBeside, at_console}
 use Rattle.histories.specs.Right.{AreRight, IsRightAt}
 use Rattle.beside.specs.Synced.{IsSynced, MayCome, command_in, events_after, said_by}
 use Rattle.desk_console.specs.Taken.{taken_by}
 use Rattle.histories.proofs.CountLemmas.{Counts, last_right, post_publishes_none, run_counts}
 use Rattle.histories.proofs.KeepLemmas.{Keeps, keeps_worked, new_is_steady}
-use Rattle.beside.proofs.RightLemmas.{Later, finds_later, keeps_first, keeps_moved, line_moves, seen_right}
+use Rattle.beside.proofs.BesideLemmas.{visited}
+use Rattle.beside.proofs.RightLemmas.{Later, finds_later, keeps_acted, keeps_first, keeps_moved, line_moves, seen_right, visit_acts}
 use Rattle.beside.proofs.AlikeLemmas.{Alike, IsSettled, last_same, more_alike, no_length, post_aims, posts_same, rises, same_alike, synced_settled}
 
 -- ---- beside workers and in line
@@ -189,6 +190,38 @@ module _ (start : DeskValue) (steady : IsSteadyDesk start) (es : List Event) (n 
       right.network ∙ ap (replay start.published.network) (take_all (version.number - start.published.number) (start.pending ++ es) (omega arith))
       ∙ replay-append start.published.network start.pending es ∙ sym left.net
 
+  -- after who comes and changes nothing
+  visited_same : (found : DeskAndChain) (there : BesideValue) → Keeps start es there.left → VisitsAt 1 b found there → Same n there c
+  visited_same found there kept is =
+      let alike : Alike n found.desk c.desk = found_alike found is.0 in
+      let left : there.left.desk ≡ found.desk = ap (λ (x : BesideValue). x.left.desk) is.1 in
+      let does : DoesAt 1 (λ old text new. Unit {0}) b found [] there = visited 1 (λ old text new. Unit {0}) b found [] there is tt in
+      there_same start es n (λ old text new. Unit {0}) b found [] there c does kept (same_alike n found.desk c.desk there.left.desk c.desk alike left refl) same.aim
+      (shown_still b there c c same.shown does.kept refl refl)
+
+  -- after a `sync` where who came left the hub
+  synced_same : (x y : List ℕ) (new : BesideValue) (end : ConsoleValue) → Later new → SyncsThere b x new → Syncs c y end → (x ≡ y) × Same 0 new end
+  synced_same x y new end later is at =
+      let v : VersionValue = is.0 in
+      let within : v.number ≤ accepted b.left.desk = look_within v new is.1 later in
+      let all : accepted b.left.desk ≤ v.number = is.2 in
+      let count = same.count in
+      let number : v.number ≡ accepted c.desk = omega arith in
+      let desk : end.desk ≡ synced c.desk = ap (λ (d : ConsoleValue). d.desk) at.1 in
+      let settled : IsSettled c.desk (synced c.desk) = synced_settled c.desk same.aim in
+      let after : IsSettled c.desk end.desk = subst (IsSettled c.desk) (sym desk) settled in
+      let published : v.number ≡ (synced c.desk).published.number = number ∙ sym settled.number in
+      let network : v.network ≡ (synced c.desk).published.network = look_network v new is.1 later all ∙ same.net ∙ sym settled.network in
+      let shown : IsShown new end = (
+        ap (λ (w : VersionValue). w.number) is.4 ∙ published ∙ ap (λ (s : DeskValue). s.published.number) (sym desk),
+        ap (λ (w : VersionValue). w.network) is.4 ∙ network ∙ ap (λ (s : DeskValue). s.published.network) (sym desk),
+        is.5 ∙ watch_same b.watch c.watch b.synced c.desk.published v (synced c.desk).published same.shown.2 same.shown.0 same.shown.1 published ∙ sym (ap (λ (d : ConsoleValue). d.watch) at.1),
+      ) in (
+        is.3 ∙ ap (λ (k : ℕ). reply_watched b.watch b.synced v (synced_text k)) number
+            ∙ reply_same b.watch c.watch b.synced c.desk.published v (synced c.desk).published (synced_text (accepted c.desk)) same.shown.2 same.shown.0 same.shown.1 published network ∙ sym at.0,
+        looked_same 0 v new end is.1 after.kept after.none after.aim (omega arith) shown,
+      )
+
 -- ---- a line
 
 module _ (start : DeskValue) (steady : IsSteadyDesk start) (es more : List Event) (n : ℕ) (b new : BesideValue) (c end : ConsoleValue) (same : Same n b c) (keeps : Keeps start es b.left) (kept : Keeps start more new.left) (later : Later new) where
@@ -248,29 +281,6 @@ module _ (start : DeskValue) (steady : IsSteadyDesk start) (es more : List Event
               (shown_still b new c end same.shown does.kept (ap (λ (s : DeskValue). s.published) other) (ap (λ (d : ConsoleValue). d.watch) at.1)),
         )
 
-    -- `sync`
-    syncs_same : SyncsBeside b x new → Syncs c y end → (x ≡ y) × Same 0 new end
-    syncs_same is at =
-        let v : VersionValue = is.0 in
-        let within : v.number ≤ accepted b.left.desk = look_within start steady es n b c same keeps v new is.1 later in
-        let all : accepted b.left.desk ≤ v.number = is.2 in
-        let count = same.count in
-        let number : v.number ≡ accepted c.desk = omega arith in
-        let desk : end.desk ≡ synced c.desk = ap (λ (d : ConsoleValue). d.desk) at.1 in
-        let settled : IsSettled c.desk (synced c.desk) = synced_settled c.desk same.aim in
-        let after : IsSettled c.desk end.desk = subst (IsSettled c.desk) (sym desk) settled in
-        let published : v.number ≡ (synced c.desk).published.number = number ∙ sym settled.number in
-        let network : v.network ≡ (synced c.desk).published.network = look_network start steady es n b c same keeps v new is.1 later all ∙ same.net ∙ sym settled.network in
-        let shown : IsShown new end = (
-          ap (λ (w : VersionValue). w.number) is.4 ∙ published ∙ ap (λ (s : DeskValue). s.published.number) (sym desk),
-          ap (λ (w : VersionValue). w.network) is.4 ∙ network ∙ ap (λ (s : DeskValue). s.published.network) (sym desk),
-          is.5 ∙ watch_same b.watch c.watch b.synced c.desk.published v (synced c.desk).published same.shown.2 same.shown.0 same.shown.1 published ∙ sym (ap (λ (d : ConsoleValue). d.watch) at.1),
-        ) in (
-          is.3 ∙ ap (λ (k : ℕ). reply_watched b.watch b.synced v (synced_text k)) number
-              ∙ reply_same b.watch c.watch b.synced c.desk.published v (synced c.desk).published (synced_text (accepted c.desk)) same.shown.2 same.shown.0 same.shown.1 published network ∙ sym at.0,
-          looked_same start steady es n b c same keeps 0 v new end is.1 after.kept after.none after.aim (omega arith) shown,
-        )
-
     -- `changes`
     changes_same : (x ≡ changes_told b.watch b.synced) × (new ≡ b) → (y ≡ changes_told c.watch c.desk.published) × (end ≡ c) → (x ≡ y) × Same n new end
     changes_same is at = (is.0 ∙ told_alike b.watch c.watch b.synced c.desk.published same.shown.2 same.shown.0 same.shown.1 ∙ sym at.0, still_same n b new c end same is.1 at.1)
@@ -317,7 +327,10 @@ module _ (start : DeskValue) (steady : IsSteadyDesk start) (es more : List Event
     obeys_same other (Some (command.Give k)) may is at = absurd may
     obeys_same other (Some (command.Abandon k)) may is at = absurd may
     obeys_same other (Some command.Publish) may is at = absurd may
-    obeys_same other (Some command.Sync) may is at = syncs_same is at
+    obeys_same other (Some command.Sync) may is at =
+        let acts = visit_acts b is.visits.0 is.there is.visits.1 in
+        let stands : Keeps start es is.there.left = subst (λ (l : List Event). Keeps start l is.there.left) (append-nil es) (keeps_acted start steady es b [] is.visits.0 is.there keeps acts) in
+        synced_same start steady es n is.there c (visited_same start steady es n b c same keeps is.visits.0 is.there stands is.visits.1) stands x y new end later is.syncs at
     obeys_same other (Some command.Version) may is at = versions_same is.0 may is.1 at
     obeys_same other (Some (command.About asked p d)) may is at = asks_same (λ net. answer_about asked net p d) is.0 may is.1 is.2.0 at.0 at.1 is.3
     obeys_same other (Some (command.Trace p d s)) may is at = asks_same (λ net. trace_answer (trace_at net p d s)) is.0 may is.1 is.2.0 at.0 at.1 is.3

@@ -9,7 +9,7 @@ ghost use Rattle.net_versions.specs.Versions.{VersionValue};
 ghost use Rattle.script_words.specs.Commands.{IsWithin};
 ghost use Rattle.sessions.specs.Run.{CutsOff};
 ghost use Rattle.desk_console.specs.Does.{PostsNext};
-ghost use Rattle.beside.specs.Beside.{DoesBeside, DoesThere, KeepsSynced, Looks, SyncsBeside};
+ghost use Rattle.beside.specs.Beside.{DoesBeside, DoesThere, KeepsSynced, Looks, SyncsBeside, SyncsThere, Visits};
 ghost use Rattle.beside.specs.Seats.{Came, CamePosting, Goes, Parts, StaysSeated};
 
 use crate::visitor::Visitor;
@@ -172,15 +172,35 @@ impl<'a, N: Naming, R: Wait> Beside<'a, N, R> {
         unreachable!()
     }
 
-    /// Waits until all that was accepted is published.
-    fn sync(&mut self, alloc: Global) -> Result<String, Fault>
-        ensures does { IfOk result (λ text. SyncsBeside self.old (string_bytes text) self.new) }
+    /// Comes to the hub, and changes nothing there.
+    fn visit(&mut self) -> Result<(), Fault>
+        ensures visits { OnOk result (Visits N.seats self.old self.new) }
+        ensures comes { Came N.seats self.old self.new }
+        ensures fault { IfErr result (CutsOff (Unit {0})) }
+    {
+        self.visitor.visit(self.rt, &mut *self.hub.lock(self.rt))
+    }
+
+    /// Waits until all is published that had been accepted when it left the hub.
+    fn sync_there(&mut self, alloc: Global) -> Result<String, Fault>
+        ensures does { IfOk result (λ text. SyncsThere self.old (string_bytes text) self.new) }
         ensures stays { StaysSeated self.old self.new }
         ensures lines { IfOk result (λ text. line_count (string_bytes text) ≤ 1) }
         ensures fault { IfErr result (CutsOff (Unit {0})) }
     {
         let version = self.wait_synced(alloc)?;
         Ok(self.visitor.reply_synced(alloc, version)?)
+    }
+
+    /// Waits until all is published that has been accepted by now, whoever posted it.
+    fn sync(&mut self, alloc: Global) -> Result<String, Fault>
+        ensures does { IfOk result (λ text. SyncsBeside N.seats self.old (string_bytes text) self.new) }
+        ensures comes { Came N.seats self.old self.new }
+        ensures lines { IfOk result (λ text. line_count (string_bytes text) ≤ 1) }
+        ensures fault { IfErr result (CutsOff (Unit {0})) }
+    {
+        self.visit()?;
+        self.sync_there(alloc)
     }
 
     /// Does what a command says that posts nothing.

@@ -82,8 +82,8 @@ impl<N: Naming> Visitor<N> {
         ensures plain { IfOk result (λ text. line_count (string_bytes text) ≡ 0) }
         ensures fault { IfErr result (CutsOff (Unit {0})) }
     {
-        let version = self.look()?;
-        Ok(answer_about(alloc, asked, &version, point, dest)?)
+        self.refresh()?;
+        Ok(answer_about(alloc, asked, self.newest(), point, dest)?)
     }
 
     /// A trace.
@@ -100,8 +100,8 @@ impl<N: Naming> Visitor<N> {
         ensures plain { IfOk result (λ text. line_count (string_bytes text) ≡ 0) }
         ensures fault { IfErr result (CutsOff (Unit {0})) }
     {
-        let version = self.look()?;
-        Ok(answer_trace(alloc, &version, point, dest, s)?)
+        self.refresh()?;
+        Ok(answer_trace(alloc, self.newest(), point, dest, s)?)
     }
 
     /// What events would change.
@@ -111,8 +111,8 @@ impl<N: Naming> Visitor<N> {
         ensures plain { IfOk result (λ text. line_count (string_bytes text) ≡ 0) }
         ensures fault { IfErr result (CutsOff (Unit {0})) }
     {
-        let version = self.look()?;
-        Ok(answer_what_if(alloc, &version, events)?)
+        self.refresh()?;
+        Ok(answer_what_if(alloc, self.newest(), events)?)
     }
 
     /// A check of all tables.
@@ -122,8 +122,8 @@ impl<N: Naming> Visitor<N> {
         ensures plain { IfOk result (λ text. line_count (string_bytes text) ≡ 0) }
         ensures fault { IfErr result (CutsOff (Unit {0})) }
     {
-        let version = self.look()?;
-        Ok(answer_audit(alloc, &version)?)
+        self.refresh()?;
+        Ok(answer_audit(alloc, self.newest())?)
     }
 
     /// A picture for a file.
@@ -138,7 +138,7 @@ impl<N: Naming> Visitor<N> {
         ensures plain { IfOk result (λ text. line_count (string_bytes text) ≡ 0) }
         ensures fault { IfErr result (CutsOff (Unit {0})) }
     {
-        let version = self.look()?;
-        Ok(answer_picture(alloc, &version, file.as_str(), about)?)
+        self.refresh()?;
+        Ok(answer_picture(alloc, self.newest(), file.as_str(), about)?)
     }
 }

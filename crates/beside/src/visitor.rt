@@ -10,9 +10,10 @@ ghost use Rattle.desk_core.specs.Steps.{Posts};
 ghost use Rattle.desk_console.specs.Does.{Calls, HasMemory, PostsNext, Tells, version_of};
 ghost use Rattle.desk_console.specs.Watch.{changes_told, reply_watched, watched};
 ghost use Rattle.sessions.specs.Run.{CutsOff};
+ghost use Rattle.versions.specs.Chains.{EndsWith, IsChain};
 ghost use Rattle.versions.specs.Working.{Comes, left_at};
 ghost use Rattle.beside.specs.Seats.{Came, CamePosting, Goes, StaysSeated};
-ghost use Rattle.beside.specs.Beside.{DoesAt, DoesThere, Finds, KeepsSynced, LeavesBeside, Looks, WatchesBeside, newcomer};
+ghost use Rattle.beside.specs.Beside.{DoesAt, DoesThere, KeepsSynced, LeavesBeside, Looks, VisitsAt, WatchesBeside, newcomer};
 
 use answers::{Answer, write_posted, write_refused, write_synced, write_version, write_watch};
 use desk_console::{Watch, has_memory};
@@ -110,8 +111,8 @@ impl<N: Naming> Visitor<N> {
     }
 
     /// Comes to the hub, and changes nothing there.
-    fn visit<R: Wait>(&mut self, rt: &R, hub: &mut Hub<N, BySeats>) -> Result<(), Fault>
-        ensures found { OnOk result ((finds : Finds N.seats self.old hub.old.state) × (self.new ≡ record self.old { seat = finds.there; left = hub.old.state; seen = hub.old.state.shown.chain })) }
+    pub(crate) fn visit<R: Wait>(&mut self, rt: &R, hub: &mut Hub<N, BySeats>) -> Result<(), Fault>
+        ensures found { OnOk result (VisitsAt N.seats self.old hub.old.state self.new) }
         ensures comes { Comes N.seats self.old.seat hub.old.state self.new.seat }
         ensures seen { IsPrefix self.old.seen self.new.seen }
         ensures rest { hub.new ≡ hub.old }
@@ -270,6 +271,27 @@ impl<N: Naming> Visitor<N> {
             Ok(version) => Ok(version),
             Err(_) => Err(Fault::NoPlace),
         }
+    }
+
+    /// Has the version that is published now shown by `newest`. It takes no lock, and where nothing was published since the last time,
+    /// those who ask side by side don't slow one another.
+    pub(crate) fn refresh(&mut self) -> Result<(), Fault>
+        ensures seen { IsPrefix self.old.seen self.new.seen }
+        ensures rest { self.new ≡ record self.old { seen = self.new.seen } }
+        ensures fault { OnErr result (result ≡ Err Fault.NoPlace) }
+    {
+        match self.reader.refresh() {
+            Ok(()) => Ok(()),
+            Err(_) => Err(Fault::NoPlace),
+        }
+    }
+
+    /// The newest version that its reader knows.
+    pub(crate) fn newest(&self) -> &Version
+        ensures ends { EndsWith self.now.seen result.now }
+        ensures chain { IsChain self.now.seen }
+    {
+        self.reader.newest()
     }
 
     /// The reply to a `sync` that tells a version, which is the last one told from now on.

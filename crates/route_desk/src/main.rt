@@ -58,6 +58,7 @@ mod reasons;
 mod reports;
 mod runs;
 mod saying;
+mod seat_ends;
 mod seat_faults;
 mod seat_files;
 mod seat_inputs;

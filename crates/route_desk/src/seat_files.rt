@@ -51,6 +51,24 @@ impl From<AllocError> for StreamFault {
     }
 }
 
+impl StreamFault {
+    /// The fault of the seat in this place whose input can't be read, or of the want of memory for that.
+    fn of_input(place: usize, error: io::Error) -> StreamFault {
+        if error.kind() == ErrorKind::OutOfMemory {
+            return StreamFault::OutOfMemory;
+        }
+        StreamFault::Read(place, error)
+    }
+
+    /// The fault of the seat in this place whose output can't be written, or of the want of memory for that.
+    fn of_output(place: usize, error: io::Error) -> StreamFault {
+        if error.kind() == ErrorKind::OutOfMemory {
+            return StreamFault::OutOfMemory;
+        }
+        StreamFault::Write(place, error)
+    }
+}
+
 /// What has no content, and can be opened by anyone.
 const NOTHING: &str = "/dev/null";
 
@@ -83,8 +101,10 @@ fn hold_next(rt: &HostRuntime) -> io::Result<Option<File>> {
 pub fn hold_closed(rt: &HostRuntime) -> Result<Vec<File>, AllocError> {
     let mut held = Vec::new(rt.alloc());
     for _number in 0..=LAST_STANDARD {
-        let Ok(Some(file)) = hold_next(rt) else {
-            break;
+        let file = match hold_next(rt) {
+            Ok(Some(file)) => file,
+            Err(error) if error.kind() == ErrorKind::OutOfMemory => return Err(AllocError),
+            _ => break,
         };
         if held.push(file).is_err() {
             return Err(AllocError);
@@ -93,11 +113,20 @@ pub fn hold_closed(rt: &HostRuntime) -> Result<Vec<File>, AllocError> {
     Ok(held)
 }
 
-/// Whether a name leads to a FIFO.
-fn is_fifo(rt: &HostRuntime, name: &str) -> bool {
+/// What a name leads to, none if that can't be told; an error is want of memory.
+fn find(rt: &HostRuntime, name: &str) -> io::Result<Option<Metadata>> {
     match fs::metadata(rt, name) {
-        Ok(it) => it.file_type().is_fifo(),
-        Err(_) => false,
+        Ok(it) => Ok(Some(it)),
+        Err(error) if error.kind() == ErrorKind::OutOfMemory => Err(error),
+        Err(_) => Ok(None),
+    }
+}
+
+/// Whether a name leads to a FIFO; an error is want of memory.
+fn is_fifo(rt: &HostRuntime, name: &str) -> io::Result<bool> {
+    match find(rt, name)? {
+        Some(it) => Ok(it.file_type().is_fifo()),
+        None => Ok(false),
     }
 }
 
@@ -119,15 +148,28 @@ fn try_input(rt: &HostRuntime, name: &str) -> io::Result<()> {
     Ok(())
 }
 
-/// What the input of an entry is.
-fn input_of(rt: &HostRuntime, entry: &SeatEntry) -> Result<InputKind, Flaw> {
-    let name = entry.input.as_str();
-    match (name != "-" && is_fifo(rt, name), entry.reopen) {
+/// What the input of an entry is, which may be a FIFO.
+fn kind_of(entry: &SeatEntry, is_fifo: bool) -> Result<InputKind, Flaw> {
+    match (is_fifo, entry.reopen) {
         (true, Some(false)) => Ok(InputKind::File),
         (true, _) => Ok(InputKind::Fifo),
         (false, Some(_)) => Err(Flaw::NoFifo),
-        (false, None) if name == "-" => Ok(InputKind::Standard),
+        (false, None) if entry.input.as_str() == "-" => Ok(InputKind::Standard),
         (false, None) => Ok(InputKind::File),
+    }
+}
+
+/// What the input of the entry in a place is, if it can be read as far as that is known.
+fn input_of(rt: &HostRuntime, place: usize, entry: &SeatEntry) -> Result<InputKind, StreamFault> {
+    let name = entry.input.as_str();
+    if let Err(error) = try_input(rt, name) {
+        return Err(StreamFault::of_input(place, error));
+    }
+    match is_fifo(rt, name) {
+        Ok(is_fifo) => kind_of(entry, name != "-" && is_fifo).map_err(|flaw| StreamFault::Entry(
+            place, flaw,
+        )),
+        Err(error) => Err(StreamFault::of_input(place, error)),
     }
 }
 
@@ -135,16 +177,13 @@ fn input_of(rt: &HostRuntime, entry: &SeatEntry) -> Result<InputKind, Flaw> {
 pub fn inputs_of(rt: &HostRuntime, entries: &[SeatEntry]) -> Result<Vec<InputKind>, StreamFault> {
     let mut kinds = Vec::with_capacity(rt.alloc(), entries.len())?;
     for (place, entry) in entries.iter().enumerate() {
-        if let Err(error) = try_input(rt, entry.input.as_str()) {
-            return Err(StreamFault::Read(place, error));
-        }
-        match input_of(rt, entry) {
+        match input_of(rt, place, entry) {
             Ok(kind) => {
                 if kinds.push(kind).is_err() {
                     return Err(StreamFault::OutOfMemory);
                 }
             }
-            Err(flaw) => return Err(StreamFault::Entry(place, flaw)),
+            Err(fault) => return Err(fault),
         }
     }
     Ok(kinds)
@@ -167,7 +206,7 @@ fn open_output(rt: &HostRuntime, name: &str) -> io::Result<OutputKind> {
     if name == "-" {
         return Ok(OutputKind::Standard);
     }
-    if is_fifo(rt, name) {
+    if is_fifo(rt, name)? {
         return Ok(OutputKind::Later);
     }
     match target_of(rt, name)? {
@@ -186,7 +225,7 @@ fn open_outputs(rt: &HostRuntime, entries: &[SeatEntry]) -> Result<Vec<OutputKin
                     return Err(StreamFault::OutOfMemory);
                 }
             }
-            Err(error) => return Err(StreamFault::Write(place, error)),
+            Err(error) => return Err(StreamFault::of_output(place, error)),
         }
     }
     Ok(outputs)
@@ -205,22 +244,23 @@ fn is_own(it: &Metadata) -> bool {
 }
 
 /// Which regular file or FIFO a name leads to, none if it is another thing.
-fn identity_of(rt: &HostRuntime, name: &str) -> Option<Identity> {
+fn identity_of(rt: &HostRuntime, name: &str) -> Result<Option<Identity>, AllocError> {
     if name == "-" {
-        return None;
+        return Ok(None);
     }
-    match fs::metadata(rt, name) {
-        Ok(it) if is_own(&it) => Some(Identity {
+    match find(rt, name) {
+        Ok(Some(it)) if is_own(&it) => Ok(Some(Identity {
             device: it.dev(),
             node: it.ino(),
-        }),
-        _ => None,
+        })),
+        Ok(_) => Ok(None),
+        Err(_) => Err(AllocError),
     }
 }
 
 /// Notes which file a name leads to; whether that was noted before.
 fn is_noted(rt: &HostRuntime, noted: &mut Vec<Identity>, name: &str) -> Result<bool, StreamFault> {
-    let Some(identity) = identity_of(rt, name) else {
+    let Some(identity) = identity_of(rt, name)? else {
         return Ok(false);
     };
     if noted.as_slice().contains(&identity) {
@@ -251,7 +291,7 @@ fn cut(outputs: &[OutputKind]) -> Result<(), StreamFault> {
     for (place, output) in outputs.iter().enumerate() {
         if let OutputKind::File(file) = output {
             if let Err(error) = file.set_len(0) {
-                return Err(StreamFault::Write(place, error));
+                return Err(StreamFault::of_output(place, error));
             }
         }
     }

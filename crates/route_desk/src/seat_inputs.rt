@@ -10,7 +10,6 @@ use crate::seat_text::SeatEntry;
 use std::fs::{File, OpenOptions};
 use std::io::{ErrorKind, Read, StdinLock};
 use std::os::unix::fs::FileTypeExt;
-use std::sync::atomic::{AtomicBool, Ordering};
 use std::{fs, io};
 
 /// The system's number of what it doesn't take (EINVAL).
@@ -48,8 +47,6 @@ pub struct FifoInput<'a> {
     /// The same, open for writing too until something comes: so it has a writer, and a read waits. It is never written.
     waiting: Option<File>,
     held: HeldLines,
-    /// Where it is told that memory was refused.
-    refused: &'a AtomicBool,
 }
 
 impl<'a> FifoInput<'a> {
@@ -69,7 +66,11 @@ impl<'a> FifoInput<'a> {
     /// Opens the FIFO again, so that a read waits for the next writer. What was open stays open meanwhile: nothing is lost of a writer
     /// who comes before. Where this program mayn't write the FIFO, the opening waits in the place of the read.
     fn open_again(&mut self) -> io::Result<()> {
-        let waiting = self.open(true).ok();
+        let waiting = match self.open(true) {
+            Ok(file) => Some(file),
+            Err(error) if error.kind() == ErrorKind::OutOfMemory => return Err(error),
+            Err(_) => None,
+        };
         self.file = Some(self.open(false)?);
         self.waiting = waiting;
         Ok(())
@@ -132,18 +133,6 @@ impl<'a> FifoInput<'a> {
     }
 }
 
-impl<'a> io::Read for FifoInput<'a> {
-    fn read(&mut self, buf: &mut [u8]) -> io::Result<usize> {
-        let read = self.read_on(buf);
-        if let Err(error) = &read {
-            if error.kind() == ErrorKind::OutOfMemory {
-                self.refused.store(true, Ordering::SeqCst);
-            }
-        }
-        read
-    }
-}
-
 /// Where the lines of a seat come from.
 #[derive(Drop)]
 pub enum SeatInput<'a> {
@@ -156,13 +145,8 @@ pub enum SeatInput<'a> {
 }
 
 impl<'a> SeatInput<'a> {
-    /// The input of an entry, and where it tells that memory was refused.
-    pub fn new(
-        rt: &'a HostRuntime,
-        entry: &'a SeatEntry,
-        kind: InputKind,
-        refused: &'a AtomicBool,
-    ) -> SeatInput<'a> {
+    /// The input of an entry.
+    pub fn new(rt: &'a HostRuntime, entry: &'a SeatEntry, kind: InputKind) -> SeatInput<'a> {
         let name = entry.input.as_str();
         match kind {
             InputKind::Standard => SeatInput::Standard(rt.reader()),
@@ -178,7 +162,6 @@ impl<'a> SeatInput<'a> {
                 file: None,
                 waiting: None,
                 held: HeldLines::new(rt.alloc()),
-                refused,
             }),
         }
     }
@@ -189,7 +172,7 @@ impl<'a> io::Read for SeatInput<'a> {
         match self {
             SeatInput::Standard(input) => input.read(buf),
             SeatInput::Named(input) => input.opened()?.read(buf),
-            SeatInput::Fifo(input) => input.read(buf),
+            SeatInput::Fifo(input) => input.read_on(buf),
         }
     }
 }

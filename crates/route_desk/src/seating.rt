@@ -8,15 +8,16 @@ use crate::loading::load_file;
 use crate::objects::{ObjectWriter, place_if};
 use crate::reasons::explain_file;
 use crate::reports::report;
+use crate::seat_ends::SeatEnds;
 use crate::seat_files::{InputKind, OutputKind, hold_closed, inputs_of, outputs_of};
 use crate::seat_inputs::SeatInput;
 use crate::seat_outputs::{SeatOutput, SeatTold};
-use crate::seat_reports::{SeatsText, refuse_desk, refuse_streams, refuse_text, tell_end};
+use crate::seat_reports::{SeatsText, refuse_desk, refuse_streams, refuse_text};
 use crate::seat_text::{SeatEntry, read_seats};
 use crate::streams::{Seen, SeenReader, SeenWriter};
 use console::Fault;
 use net_data::Net;
-use serving::{Channel, DeskEnd, run_seats};
+use serving::{Channel, DeskEnd, Farewell, run_seats};
 use std::alloc::{AllocError, Global};
 use std::io::ErrorKind;
 use std::process::ExitCode;
@@ -53,10 +54,7 @@ fn lines_of<'a>(
     kind: InputKind,
     seen: &'a Seen,
 ) -> Lines<'a> {
-    SeenReader::new(
-        seen,
-        SeatInput::new(rt, entry, kind, &seen.is_out_of_memory),
-    )
+    SeenReader::new(seen, SeatInput::new(rt, entry, kind))
 }
 
 /// The answers of a seat.
@@ -119,23 +117,6 @@ fn unseen(alloc: Global, count: usize) -> Result<Vec<Seen>, AllocError> {
     Ok(seen)
 }
 
-/// Says of each seat why it ended early, in the order of the text; whether one did.
-fn tell_ends(
-    rt: &HostRuntime,
-    entries: &[SeatEntry],
-    seen: &[Seen],
-    end: &DeskEnd<Lines<'_>, Answers<'_>>,
-    explained: bool,
-) -> bool {
-    let mut is_any = false;
-    for (place, entry) in entries.iter().enumerate() {
-        if let (Some(seen), Some(end)) = (seen.get(place), end.ends.get(place)) {
-            is_any |= tell_end(rt, entry, seen, end.fault, explained);
-        }
-    }
-    is_any
-}
-
 /// Saves the network of a desk that was run, if a file is named, and says why it can't.
 fn save_end(
     rt: &HostRuntime,
@@ -150,17 +131,15 @@ fn save_end(
     }
 }
 
-/// Ends a desk that was run: says which seats ended early, and saves its network if a file is named.
+/// Ends a desk that was run, of whose seats some may have ended early: saves its network if a file is named.
 fn finish_seats(
     rt: &HostRuntime,
-    entries: &[SeatEntry],
-    seen: &[Seen],
-    end: &DeskEnd<Lines<'_>, Answers<'_>>,
+    net: Option<&Net>,
+    is_any: bool,
     saving: Option<Saving<'_>>,
     explained: bool,
 ) -> io::Result<ExitCode> {
-    let is_any = tell_ends(rt, entries, seen, end, explained);
-    let saved = save_end(rt, end.net.as_ref(), saving, explained)?;
+    let saved = save_end(rt, net, saving, explained)?;
     if is_any {
         return Ok(ExitCode::from(1));
     }
@@ -171,6 +150,7 @@ fn finish_seats(
 fn run_channels<'a>(
     rt: &HostRuntime,
     threads: &(impl Threads + Wait + Sync),
+    farewell: &(impl Farewell + Sync),
     net: Net,
     workers: u32,
     channels: Result<Vec<Channel<Lines<'a>, Answers<'a>>>, AllocError>,
@@ -183,7 +163,15 @@ fn run_channels<'a>(
     if channels.is_empty() {
         return Err(Fault::OutOfMemory);
     }
-    run_seats(threads, rt.alloc(), workers, &Plain, net, channels)
+    run_seats(
+        threads,
+        rt.alloc(),
+        workers,
+        &Plain,
+        farewell,
+        net,
+        channels,
+    )
 }
 
 /// Runs the seats of a text whose files are open, and ends the desk.
@@ -205,8 +193,15 @@ fn run_open(
     };
     let seen = seen.as_slice();
     let channels = channels_of(rt, entries, inputs, outputs, seen, manner);
-    match run_channels(rt, threads, net, workers, channels) {
-        Ok(end) => finish_seats(rt, entries, seen, &end, saving, manner.explained),
+    let ends = SeatEnds::new(rt, threads, entries, seen, manner.explained);
+    match run_channels(rt, threads, &ends, net, workers, channels) {
+        Ok(end) => finish_seats(
+            rt,
+            end.net.as_ref(),
+            ends.is_any(),
+            saving,
+            manner.explained,
+        ),
         Err(fault) => refuse_desk(rt, &fault, manner.explained),
     }
 }

@@ -11,7 +11,7 @@ const REFUSED: &[u8] = b"refused ";
 /// What is seen of a run by its reader and its writers. They may be in another thread.
 #[derive(Drop)]
 pub struct Seen {
-    /// Whether memory was refused for an object of JSON, a picture or what a reader holds back.
+    /// Whether memory was refused for an object of JSON, a picture, a file's name or what a reader holds back.
     pub is_out_of_memory: AtomicBool,
     /// The system's number of what was wrong with the input, 0 if it isn't known.
     input: AtomicI32,
@@ -59,6 +59,18 @@ impl Seen {
         }
     }
 
+    /// Notes what the system said, or that memory was refused; not that the call was interrupted, which is tried again.
+    fn note<T>(&self, told: &io::Result<T>, place: &AtomicI32) {
+        let Err(error) = told else {
+            return;
+        };
+        match error.kind() {
+            ErrorKind::Interrupted => {}
+            ErrorKind::OutOfMemory => self.is_out_of_memory.store(true, Ordering::SeqCst),
+            _ => place.store(error.raw_os_error().unwrap_or(0), Ordering::SeqCst),
+        }
+    }
+
     /// The fault of a run that ended with a fault, or with none: if memory for what it reads or writes was refused, that was it.
     pub fn fault_of(&self, fault: Option<Fault>) -> Option<Fault> {
         if self.is_out_of_memory.load(Ordering::SeqCst) {
@@ -71,15 +83,6 @@ impl Seen {
     pub fn end_of(&self, mut end: ScriptEnd) -> ScriptEnd {
         end.fault = self.fault_of(end.fault);
         end
-    }
-}
-
-/// Notes what the system said, if it isn't that the call was interrupted, which is tried again.
-fn note<T>(told: &io::Result<T>, place: &AtomicI32) {
-    if let Err(error) = told {
-        if error.kind() != ErrorKind::Interrupted {
-            place.store(error.raw_os_error().unwrap_or(0), Ordering::SeqCst);
-        }
     }
 }
 
@@ -102,7 +105,7 @@ impl<'a, R: io::Read> io::Read for SeenReader<'a, R> {
 
     fn read(&mut self, buf: &mut [u8]) -> io::Result<usize> {
         let read = self.reader.read(buf);
-        note(&read, &self.seen.input);
+        self.seen.note(&read, &self.seen.input);
         read
     }
 }
@@ -126,7 +129,7 @@ impl<'a, W: io::Write> io::Write for SeenWriter<'a, W> {
 
     fn write(&mut self, buf: &[u8]) -> io::Result<usize> {
         let written = self.writer.write(buf);
-        note(&written, &self.seen.output);
+        self.seen.note(&written, &self.seen.output);
         written
     }
 

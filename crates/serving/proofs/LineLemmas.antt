@@ -1,6 +1,6 @@
 -- What a line does to its seat, and to the one history.
 use Rattle.std.proofs.Common.{◌≡◌, ◌≢◌, ℕ, ◌+◌, Bool, true, false, List, [], ◌∷◌, ◌++◌, Option, Some, None, Result, Ok, Err, inl, inr, refl, sym, ap, ◌∙◌, subst, length, arith, length-append, append-nil, append_assoc}
-use Rattle.std.specs.Prelude.{◌⊎◌, if◌then◌else◌}
+use Rattle.std.specs.Prelude.{if◌then◌else◌}
 use Rattle.std.specs.Option.{option_map_or}
 use mathlib.Core.List.{IsPrefix}
 use Rattle.net_data.specs.declared.events.Event.{Event}
@@ -24,7 +24,6 @@ use Rattle.desk_console.specs.Taken.{event_of, says_taken, taken_by}
 use Rattle.sessions.specs.Lines.{is_silent, is_too_long, trimmed}
 use Rattle.sessions.specs.Replies.{IsReply as IsAnswer, Replies}
 use Rattle.seats.specs.Minutes.{SeatValue, sight}
-use Rattle.seats.specs.declared.rule.Sight.{Sight}
 use Rattle.versions.specs.Working.{Comes, IsCall, IsHistory, IsWorkedOn, leaving, left_at}
 use Rattle.versions.specs.declared.state.DeskAndChain.{DeskAndChain}
 use Rattle.versions.proofs.SeatLemmas.{by_post, came, came_last, did, stays}
@@ -33,14 +32,9 @@ use Rattle.histories.proofs.EventLemmas.{post_events}
 use Rattle.histories.proofs.ExplainLemmas.{come_own, did_own}
 use Rattle.histories.proofs.SeenLemmas.{nth_taken}
 use Rattle.beside.specs.Beside.{BesideValue, DoesAt, Leaves, at_console}
+use Rattle.beside.proofs.BesideLemmas.{prefix_then}
 use Rattle.beside.proofs.RightLemmas.{nothing_taken, taken_ended}
 use Rattle.serving.specs.Seated.{CommandsAs, ObeysAs}
-
-pub sights_then : (xs ys zs : List (Sight DeskAndChain)) → IsPrefix xs ys → IsPrefix ys zs → IsPrefix xs zs
-sights_then xs ys zs p q = (p.0 ++ q.0, sym (append_assoc xs p.0 q.0) ∙ (ap (λ (l : List (Sight DeskAndChain)). l ++ q.0) p.1 ∙ q.1))
-
-pub versions_then : (xs ys zs : List VersionValue) → IsPrefix xs ys → IsPrefix ys zs → IsPrefix xs zs
-versions_then xs ys zs p q = (p.0 ++ q.0, sym (append_assoc xs p.0 q.0) ∙ (ap (λ (l : List VersionValue). l ++ q.0) p.1 ∙ q.1))
 
 pub versions_same : (xs ys : List VersionValue) → ys ≡ xs → IsPrefix xs ys
 versions_same xs ys same = ([], append-nil xs ∙ sym same)
@@ -141,7 +135,7 @@ module _ (start : Network) (seats : ℕ) (b : BesideValue) (text : List ℕ) (ne
       let all : events_of left ≡ events_of found ++ taken = post_events found left collector seq event result made shown ∙ ap (λ (l : List Event). events_of found ++ l) told in
       record {
         me = ap (λ (s : SeatValue DeskAndChain). s.me) is ∙ ap (λ (s : SeatValue DeskAndChain). s.me) comes.saw;
-        saw = sights_then b.seat.saw there.saw new.seat.saw (saw_came seats b.seat there found comes) (saw_left there new.seat left is);
+        saw = prefix_then b.seat.saw there.saw new.seat.saw (saw_came seats b.seat there found comes) (saw_left there new.seat left is);
         history = subst IsHistory (sym (ap (λ (s : SeatValue DeskAndChain). s.saw) is)) (history_done seats b.seat there found left comes (by_post found left collector seq event result made shown));
         own = did_own seats b.seat new.seat found left taken history (there, comes, is) all;
         number = λ one same. numbered one same;
@@ -177,7 +171,7 @@ module _ (start : Network) (seats : ℕ) (b : BesideValue) (text : List ℕ) (ne
       go (inl is) = visits does.finds.there found taken none does.finds.comes is.0 (seen_told Done found does)
       go (inr is) = record {
         me = ap (λ (s : SeatValue DeskAndChain). s.me) is ∙ ap (λ (s : SeatValue DeskAndChain). s.me) does.finds.comes.saw;
-        saw = sights_then b.seat.saw does.finds.there.saw new.seat.saw (saw_came seats b.seat does.finds.there found does.finds.comes) (saw_left does.finds.there new.seat new.left is);
+        saw = prefix_then b.seat.saw does.finds.there.saw new.seat.saw (saw_came seats b.seat does.finds.there found does.finds.comes) (saw_left does.finds.there new.seat new.left is);
         history = subst IsHistory (sym (ap (λ (s : SeatValue DeskAndChain). s.saw) is)) (history_still seats b.seat does.finds.there found new.left does.finds.comes kept);
         own = did_own seats b.seat new.seat found new.left taken history (does.finds.there, does.finds.comes, is)
             (ap events_of kept ∙ sym (append-nil (events_of found)) ∙ ap (λ (l : List Event). events_of found ++ l) (sym none));
@@ -220,7 +214,11 @@ module _ (start : Network) (seats : ℕ) (b : BesideValue) (text : List ℕ) (ne
   obeyed posts collector other (Some (command.Give k)) is = same _ (nothing_taken (says_taken text)) is.1
   obeyed posts collector other (Some (command.Abandon k)) is = same _ (nothing_taken (says_taken text)) is.1
   obeyed posts collector other (Some command.Publish) is = same _ (nothing_taken (says_taken text)) is.1
-  obeyed posts collector other (Some command.Sync) is = still _ (nothing_taken (says_taken text)) is.1.seat is.1.seen
+  obeyed posts collector other (Some command.Sync) is =
+      let visit = is.visits.1 in
+      let look = is.syncs.1 in
+      visits visit.0.there is.visits.0 _ (nothing_taken (says_taken text)) visit.0.comes (look.seat ∙ ap (λ (x : BesideValue). x.seat) visit.1)
+      (prefix_then b.seen is.there.seen new.seen (subst (IsPrefix b.seen) (sym (ap (λ (x : BesideValue). x.seen) visit.1)) visit.0.seen) look.seen)
   obeyed posts collector other (Some command.Version) is = looks_there (Does command.Version) is.0 _ (nothing_taken (says_taken text)) is.1 (left_same is.0 is.1.shown is.1.done.1)
   obeyed posts collector other (Some (command.About asked y x)) is = still _ (nothing_taken (says_taken text)) is.1.seat is.1.seen
   obeyed posts collector other (Some (command.Trace y x s)) is = still _ (nothing_taken (says_taken text)) is.1.seat is.1.seen

@@ -5,7 +5,6 @@ use mathlib.Core.List.{IsPrefix}
 use Rattle.net_data.specs.declared.events.Event.{Event}
 use Rattle.net_data.specs.Network.{Network}
 use Rattle.net_versions.specs.Versions.{VersionValue}
-use Rattle.work_units.specs.declared.replies.Posted.TheVariants.{Taken}
 use Rattle.desk_core.specs.declared.steps.Reply.TheVariants as reply
 use Rattle.desk_core.specs.Runs.{event_taken}
 use Rattle.desk_console.specs.Taken.{taken_by}
@@ -30,10 +29,8 @@ use Rattle.beside.specs.Right.{Moment, texts}
 use Rattle.serving.specs.Seated.{CommandsAs, CommandsSeated, KeepsRules, LosesSeated, SeatedValue}
 use Rattle.serving.specs.Served.{AreSeen, AreTold, AreWritten, IsLost, IsToldSession, lines_in, taken_in}
 use Rattle.serving.specs.Sittings.{Sits, fault_of}
-use Rattle.serving.proofs.LineLemmas.{LineTold, history_done, line_told, saw_came, saw_left, sights_then, versions_then}
-
-prefix_then : {A : Type 0} (xs ys zs : List A) → IsPrefix xs ys → IsPrefix ys zs → IsPrefix xs zs
-prefix_then {A} xs ys zs p q = (p.0 ++ q.0, sym (append_assoc xs p.0 q.0) ∙ (ap (λ (l : List A). l ++ q.0) p.1 ∙ q.1))
+use Rattle.beside.proofs.BesideLemmas.{prefix_then}
+use Rattle.serving.proofs.LineLemmas.{LineTold, history_done, line_told, saw_came, saw_left}
 
 -- the events of a part of a history begin those of the whole
 authored_grown : (saw log : List (Sight DeskAndChain)) → IsHistory saw → IsPrefix saw log → IsPrefix (authored_in saw) (authored_in log)
@@ -108,9 +105,9 @@ module _ (start : Network) (seats : ℕ) (posts : Bool) (collector : ℕ) where
         told = is.5 ∙ ap (λ (x : List ℕ). t ++ x) rest.told;
         grows = record {
           me = rest.grows.me ∙ told.me;
-          saw = sights_then s.beside.seat.saw mid.beside.seat.saw new.beside.seat.saw told.saw rest.grows.saw;
+          saw = prefix_then s.beside.seat.saw mid.beside.seat.saw new.beside.seat.saw told.saw rest.grows.saw;
           history = rest.grows.history;
-          seen = versions_then s.beside.seen mid.beside.seen new.beside.seen told.seen rest.grows.seen;
+          seen = prefix_then s.beside.seen mid.beside.seen new.beside.seen told.seen rest.grows.seen;
         };
         own =
             ap (λ n. own_events n new.beside.seat.saw) (sym told.me)
@@ -132,7 +129,7 @@ module _ (start : Network) (seats : ℕ) (posts : Bool) (collector : ℕ) where
           },
           subst (λ n. AreTold seats posts collector all n mid.beside rest.moments) told.me (rest.each all prefix),
         );
-        views = λ shown prefix. (versions_then mid.beside.seen new.beside.seen shown rest.grows.seen prefix, rest.views shown prefix);
+        views = λ shown prefix. (prefix_then mid.beside.seen new.beside.seen shown rest.grows.seen prefix, rest.views shown prefix);
       }
 
 -- ---- a line whose answer was lost
@@ -186,7 +183,7 @@ module _ (seats : ℕ) (line : List ℕ) (lines : List (List ℕ)) (b new : Besi
         is_lost = lost_is (post_is came.found.desk call.collector call.seq call.event call.reply came.left.desk call.made);
         grows = record {
           me = ap (λ (s : SeatValue DeskAndChain). s.me) came.came.2 ∙ ap (λ (s : SeatValue DeskAndChain). s.me) comes.saw;
-          saw = sights_then b.seat.saw there.saw new.seat.saw (saw_came seats b.seat there came.found comes) (saw_left there new.seat came.left came.came.2);
+          saw = prefix_then b.seat.saw there.saw new.seat.saw (saw_came seats b.seat there came.found comes) (saw_left there new.seat came.left came.came.2);
           history = subst IsHistory (sym (ap (λ (s : SeatValue DeskAndChain). s.saw) came.came.2)) (history_done seats b.seat there came.found came.left comes call);
           seen = came.seen;
         };
@@ -254,9 +251,9 @@ module _ (start : Network) (seats : ℕ) (posts : Bool) (collector : ℕ) (b : B
         lost = l.lost;
         grows = record {
           me = l.grows.me ∙ m.grows.me;
-          saw = sights_then b.seat.saw cut.mid.beside.seat.saw after.beside.seat.saw m.grows.saw l.grows.saw;
+          saw = prefix_then b.seat.saw cut.mid.beside.seat.saw after.beside.seat.saw m.grows.saw l.grows.saw;
           history = l.grows.history;
-          seen = versions_then b.seen cut.mid.beside.seen after.beside.seen m.grows.seen l.grows.seen;
+          seen = prefix_then b.seen cut.mid.beside.seen after.beside.seen m.grows.seen l.grows.seen;
         };
         own =
             ap (λ n. own_events n after.beside.seat.saw) (sym m.grows.me)
@@ -266,7 +263,7 @@ module _ (start : Network) (seats : ℕ) (posts : Bool) (collector : ℕ) (b : B
         each = λ all prefix.
             m.each all (prefix_then (authored_in cut.mid.beside.seat.saw) (authored_in after.beside.seat.saw) all
             (authored_grown cut.mid.beside.seat.saw after.beside.seat.saw m.grows.history l.grows.saw) prefix);
-        views = λ shown prefix. m.views shown (versions_then cut.mid.beside.seen after.beside.seen shown l.grows.seen prefix);
+        views = λ shown prefix. m.views shown (prefix_then cut.mid.beside.seen after.beside.seen shown l.grows.seen prefix);
         outcome = outcome m.moments l.lost cut.left cut.front.0 (cut.whole ∙ ap (λ (ls : List (List ℕ)). ls ++ cut.left) m.asked) (sym m.told ∙ cut.front.1) l.is_lost;
       }
 
@@ -325,7 +322,7 @@ session_told start seats posts collector b unread left held holds fault lines se
     to_end = (since.since, sym since.whole)
 
     to_log : IsPrefix after.seat.saw log
-    to_log = sights_then after.seat.saw seat.saw log (saw_came seats after.seat seat found comes) to_end
+    to_log = prefix_then after.seat.saw seat.saw log (saw_came seats after.seat seat found comes) to_end
 
     me : seat.me ≡ b.seat.me
     me = ap (λ (s : SeatValue DeskAndChain). s.me) comes.saw ∙ l.grows.me
@@ -341,18 +338,18 @@ session_told start seats posts collector b unread left held holds fault lines se
         ∙ ap (λ (saw : List (Sight DeskAndChain)). own_events b.seat.me saw ++ (taken_in l.moments ++ l.lost)) opens.seat
 
     end : IsEnded start seats log state
-    end = ended start seats log state (opened_later start b.seat.saw log opened (sights_then b.seat.saw after.seat.saw log l.grows.saw to_log)) whole
+    end = ended start seats log state (opened_later start b.seat.saw log opened (prefix_then b.seat.saw after.seat.saw log l.grows.saw to_log)) whole
 
     -- what was published at the last visit begins what is published at the end
     shown : IsPrefix found.shown.chain state.shown.chain
     shown =
-        let opened_seat : IsOpened start seat.saw = opened_later start b.seat.saw seat.saw opened (sights_then b.seat.saw after.seat.saw seat.saw l.grows.saw (saw_came seats after.seat seat found comes)) in
+        let opened_seat : IsOpened start seat.saw = opened_later start b.seat.saw seat.saw opened (prefix_then b.seat.saw after.seat.saw seat.saw l.grows.saw (saw_came seats after.seat seat found comes)) in
         let part : IsSeen start seat.saw (seat.saw ++ since.since) = seen_in start seat.saw since.since opened_seat (subst IsHistory since.whole whole.history) in
-        versions_then found.shown.chain (left_at log).shown.chain state.shown.chain
+        prefix_then found.shown.chain (left_at log).shown.chain state.shown.chain
         (subst (λ (x : DeskAndChain × List (Sight DeskAndChain)). IsPrefix x.0.shown.chain (left_at x.1).shown.chain) (λ i. (came_last seats after.seat found seat comes i, sym since.whole i)) part.chain) end.chain
 
     seen_by : fault ≢ Some NoPlace → (told : Result (Unit {0}) Fault) → OnOk told (IsPrefix after.seen found.shown.chain) → OnErr told (told ≡ Err NoPlace) → fault ≡ fault_of told sits.ended → IsPrefix after.seen state.shown.chain
-    seen_by apart (Ok done) seen bad is = versions_then after.seen found.shown.chain state.shown.chain seen shown
+    seen_by apart (Ok done) seen bad is = prefix_then after.seen found.shown.chain state.shown.chain seen shown
     seen_by apart (Err e) seen bad is = absurd (apart (is ∙ ap (λ (r : Result (Unit {0}) Fault). fault_of r sits.ended) bad))
 
     cause_is : (told : Result (Unit {0}) Fault) → OnErr told (told ≡ Err NoPlace) → fault ≡ fault_of told sits.ended → (fault ≡ sits.ended) ⊎ (fault ≡ Some NoPlace)

@@ -1,5 +1,5 @@
 -- What the lines of a session do, which may post or only ask (own).
-use Rattle.std.specs.Prelude.{◌≡◌, ℕ, Bool, true, false, List, [], Option, Some, None}
+use Rattle.std.specs.Prelude.{◌≡◌, ℕ, Bool, true, false, List, Option, Some, None}
 use Rattle.tokens.specs.Words.{words_of}
 use Rattle.answers.specs.Help.{other_answer}
 use Rattle.answers.specs.Plain.{bad_line}

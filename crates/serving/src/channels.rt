@@ -1,7 +1,22 @@
-//! What a session reads and writes, and how it ends.
+//! What a session reads and writes, how it ends, and who is told so.
 
 use net_data::Net;
 use sessions::Fault;
+
+/// Who is told how a session has ended, while others go on.
+pub trait Farewell {
+    /// The session of this number, in the order in which they were given, has ended, and was cut short if there is a fault. It is told in
+    /// the session's own thread, so others may be told at the same time.
+    fn tell(&self, session: usize, fault: Option<Fault>);
+}
+
+/// Who does nothing when a session has ended.
+#[derive(Drop)]
+pub struct Silent;
+
+impl Farewell for Silent {
+    fn tell(&self, _session: usize, _fault: Option<Fault>) {}
+}
 
 /// A session that is to be run.
 #[derive(Drop)]

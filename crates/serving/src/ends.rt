@@ -1,6 +1,6 @@
 //! How sessions ended, once their hub has.
 
-ghost use Rattle.std.specs.Prelude.{◌≡◌, ◌+◌, ◌<◌, ◌≤◌, ◌∷◌, ◌++◌, [], ℕ, List, Err, Some, IfOk, length};
+ghost use Rattle.std.specs.Prelude.{◌≡◌, ◌<◌, ◌≤◌, List, Some, length, vec_capacity, vec_len};
 ghost use Rattle.net_data.specs.Network.{Network};
 ghost use Rattle.desk_core.specs.Desk.{net_now};
 ghost use Rattle.seats.specs.Minutes.{OnlyOthersSince, SeatValue};
@@ -11,10 +11,8 @@ ghost use Rattle.serving.specs.Served.{IsServed};
 ghost use Rattle.serving.specs.Sittings.{AreEnded, AreSat, AreSeated, IsEndOf};
 
 use crate::channels::{DeskEnd, SessionEnd};
-use crate::seating::{give_up, push};
 use crate::sittings::Sitting;
 use net_data::Net;
-use sessions::Fault;
 use std::alloc::Global;
 use std::io::{Read, Write};
 use std::sync::Wait;
@@ -56,24 +54,21 @@ fn ended<N: Naming, T: Wait, R: Drop, W: Drop>(
     }
 }
 
-/// How all sessions ended, in the order in which they were given: they come the last first.
+/// How all sessions ended, in the order in which they were given: they come the last first. The list has room for them.
 fn end_all<N: Naming, T: Wait, R: Drop, W: Drop>(
     rt: &T,
-    alloc: Global,
     history: &mut History<N>,
     mut sittings: Vec<Sitting<N, R, W>>,
-) -> Result<Vec<SessionEnd<R, W>>, Fault>
+    mut ends: Vec<SessionEnd<R, W>>,
+) -> Vec<SessionEnd<R, W>>
+    requires room { (vec_len ends ≡ 0) × (vec_len sittings ≤ vec_capacity ends) }
     ensures same { history.new ≡ history.old }
-    ensures ends { IfOk result (λ v. AreEnded N.seats history.old.log history.old.state sittings.items v.items) }
+    ensures ends { AreEnded N.seats history.old.log history.old.state sittings.items result.items }
 {
-    let mut ends = Vec::new(alloc);
     while let Some(sitting) = sittings.pop() {
-        let end = ended(rt, history, sitting);
-        if let Err(fault) = push(&mut ends, end) {
-            return Err(fault);
-        }
+        ends.push_reserved(ended(rt, history, sitting));
     }
-    Ok(ends)
+    ends
 }
 
 /// The network after all events of a hub that has ended, if memory for it is granted.
@@ -83,22 +78,22 @@ fn net_after<N: Naming>(alloc: Global, history: History<N>) -> Option<Net>
     history.into_desk().net_now().copy(alloc).ok()
 }
 
-/// The end of sessions that were run, at a hub that has ended.
+/// The end of sessions that were run, at a hub that has ended. The list has room for their ends.
 pub(crate) fn end_run<N: Naming, T: Wait, R: Read + Drop, W: Write + Drop>(
     rt: &T,
     alloc: Global,
     mut history: History<N>,
     sat: Vec<Sitting<N, R, W>>,
-) -> Result<DeskEnd<R, W>, Fault>
+    room: Vec<SessionEnd<R, W>>,
+) -> DeskEnd<R, W>
+    requires room { (vec_len room ≡ 0) × (vec_len sat ≤ vec_capacity room) }
     ensures { (state : DeskAndChain_value) (net : Network) (channels : List _) (sittings : List _)
         → IsOpening net state → AreSeated N.table state channels sittings → AreSat R.remaining W.contents N.seats sittings sat.items → length channels ≡ N.seats → 0 < N.seats
-        → IfOk result (λ end. IsServed R.remaining W.contents net channels end.ends.items end.net) }
+        → IsServed R.remaining W.contents net channels result.ends.items result.net }
 {
-    match end_all(rt, alloc, &mut history, sat) {
-        Ok(ends) => Ok(DeskEnd {
-            ends,
-            net: net_after(alloc, history),
-        }),
-        Err(fault) => give_up(history, fault),
+    let ends = end_all(rt, &mut history, sat, room);
+    DeskEnd {
+        ends,
+        net: net_after(alloc, history),
     }
 }

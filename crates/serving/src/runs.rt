@@ -1,14 +1,14 @@
 //! Runs of many sessions at one desk.
 
-ghost use Rattle.std.specs.Prelude.{◌≡◌, ◌+◌, ◌<◌, ◌≤◌, ◌∷◌, ◌++◌, [], ℕ, List, Err, Some, IfOk, length, slice_index_or, vec_len};
+ghost use Rattle.std.specs.Prelude.{◌≡◌, ◌+◌, ◌<◌, ◌≤◌, ◌∷◌, ◌++◌, [], ℕ, List, Err, Some, IfOk, length, slice_index_or, vec_capacity, vec_len};
 ghost use Rattle.net_data.specs.Network.{Network};
 ghost use Rattle.histories.specs.Histories.{IsOpening};
 ghost use Rattle.serving.specs.Served.{IsServed};
 ghost use Rattle.serving.specs.Sittings.{AreSat, AreSeated, IsSat, seat_at};
 
-use crate::channels::{Channel, DeskEnd};
+use crate::channels::{Channel, DeskEnd, Farewell, SessionEnd};
 use crate::ends::end_run;
-use crate::seating::{admit_more, give_up, seat_all};
+use crate::seating::{admit_more, give_up, seat_with_room};
 use crate::sittings::{Sitting, sit};
 use desk_core::Desk;
 use net_data::Net;
@@ -38,15 +38,17 @@ fn open_hub<R: Wait>(rt: &R, alloc: Global, net: Net) -> Result<UnnamedWithSeats
     UnnamedWithSeats::new(rt, alloc, desk)
 }
 
-/// Runs all sessions at their seats, each in a thread of its own.
+/// Runs all sessions at their seats, the last first in the list, each in a thread of its own. Who ends is told at once.
 fn sit_all<
     N: Naming + Send + Sync,
     T: Threads + Wait + Sync,
+    F: Farewell + Sync,
     R: Read + Send + Drop,
     W: Write + Send + Drop,
 >(
     rt: &T,
     alloc: Global,
+    farewell: &F,
     hub: &Mutex<Hub<N, BySeats>>,
     signals: &Signals,
     sittings: &mut [Sitting<N, R, W>],
@@ -59,9 +61,13 @@ fn sit_all<
             rt,
             sittings,
             all,
-            &|_at: usize, sitting: &mut Sitting<N, R, W>|
+            &|at: usize, sitting: &mut Sitting<N, R, W>|
+                requires { at < all }
                 ensures { (start : _) → sitting.entry.now.visitor ≡ Some start → IsSat R.remaining W.contents N.seats start sitting.entry.now sitting.exit.now }
-            { sit(rt, alloc, hub, signals, sitting) },
+            {
+                sit(rt, alloc, hub, signals, sitting);
+                farewell.tell(all - 1 - at, sitting.fault);
+            },
         );
     }
 }
@@ -71,6 +77,7 @@ fn sit_beside<
     N: Naming + Send + Sync,
     T: Threads + Wait + Sync,
     G: Gate + Sync,
+    F: Farewell + Sync,
     R: Read + Send + Drop,
     W: Write + Send + Drop,
 >(
@@ -78,6 +85,7 @@ fn sit_beside<
     alloc: Global,
     n: u32,
     gate: &G,
+    farewell: &F,
     hub: &Mutex<Hub<N, BySeats>>,
     signals: &Signals,
     sittings: Vec<Sitting<N, R, W>>,
@@ -94,7 +102,7 @@ fn sit_beside<
         gate,
         || -> Vec<Sitting<N, R, W>>
             ensures { AreSat R.remaining W.contents N.seats sittings.items result.items }
-        { sit_whole(rt, alloc, hub, signals, sittings) },
+        { sit_whole(rt, alloc, farewell, hub, signals, sittings) },
     );
     sat
 }
@@ -103,18 +111,20 @@ fn sit_beside<
 fn sit_whole<
     N: Naming + Send + Sync,
     T: Threads + Wait + Sync,
+    F: Farewell + Sync,
     R: Read + Send + Drop,
     W: Write + Send + Drop,
 >(
     rt: &T,
     alloc: Global,
+    farewell: &F,
     hub: &Mutex<Hub<N, BySeats>>,
     signals: &Signals,
     mut sittings: Vec<Sitting<N, R, W>>,
 ) -> Vec<Sitting<N, R, W>>
     ensures { AreSat R.remaining W.contents N.seats sittings.items result.items }
 {
-    sit_all(rt, alloc, hub, signals, sittings.as_mut_slice());
+    sit_all(rt, alloc, farewell, hub, signals, sittings.as_mut_slice());
     sittings
 }
 
@@ -123,6 +133,7 @@ fn work<
     N: Naming + Send + Sync,
     T: Threads + Wait + Sync,
     G: Gate + Sync,
+    F: Farewell + Sync,
     R: Read + Send + Drop,
     W: Write + Send + Drop,
 >(
@@ -130,6 +141,7 @@ fn work<
     alloc: Global,
     n: u32,
     gate: &G,
+    farewell: &F,
     hub: &Mutex<Hub<N, BySeats>>,
     sittings: Vec<Sitting<N, R, W>>,
 ) -> Vec<Sitting<N, R, W>>
@@ -138,9 +150,9 @@ fn work<
 {
     let signals = Signals::new();
     if n == 0 {
-        sit_whole(rt, alloc, hub, &signals, sittings)
+        sit_whole(rt, alloc, farewell, hub, &signals, sittings)
     } else {
-        sit_beside(rt, alloc, n, gate, hub, &signals, sittings)
+        sit_beside(rt, alloc, n, gate, farewell, hub, &signals, sittings)
     }
 }
 
@@ -149,6 +161,7 @@ fn run_sittings<
     N: Naming + Send + Sync,
     T: Threads + Wait + Sync,
     G: Gate + Sync,
+    F: Farewell + Sync,
     R: Read + Send + Drop,
     W: Write + Send + Drop,
 >(
@@ -156,16 +169,19 @@ fn run_sittings<
     alloc: Global,
     n: u32,
     gate: &G,
+    farewell: &F,
     hub: Hub<N, BySeats>,
     sittings: Vec<Sitting<N, R, W>>,
-) -> Result<DeskEnd<R, W>, Fault>
-    requires { n ≤ 32 }
+    room: Vec<SessionEnd<R, W>>,
+) -> DeskEnd<R, W>
+    requires workers { n ≤ 32 }
+    requires room { (vec_len room ≡ 0) × (vec_len sittings ≤ vec_capacity room) }
     ensures { (net : Network) (channels : List _) → IsOpening net hub.state → AreSeated N.table hub.state channels sittings.items → length channels ≡ N.seats → 0 < N.seats
-        → IfOk result (λ end. IsServed R.remaining W.contents net channels end.ends.items end.net) }
+        → IsServed R.remaining W.contents net channels result.ends.items result.net }
 {
     let hub = Mutex::new(hub);
-    let sat = work(rt, alloc, n, gate, &hub, sittings);
-    end_run(rt, alloc, hub.into_inner().finish(rt), sat)
+    let sat = work(rt, alloc, n, gate, farewell, &hub, sittings);
+    end_run(rt, alloc, hub.into_inner().finish(rt), sat, room)
 }
 
 /// Runs all sessions at a hub whose first seat is this.
@@ -173,6 +189,7 @@ fn run_at<
     N: Naming + Send + Sync,
     T: Threads + Wait + Sync,
     G: Gate + Sync,
+    F: Farewell + Sync,
     R: Read + Send + Drop,
     W: Write + Send + Drop,
 >(
@@ -180,6 +197,7 @@ fn run_at<
     alloc: Global,
     n: u32,
     gate: &G,
+    farewell: &F,
     hub: Hub<N, BySeats>,
     first: Guest<N>,
     seats: Vec<Seat<DeskAndChain>>,
@@ -191,8 +209,8 @@ fn run_at<
     requires count { (vec_len channels ≡ vec_len seats + 1) × (vec_len channels ≡ N.seats) }
     ensures { (net : Network) → IsOpening net hub.state → IfOk result (λ end. IsServed R.remaining W.contents net channels.items end.ends.items end.net) }
 {
-    match seat_all(alloc, &hub, first, seats, channels) {
-        Ok(sittings) => run_sittings(rt, alloc, n, gate, hub, sittings),
+    match seat_with_room(alloc, &hub, first, seats, channels) {
+        Ok((sittings, room)) => Ok(run_sittings(rt, alloc, n, gate, farewell, hub, sittings, room)),
         Err(fault) => close(rt, hub, fault),
     }
 }
@@ -202,6 +220,7 @@ fn run_named<
     N: Naming + Send + Sync,
     T: Threads + Wait + Sync,
     G: Gate + Sync,
+    F: Farewell + Sync,
     R: Read + Send + Drop,
     W: Write + Send + Drop,
 >(
@@ -209,6 +228,7 @@ fn run_named<
     alloc: Global,
     n: u32,
     gate: &G,
+    farewell: &F,
     unnamed: UnnamedWithSeats,
     seats: Vec<Seat<DeskAndChain>>,
     channels: Vec<Channel<R, W>>,
@@ -220,7 +240,7 @@ fn run_named<
     ensures { (net : Network) → IsOpening net unnamed.state → IfOk result (λ end. IsServed R.remaining W.contents net channels.items end.ends.items end.net) }
 {
     match unnamed.named::<N>(alloc) {
-        Ok((hub, first)) => run_at(rt, alloc, n, gate, hub, first, seats, channels),
+        Ok((hub, first)) => run_at(rt, alloc, n, gate, farewell, hub, first, seats, channels),
         Err(_) => Err(Fault::NoPlace),
     }
 }
@@ -229,6 +249,7 @@ fn run_named<
 fn run_unnamed<
     T: Threads + Wait + Sync,
     G: Gate + Sync,
+    F: Farewell + Sync,
     R: Read + Send + Drop,
     W: Write + Send + Drop,
 >(
@@ -236,6 +257,7 @@ fn run_unnamed<
     alloc: Global,
     n: u32,
     gate: &G,
+    farewell: &F,
     mut unnamed: UnnamedWithSeats,
     channels: Vec<Channel<R, W>>,
 ) -> Result<DeskEnd<R, W>, Fault>
@@ -244,13 +266,15 @@ fn run_unnamed<
     ensures { (net : Network) → IsOpening net unnamed.state → IfOk result (λ end. IsServed R.remaining W.contents net channels.items end.ends.items end.net) }
 {
     match admit_more(alloc, &mut unnamed, channels.len() - 1) {
-        Ok(seats) => run_named::<Brand, _, _, _, _>(rt, alloc, n, gate, unnamed, seats, channels),
+        Ok(seats) => run_named::<Brand, _, _, _, _, _>(
+            rt, alloc, n, gate, farewell, unnamed, seats, channels,
+        ),
         Err(fault) => give_up(unnamed, fault),
     }
 }
 
 /// Runs all sessions at one desk over a network, each in a thread of its own, beside that many workers. With no worker a session that
-/// waits for a version does their work in line.
+/// waits for a version does their work in line. Who says farewell is told of each session as soon as it has ended.
 ///
 /// One list of accepted events and one chain of published versions explain what each session was told: see `IsServed`.
 ///
@@ -260,6 +284,7 @@ fn run_unnamed<
 pub fn run_seats<
     T: Threads + Wait + Sync,
     G: Gate + Sync,
+    F: Farewell + Sync,
     R: Read + Send + Drop,
     W: Write + Send + Drop,
 >(
@@ -267,6 +292,7 @@ pub fn run_seats<
     alloc: Global,
     n: u32,
     gate: &G,
+    farewell: &F,
     net: Net,
     channels: Vec<Channel<R, W>>,
 ) -> Result<DeskEnd<R, W>, Fault>
@@ -275,7 +301,7 @@ pub fn run_seats<
     ensures { IfOk result (λ end. IsServed R.remaining W.contents net channels.items end.ends.items end.net) }
 {
     match open_hub(rt, alloc, net) {
-        Ok(unnamed) => run_unnamed(rt, alloc, n, gate, unnamed, channels),
+        Ok(unnamed) => run_unnamed(rt, alloc, n, gate, farewell, unnamed, channels),
         Err(_) => Err(Fault::OutOfMemory),
     }
 }

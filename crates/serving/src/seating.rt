@@ -1,11 +1,11 @@
 //! Sessions at their seats, before they begin.
 
-ghost use Rattle.std.specs.Prelude.{◌≡◌, ◌+◌, ◌<◌, ◌≤◌, ◌∷◌, ◌++◌, [], ℕ, Err, Some, IfOk, OnOk, slice_index_or, vec_len};
+ghost use Rattle.std.specs.Prelude.{◌≡◌, ◌+◌, ◌<◌, ◌≤◌, ◌∷◌, ◌++◌, [], ℕ, Err, Some, IfOk, OnOk, slice_index_or, vec_capacity, vec_len};
 ghost use Rattle.versions.specs.Working.{left_at};
 ghost use Rattle.beside.specs.Beside.{newcomer};
 ghost use Rattle.serving.specs.Sittings.{AreSeated, AreSeatedTo, HasAdmitted, SeatsLast, seat_at, unbegun};
 
-use crate::channels::Channel;
+use crate::channels::{Channel, SessionEnd};
 use crate::sittings::Sitting;
 use beside::Visitor;
 use seats::Seat;
@@ -121,7 +121,7 @@ fn seat_more<N: Naming, R: Drop, W: Drop>(
 }
 
 /// All sessions at their seats, the last first.
-pub(crate) fn seat_all<N: Naming, R: Drop, W: Drop>(
+fn seat_all<N: Naming, R: Drop, W: Drop>(
     alloc: Global,
     hub: &Hub<N, BySeats>,
     first: Guest<N>,
@@ -137,4 +137,23 @@ pub(crate) fn seat_all<N: Naming, R: Drop, W: Drop>(
     seat_more(hub, seats, &mut channels, &mut sittings)?;
     seat_last(hub, first, &mut channels, &mut sittings)?;
     Ok(sittings)
+}
+
+/// All sessions at their seats, the last first, and a list with room for their ends, so that none of these needs memory once they have run.
+pub(crate) fn seat_with_room<N: Naming, R: Drop, W: Drop>(
+    alloc: Global,
+    hub: &Hub<N, BySeats>,
+    first: Guest<N>,
+    seats: Vec<Seat<DeskAndChain>>,
+    channels: Vec<Channel<R, W>>,
+) -> Result<(Vec<Sitting<N, R, W>>, Vec<SessionEnd<R, W>>), Fault>
+    requires first { first ≡ seat_at N.table hub.now.state 0 }
+    requires seats { (j : ℕ) (d : _) → j < vec_len seats → slice_index_or seats.items j d ≡ seat_at N.table hub.now.state (j + 1) }
+    requires count { vec_len channels ≡ vec_len seats + 1 }
+    ensures seated { IfOk result (λ both. AreSeated N.table hub.now.state channels.items both.0.items) }
+    ensures room { IfOk result (λ both. (vec_len both.1 ≡ 0) × (vec_len both.0 ≤ vec_capacity both.1)) }
+{
+    let sittings = seat_all(alloc, hub, first, seats, channels)?;
+    let room = Vec::with_capacity(alloc, sittings.len())?;
+    Ok((sittings, room))
 }

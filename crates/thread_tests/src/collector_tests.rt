@@ -138,7 +138,13 @@ fn last_seqs<N: Naming>(hub: &Hub<N>) -> [u64; 5] {
     ]
 }
 
-/// The collectors post, a reader looks after them, and the last post of each is as it should be.
+/// The newest version has all posts.
+fn expect_hub_newest<N: Naming, R: Wait + Abort>(rt: &R, hub: &Mutex<Hub<N>>) {
+    let newest = hub.lock(rt).newest().expect(rt, "a version");
+    assert_eq!(rt; newest.number(), 4001);
+}
+
+/// The collectors post, a reader looks after them, and the newest version and the last post of each are as they should be.
 fn expect_collected<N: Naming + Send + Sync, R: Threads + Wait + Abort + Sync>(
     rt: &R,
     alloc: Global,
@@ -146,6 +152,7 @@ fn expect_collected<N: Naming + Send + Sync, R: Threads + Wait + Abort + Sync>(
     reader: Reader<N>,
 ) {
     let note = run_collectors(rt, alloc, hub);
+    expect_hub_newest(rt, hub);
     join(rt, move || look_after(rt, alloc, reader, note), || ());
     let seqs = last_seqs(&*hub.lock(rt));
     assert_eq!(rt; seqs, [1000, 1000, 1000, 1000, 1]);

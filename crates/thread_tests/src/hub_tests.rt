@@ -56,15 +56,29 @@ fn publish<N: Naming, R: Wait>(rt: &R, alloc: Global, hub: &Mutex<Hub<N>>) -> Re
     hub.lock(rt).publish(rt, alloc)
 }
 
-/// A result is taken in, and version 1 published.
-fn expect_published<N: Naming, R: Wait + Abort>(
-    rt: &R,
-    alloc: Global,
-    hub: &Mutex<Hub<N>>,
-    settled: Settled,
-) {
+/// A result is taken in.
+fn expect_given<N: Naming, R: Wait + Abort>(rt: &R, hub: &Mutex<Hub<N>>, settled: Settled) {
     let given = give(rt, hub, settled);
-    assert_eq!(rt; (given, publish(rt, alloc, hub)), (Ok(()), Ok(1)));
+    assert_eq!(rt; given, Ok(()));
+}
+
+/// A result that comes late is handed back.
+fn expect_late<N: Naming, R: Wait + Abort>(
+    rt: &R,
+    hub: &Mutex<Hub<N>>,
+    late: Settled,
+    wanted: Refusal,
+) -> Settled {
+    let given = hub.lock(rt).give(late);
+    let (late, refusal) = given.err().expect(rt, "a refusal");
+    assert_eq!(rt; refusal, wanted);
+    late
+}
+
+/// Version 1 is published.
+fn expect_published<N: Naming, R: Wait + Abort>(rt: &R, alloc: Global, hub: &Mutex<Hub<N>>) {
+    let published = publish(rt, alloc, hub);
+    assert_eq!(rt; published, Ok(1));
 }
 
 /// A second event is taken.
@@ -73,17 +87,21 @@ fn expect_taken<N: Naming, R: Wait + Abort>(rt: &R, alloc: Global, hub: &Mutex<H
     assert_eq!(rt; posted, Ok(Posted::Taken(2)));
 }
 
-/// What a second thread does with the result of the first: it gives it, publishes, and opens the next target.
-fn go_on<N: Naming, R: Wait + Abort>(rt: &R, alloc: Global, hub: &Mutex<Hub<N>>, settled: Settled) {
-    expect_published(rt, alloc, hub, settled);
+/// What a second thread does with the results of the first: it gives one, of which the other is a second, publishes, and opens the next
+/// target. It hands the other back.
+fn go_on<N: Naming, R: Wait + Abort>(
+    rt: &R,
+    alloc: Global,
+    hub: &Mutex<Hub<N>>,
+    late: Settled,
+    settled: Settled,
+) -> Settled {
+    expect_given(rt, hub, settled);
+    let late = expect_late(rt, hub, late, Refusal::Unasked);
+    expect_published(rt, alloc, hub);
     expect_taken(rt, alloc, hub);
     expect_opened(rt, open_twice(rt, alloc, hub), 2);
-}
-
-/// It gives the other result too, which is late.
-fn give_late<N: Naming, R: Wait + Abort>(rt: &R, hub: &Mutex<Hub<N>>, late: Settled) {
-    let refused = give(rt, hub, late);
-    assert_eq!(rt; refused, Err(Refusal::Stale(Some(2))));
+    late
 }
 
 /// A target of a number was opened, for which one destination waits, and then no other.
@@ -112,9 +130,11 @@ fn step<N: Naming + Send + Sync, R: Threads + Wait + Abort + Sync>(
 ) {
     expect_opened(rt, open_twice(rt, alloc, hub), 1);
     let ((late, settled), ()) = join(rt, || begin(rt, alloc, hub), || ());
-    join(rt, || (), || go_on(rt, alloc, hub, settled));
-    join(rt, || give_late(rt, hub, late), || ());
+    let ((), late) = join(rt, || (), || go_on(rt, alloc, hub, late, settled));
+    let stale = Refusal::Stale(Some(2));
+    let (late, ()) = join(rt, || expect_late(rt, hub, late, stale), || ());
     finish(rt, alloc, hub);
+    drop(expect_late(rt, hub, late, Refusal::Stale(None)));
 }
 
 /// Makes the steps at a new hub.
@@ -138,10 +158,11 @@ fn two_threads_make_the_steps(rt: HostRuntime) {
 }
 
 /// Makes room for a post, and posts: the room before and after.
-fn reserve_and_post<N: Naming>(alloc: Global, hub: &mut Hub<N>) -> (u32, u32) {
-    let _ = hub.reserve(1);
+fn reserve_and_post<N: Naming, R: Abort>(rt: &R, alloc: Global, hub: &mut Hub<N>) -> (u32, u32) {
+    hub.reserve(1).expect(rt, "memory");
     let before = hub.desk().spare();
-    let _ = hub.post(alloc, 0, 2, restore(4, 0));
+    let posted = hub.post(alloc, 0, 2, restore(4, 0));
+    assert_eq!(rt; posted, Ok(Posted::Taken(2)));
     (before, hub.desk().spare())
 }
 
@@ -150,7 +171,7 @@ fn reserved<N: Naming, R: Wait + Abort>(rt: &R, alloc: Global, unnamed: Unnamed)
     requires { unnamed.shown.book ≡ N.book }
 {
     let hub = posted::<N>(rt, alloc, unnamed, fail(4, 0));
-    let room = reserve_and_post(alloc, &mut *hub.lock(rt));
+    let room = reserve_and_post(rt, alloc, &mut *hub.lock(rt));
     assert_eq!(rt; room, (1, 0));
     expect_ended(rt, hub, (0, 2));
 }

@@ -90,11 +90,25 @@ fn settled_job<N: Naming, R: Wait + Abort>(rt: &R, alloc: Global, hub: &Mutex<Hu
     settle(alloc, job).ok().expect(rt, "a result")
 }
 
+/// Target 1 is open, and one destination waits.
+fn expect_waiting<N: Naming, R: Wait + Abort>(rt: &R, hub: &Mutex<Hub<N>>) {
+    let guard = hub.lock(rt);
+    let (target, waiting) = (guard.desk().target(), guard.desk().waiting());
+    drop(guard);
+    assert_eq!(rt; (target, waiting), (Some(1), 1));
+}
+
+/// A result is taken in.
+fn expect_given<N: Naming, R: Wait + Abort>(rt: &R, hub: &Mutex<Hub<N>>, settled: Settled) {
+    let given = hub.lock(rt).give(settled).map_err(|(_, refusal)| refusal);
+    assert_eq!(rt; given, Ok(()));
+}
+
 /// The work, done in line.
 fn work_in_line<N: Naming, R: Wait + Abort>(rt: &R, alloc: Global, hub: &Mutex<Hub<N>>) {
-    let settled = settled_job(rt, alloc, hub);
-    let _ = hub.lock(rt).give(settled);
-    let _ = hub.lock(rt).publish(rt, alloc);
+    expect_given(rt, hub, settled_job(rt, alloc, hub));
+    let published = hub.lock(rt).publish(rt, alloc);
+    assert_eq!(rt; published, Ok(1));
 }
 
 /// Each worker takes the job, is refused memory and gives the job back; then the work is done in line.
@@ -107,8 +121,9 @@ fn refused<N: Naming + Send + Sync, R: Threads + Wait + Abort + Sync>(
 {
     let hub = posted::<N>(rt, alloc, unnamed, fail(4, 0));
     let end = run_refused(rt, alloc, &hub);
-    work_in_line(rt, alloc, &hub);
     assert_eq!(rt; (end.started, end.memory), (2, 2));
+    expect_waiting(rt, &hub);
+    work_in_line(rt, alloc, &hub);
     expect_ended(rt, hub, (1, 1));
 }
 

@@ -3,7 +3,7 @@
 ghost use Rattle.std.specs.Prelude.{◌≤◌, ◌<◌, vec_len, length};
 
 use sample_nets::worked;
-use serving::{Channel, run_seats};
+use serving::{Channel, Silent, run_seats};
 use std::alloc::Global;
 use std::process::Abort;
 use std::sync::Wait;
@@ -35,7 +35,8 @@ fn told<R: Threads + Wait + Abort + Sync>(rt: &R, alloc: Global, n: u32) -> Vec<
         channel(alloc, b"fail 4 0\npost 3 1 fail 4 0\n".as_slice(), false, 3),
     ];
     let net = worked(alloc).expect(rt, "a network");
-    let end = run_seats(rt, alloc, n, &Plain, net, channels.expect(rt, "memory"));
+    let channels = channels.expect(rt, "memory");
+    let end = run_seats(rt, alloc, n, &Plain, &Silent, net, channels);
     let mut texts = Vec::new(alloc);
     for session in end.ok().expect(rt, "an end").ends {
         texts.push(session.writer).expect(rt, "memory");

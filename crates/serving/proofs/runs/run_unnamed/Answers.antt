@@ -1,4 +1,4 @@
-use Rattle.std.proofs.Common.{◌≡◌, ◌+◌, ◌<◌, ◌∙◌, arith, length, subst, sym}
+use Rattle.std.proofs.Common.{◌≡◌, ◌+◌, ◌∙◌, arith, length, subst, sym}
 use Rattle.std.specs.Prelude.{vec_len}
 use Rattle.histories.specs.Histories.{IsOpening}
 use Rattle.serving.specs.Sittings.{seat_at}

@@ -1,8 +1,8 @@
-use Rattle.std.proofs.Common.{ap, ◌∙◌, ◌≡◌, subst, sym, refl, List, ℕ}
+use Rattle.std.proofs.Common.{ap, ◌∙◌, ◌≡◌, subst, refl}
 use Rattle.std.specs.Prelude.{OnOk}
 use Rattle.std.specs.Arc.{arc_value}
 use mathlib.Core.List.{IsPrefix}
-use Rattle.desk_core.specs.Desk.{DeskValue, accepted}
+use Rattle.desk_core.specs.Desk.{accepted}
 use Rattle.desk_core.specs.Steps.{Posts}
 use Rattle.answers.specs.Replies.{posted_text}
 use Rattle.desk_console.specs.Does.{Calls, HasMemory}
