@@ -40,7 +40,7 @@ class Case:
         self.head, self.answered = head, answered
         self.wanted, self.written, _ = self.run()
 
-    def run(self, text=None, **broken):
+    def run(self, instead=None, **broken):
         """How a run ends (standard output, standard error, status), its files then, and whether anything was broken. Its input may be another."""
         Case.runs += 1
         with tempfile.TemporaryDirectory() as folder, tempfile.TemporaryDirectory() as beside:
@@ -49,7 +49,7 @@ class Case:
                     it.write(text)
             typed, note = os.path.join(beside, "typed"), os.path.join(beside, "note")
             with open(typed, "wb") as it:
-                it.write(self.text if text is None else text)
+                it.write(self.text if instead is None else instead)
             more = {f"REFUSE_{key.upper()}": str(value) for key, value in broken.items()}
             with open(typed, "rb") as it:
                 ran = subprocess.run([self.program, *self.words], stdin=it, capture_output=True, cwd=folder, timeout=60,
@@ -172,9 +172,9 @@ def names(case):
 def cuts(case):
     """A script that ends after any of its bytes is answered as if its last line had its line end."""
     for k in range(case.head, len(case.text)):
-        got = case.run(text=case.text[:k])[0]
+        got = case.run(case.text[:k])[0]
         whole = b"".join(case.wanted[0].splitlines(True)[:sum(end <= k for end in case.answered)])
-        case.want(got == case.run(text=case.text[:k] + b"\n")[0] and got[0].startswith(whole), f"it ends after {k} bytes", got)
+        case.want(got == case.run(case.text[:k] + b"\n")[0] and got[0].startswith(whole), f"it ends after {k} bytes", got)
 
 
 def calls(case):
