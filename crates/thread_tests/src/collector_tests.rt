@@ -144,6 +144,12 @@ fn expect_hub_newest<N: Naming, R: Wait + Abort>(rt: &R, hub: &Mutex<Hub<N>>) {
     assert_eq!(rt; newest.number(), 4001);
 }
 
+/// The last post of each of the five is as it should be.
+fn expect_last_seqs<N: Naming, R: Wait + Abort>(rt: &R, hub: &Mutex<Hub<N>>) {
+    let seqs = last_seqs(&*hub.lock(rt));
+    assert_eq!(rt; seqs, [1000, 1000, 1000, 1000, 1]);
+}
+
 /// The collectors post, a reader looks after them, and the newest version and the last post of each are as they should be.
 fn expect_collected<N: Naming + Send + Sync, R: Threads + Wait + Abort + Sync>(
     rt: &R,
@@ -154,8 +160,7 @@ fn expect_collected<N: Naming + Send + Sync, R: Threads + Wait + Abort + Sync>(
     let note = run_collectors(rt, alloc, hub);
     expect_hub_newest(rt, hub);
     join(rt, move || look_after(rt, alloc, reader, note), || ());
-    let seqs = last_seqs(&*hub.lock(rt));
-    assert_eq!(rt; seqs, [1000, 1000, 1000, 1000, 1]);
+    expect_last_seqs(rt, hub);
 }
 
 /// Collectors and workers at a new hub.

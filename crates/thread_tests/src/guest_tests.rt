@@ -118,6 +118,20 @@ fn expect_numbers<N: Naming>(rt: &impl Abort, alloc: Global, fed: &[Feed<N>]) {
     assert!(rt; all.iter().copied().eq(1..ALL + 1));
 }
 
+/// The desk of a hub that has ended, whose history explains all guests.
+fn desk_after<N: Naming, R: Wait>(rt: &R, hub: Hub<N, BySeats>, fed: &mut [Feed<N>]) -> Desk {
+    let mut history = hub.finish(rt);
+    for feed in fed.iter_mut() {
+        history.explain(rt, &mut feed.guest);
+    }
+    history.into_desk()
+}
+
+/// How many events of a desk are published and accepted, and how much room for posts is left; the desk goes.
+fn counts_of(desk: Desk) -> (u64, u64, u32) {
+    (desk.published().number(), desk.accepted(), desk.spare())
+}
+
 /// The end of a hub: the guests' numbers, and how many events are published and accepted, and how much room for posts is left.
 fn expect_history<N: Naming, R: Wait + Abort>(
     rt: &R,
@@ -126,15 +140,8 @@ fn expect_history<N: Naming, R: Wait + Abort>(
     mut fed: Vec<Feed<N>>,
 ) {
     expect_numbers(rt, alloc, fed.as_slice());
-    let mut history = hub.finish(rt);
-    for feed in fed.iter_mut() {
-        history.explain(rt, &mut feed.guest);
-    }
-    let desk = history.into_desk();
-    assert_eq!(rt;
-        (desk.published().number(), desk.accepted(), desk.spare()),
-        (ALL, ALL, 0)
-    );
+    let counts = counts_of(desk_after(rt, hub, fed.as_mut_slice()));
+    assert_eq!(rt; counts, (ALL, ALL, 0));
 }
 
 /// Three guests of a new hub.
