@@ -256,7 +256,7 @@ def cases(short):
     same = case_of(example, "run")
     yield same, (cuts,)
     yield Case("as JSON", [*same.words, "--json"], same.text, None, same.head, same.answered), (memory, reads, writes, calls)
-    yield case_of(examples_of(os.path.join(HERE, "what-if.txt"))[0], "run"), (cuts,)
+    yield case_of(examples_of(os.path.join(HERE, "what-if.txt"))[1], "run"), (reads, cuts)
     yield from desks()
     network = {"network": every_word.network.encode()}
     yield Case("check", ["check", "network"], files=network, head=len(network["network"]) + 1), (memory, reads, writes, calls)

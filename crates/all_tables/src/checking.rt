@@ -1,18 +1,17 @@
 //! Tables that are at hand, checked by the local rule.
 
-ghost use Rattle.std.specs.Prelude.{◌≡◌, IfOk, None, All};
+ghost use Rattle.std.specs.Prelude.{IfOk, All};
 ghost use Rattle.std.specs.List.{AllZip};
 ghost use Rattle.std.specs.Option.{MatchOption};
 ghost use Rattle.all_tables.specs.Tables.{IsSettledIn, IsJudged, IsFirstWrongTable};
 
-use crate::making::destinations;
 use excerpts::{Excerpt, ExcerptFault, Frozen};
 use point_codes::PointCode;
 use profile::Table;
 use rayon::prelude::*;
 use std::alloc::{AllocError, Global};
 use std::thread::Threads;
-use transfer_state::{Clause, Complaint, Routing, check};
+use transfer_state::{Clause, Complaint, check};
 
 /// A table that is wrong.
 #[derive(Clone, Copy, Debug, PartialEq, Eq)]
@@ -76,64 +75,6 @@ pub fn check_tables(
         if let Some(complaint) = complaints[position] {
             return Ok(Some(Wrong {
                 dest: tables[position].dest,
-                complaint,
-            }));
-        }
-    }
-    Ok(None)
-}
-
-/// The first complaint about the settled routing of a destination, if it has a plan: there is none.
-fn judge_plan(alloc: Global, net: &Frozen, dest: PointCode) -> Result<Option<Complaint>, AllocError>
-    ensures { IfOk result (λ complaint. complaint ≡ None) }
-{
-    let excerpt = match Excerpt::of(net, dest) {
-        Ok(excerpt) => excerpt,
-        Err(ExcerptFault::NoPlan) => return Ok(None),
-        Err(ExcerptFault::OutOfMemory) => return Err(AllocError),
-    };
-    match Routing::of(alloc, excerpt) {
-        Ok(routing) => Ok(routing.audit().err()),
-        Err((_, refused)) => Err(refused),
-    }
-}
-
-/// What is said of the settled routing of each destination, in their order.
-fn judge_plans(
-    rt: &(impl Threads + Sync),
-    alloc: Global,
-    net: &Frozen,
-    dests: &[PointCode],
-) -> Result<Vec<Option<Complaint>>, AllocError>
-    ensures { IfOk result (λ v. AllZip (λ dest complaint. complaint ≡ None) dests.now v.items) }
-{
-    dests
-        .par_iter()
-        .with_min_len(1)
-        .map(
-            |dest: &PointCode| -> Result<Option<Complaint>, AllocError>
-                ensures { IfOk result (λ complaint. complaint ≡ None) }
-            { judge_plan(alloc, net, *dest) },
-        )
-        .collect::<Result<Vec<Option<Complaint>>, AllocError>>(rt, alloc)?
-}
-
-/// Settles the routing of each planned destination from scratch, and checks it by the local rule, without writing a table out.
-/// The answer is the first wrong one in rising code, so it is None, which is the contract. It fails if memory is refused.
-pub fn check_plans(
-    rt: &(impl Threads + Sync),
-    alloc: Global,
-    net: &Frozen,
-) -> Result<Option<Wrong>, AllocError>
-    ensures { IfOk result (λ wrong. wrong ≡ None) }
-{
-    net.validity();
-    let dests = destinations(alloc, net)?;
-    let complaints = judge_plans(rt, alloc, net, &dests)?;
-    for position in 0..dests.len() {
-        if let Some(complaint) = complaints[position] {
-            return Ok(Some(Wrong {
-                dest: dests[position],
                 complaint,
             }));
         }

@@ -4,8 +4,7 @@
 //!    clauses 2.3 and 13.2 to 13.4). The tables of two destinations don't rest on each other.
 //! 2. Tables that are at hand are checked one by one, each by the local rule alone; the first complaint is that of the
 //!    first wrong table (own).
-//! 3. The routing of each planned destination can be settled and checked without a table being written out (own).
-//! 4. The work is split among as many threads as there are processors; what comes of it is as from one.
+//! 3. The work is split among as many threads as there are processors; what comes of it is as from one.
 //!
 //! Stands on `transfer_state`, `rayon`. A change here also changes specs/ (Tables), proofs/ and must-fail/.
 #![tactic(auto)]
@@ -13,5 +12,5 @@
 pub mod checking;
 pub mod making;
 
-pub use checking::{Wrong, check_plans, check_tables};
+pub use checking::{Wrong, check_tables};
 pub use making::tables_of;

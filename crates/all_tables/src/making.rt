@@ -13,7 +13,7 @@ use std::thread::Threads;
 use transfer_state::table_of;
 
 /// The destinations that have a plan, in rising code.
-pub fn destinations(alloc: Global, net: &Frozen) -> Result<Vec<PointCode>, AllocError>
+fn destinations(alloc: Global, net: &Frozen) -> Result<Vec<PointCode>, AllocError>
     ensures { IfOk result (λ dests. dests.items ≡ map (λ p. p.dest) net.now.plans) }
 {
     let plans = net.net().plans();

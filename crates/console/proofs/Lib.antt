@@ -1,1 +1,2 @@
+pub mod CheckingLemmas
 pub mod HeadlineLemmas

@@ -1,7 +1,10 @@
 -- How a check of all tables is answered.
-use Rattle.std.specs.Prelude.{ℕ, List, ◌++◌, Option, Some, None, codes}
+use Rattle.std.specs.Prelude.{◌≡◌, ℕ, Bool, List, ◌++◌, length, Option, Some, None, is_some, not, All, MatchOption, codes}
 use Rattle.std.specs.Fmt.{decimal}
 use Rattle.answers.specs.Audits.{complaint_text}
+use Rattle.net_data.specs.Network.{Network}
+use Rattle.profile.specs.declared.tables.Table.{Table}
+use Rattle.all_tables.specs.Tables.{IsSettledIn, IsFirstWrongTable}
 use Rattle.all_tables.specs.declared.checking.Wrong.{Wrong}
 
 -- `ok P`: that many tables, each right
@@ -16,3 +19,11 @@ wrong_text w = codes "bad " ++ complaint_text w.dest w.complaint
 abbrev pub verdict_text : ℕ → Option Wrong → List ℕ
 verdict_text count None = right_text count
 verdict_text count (Some w) = wrong_text w
+
+-- what is said of tables, whatever they are: that there are so many and all right, exactly if each is the settled one of its
+-- destination; else of the first that isn't
+pub record IsVerdict (net : Network) (given : List Table) (text : List ℕ) (right : Bool) : Type 0 where
+  pub wrong : Option Wrong
+  pub found : MatchOption wrong (All (IsSettledIn net) given) (IsFirstWrongTable net given)
+  pub said : text ≡ verdict_text (length given) wrong
+  pub told : is_some wrong ≡ not right

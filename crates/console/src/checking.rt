@@ -1,13 +1,14 @@
 //! The check of all tables of a network.
 
 ghost use Rattle.std.specs.Prelude.{◌≡◌, IfOk, length, string_bytes, true};
-ghost use Rattle.console.specs.Checking.{right_text, wrong_text, verdict_text};
+ghost use Rattle.console.specs.Checking.{right_text, wrong_text, verdict_text, IsVerdict};
 
-use all_tables::{Wrong, check_plans};
+use all_tables::{Wrong, check_tables, tables_of};
 use answers::put_complaint;
 use excerpts::Frozen;
 use std::alloc::{AllocError, Global};
 use std::thread::Threads;
+use transfer_state::Table;
 
 /// A check of all tables, as it is answered.
 #[derive(Debug, Drop)]
@@ -37,9 +38,27 @@ fn write_verdict(alloc: Global, count: usize, wrong: Option<Wrong>) -> Result<St
     }
 }
 
-/// Settles the routing of all planned destinations, checks each by the local rule, and says `ok P` for P plans
-/// or `bad X Y c` for the first wrong one: its destination, and the point and the letter of the first complaint. That
-/// it always says `ok P` is its contract. It fails if memory is refused.
+/// Checks tables, whatever they are, by the local rule, each as that of its destination in a network. It says `ok P` of P tables
+/// if each is the settled one of its destination, and else `bad X Y c` of the first that isn't: its destination, and the point and
+/// the letter of the first complaint about it. It fails if memory is refused.
+pub fn check_given(
+    rt: &(impl Threads + Sync),
+    alloc: Global,
+    net: &Frozen,
+    tables: &[Table],
+) -> Result<CheckEnd, AllocError>
+    ensures { IfOk result (λ end. IsVerdict net.now tables.now (string_bytes end.text) end.right) }
+{
+    let wrong = check_tables(rt, alloc, net, tables)?;
+    let text = write_verdict(alloc, tables.len(), wrong)?;
+    Ok(CheckEnd {
+        text,
+        right: wrong.is_none(),
+    })
+}
+
+/// Works out the tables of all planned destinations, and hands them to `check_given`. So it always says `ok P`, for P plans. It
+/// fails if memory is refused.
 pub fn check_net(
     rt: &(impl Threads + Sync),
     alloc: Global,
@@ -48,10 +67,6 @@ pub fn check_net(
     ensures text { IfOk result (λ end. string_bytes end.text ≡ right_text (length net.now.plans)) }
     ensures right { IfOk result (λ end. end.right ≡ true) }
 {
-    let wrong = check_plans(rt, alloc, net)?;
-    let text = write_verdict(alloc, net.net().plans().len(), wrong)?;
-    Ok(CheckEnd {
-        text,
-        right: wrong.is_none(),
-    })
+    let tables = tables_of(rt, alloc, net)?;
+    check_given(rt, alloc, net, &tables)
 }

@@ -19,7 +19,7 @@ mod in_line;
 pub mod input;
 pub mod script;
 
-pub use checking::{CheckEnd, check_net};
+pub use checking::{CheckEnd, check_given, check_net};
 pub use input::run_input;
 pub use script::run_script;
 pub use sessions::{Fault, ScriptEnd, input_parts_law, read_net, write_fault};

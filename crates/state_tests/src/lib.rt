@@ -1,7 +1,7 @@
-//! Tests of what no script shows: tables and excerpts, what an event touches, and a desk's own calls, on networks from their
-//! texts. Each answer is compared with one worked out by hand.
+//! Tests of what no script shows: tables and excerpts, what an event touches, a desk's own calls, and how often a run reads, on
+//! networks from their texts. Each answer is compared with one worked out by hand.
 //!
-//! Stands on `all_tables`, `desk_core`, `answers`, `sample_nets`. Nothing else changes with it.
+//! Stands on `console`, `desk_core`, `sample_nets`. Nothing else changes with it.
 #![tactic(auto)]
 
 #[cfg(test)]
@@ -13,7 +13,11 @@ mod desk_tests;
 #[cfg(test)]
 mod excerpt_tests;
 #[cfg(test)]
+mod limit_tests;
+#[cfg(test)]
 mod samples;
+#[cfg(test)]
+mod step_tests;
 #[cfg(test)]
 mod table_tests;
 #[cfg(test)]
@@ -21,4 +25,8 @@ mod text_tests;
 #[cfg(test)]
 mod touch_tests;
 #[cfg(test)]
+mod verdict_tests;
+#[cfg(test)]
 mod waiting_tests;
+#[cfg(test)]
+mod wrong_tables;

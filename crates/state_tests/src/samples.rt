@@ -1,5 +1,6 @@
 //! What the tests start from: networks after changes of links, and excerpts and tables of them.
 
+use desk_core::Desk;
 use excerpts::{Excerpt, Frozen};
 use link_state::LinkChange;
 use net_data::{Event, Net};
@@ -10,6 +11,7 @@ use std::alloc::Global;
 use std::process::Abort;
 use tokens::split_words;
 use transfer_state::{Table, table_of};
+use work_units::{Job, Settled, settle};
 
 /// A change of one link: its set, its code, the change.
 pub(crate) type Edit = (u16, u8, LinkChange);
@@ -71,4 +73,24 @@ pub(crate) fn event_of(rt: &impl Abort, alloc: Global, line: &str) -> Event {
     let words = split_words(alloc, line.as_bytes()).expect(rt, "memory");
     let event = read_event(alloc, words.as_slice()).expect(rt, "memory");
     event.expect(rt, "an event")
+}
+
+/// A desk over the worked network.
+pub(crate) fn new_desk(rt: &impl Abort, alloc: Global) -> Desk {
+    Desk::start(alloc, worked_after(rt, alloc, &[])).expect(rt, "memory")
+}
+
+/// Lets a desk go. That is long to prove, so it stands here once.
+pub(crate) fn let_go(_desk: Desk) {}
+
+/// The result of a job.
+pub(crate) fn settled(rt: &impl Abort, alloc: Global, job: Job) -> Settled {
+    settle(alloc, job).ok().expect(rt, "a result")
+}
+
+/// The result of a job for version 1 and 2-1-2, of the worked network after some changes of links.
+pub(crate) fn result_of(rt: &impl Abort, alloc: Global, edits: &[Edit]) -> Settled {
+    let net = worked_after(rt, alloc, edits);
+    let job = Job::new(alloc, 1, &net, point(rt, "2-1-2")).expect(rt, "a job");
+    settled(rt, alloc, job)
 }

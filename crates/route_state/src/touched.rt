@@ -1,0 +1,3 @@
+//! Which destinations an event touches, and who waits or is out.
+
+pub use dirty_sets::{TouchIndex, Waiting};
