@@ -107,13 +107,14 @@ fn tell_trace(
     Ok(())
 }
 
-/// Tells how 2-10-2 reaches 2-1-2.
-fn tell(rt: &HostRuntime, version: &Version) -> io::Result<()> {
-    if let (Ok(from), Ok(to)) = (PointCode::parse(b"2-10-2"), PointCode::parse(b"2-1-2")) {
-        tell_status(rt, version, from, to)?;
-        tell_trace(rt, version, from, to)?;
-    }
-    Ok(())
+/// Tells how 2-10-2 reaches 2-1-2: whether it could.
+fn tell(rt: &HostRuntime, version: &Version) -> io::Result<bool> {
+    let (Ok(from), Ok(to)) = (PointCode::parse(b"2-10-2"), PointCode::parse(b"2-1-2")) else {
+        return Ok(false);
+    };
+    tell_status(rt, version, from, to)?;
+    tell_trace(rt, version, from, to)?;
+    Ok(true)
 }
 
 /// Runs at a hub, and tells what a reader sees then.
@@ -126,8 +127,7 @@ fn run_and_tell<N: Naming + Send + Sync, R: Threads + Wait + Sync>(
         return Ok(false);
     };
     run(threads, rt.alloc(), hub, &mut reader);
-    tell(rt, reader.newest())?;
-    Ok(true)
+    tell(rt, reader.newest())
 }
 
 /// The same at a new hub.

@@ -1,5 +1,5 @@
 -- The neighbours of a point one by one, in rising code.
-use Rattle.std.specs.Prelude.{◌≡◌, ◌<◌, ◌≤◌, ℕ, ◌==◌, ◌+◌, ◌-◌, Bool, true, List, [], ◌∷◌, Option, Some, None, if◌then◌else◌, find, filter}
+use Rattle.std.specs.Prelude.{◌≡◌, ◌<◌, ◌≤◌, ℕ, ◌==◌, ◌-◌, Bool, true, List, Option, Some, None, if◌then◌else◌, find, filter}
 use Rattle.std.specs.List.{range_with_len}
 use Rattle.std.specs.Option.{IfSome, MatchOption}
 use Rattle.net_items.specs.declared.items.LinkSet.{LinkSet}

@@ -1,6 +1,6 @@
 //! Which sets are available, and the set between two points.
 
-ghost use Rattle.std.specs.Prelude.{◌≡◌, ◌≤◌, length};
+ghost use Rattle.std.specs.Prelude.{◌≡◌};
 ghost use Rattle.link_sets.specs.Availability.{set_available as has_available, connected, IsMask};
 
 use net_items::LinkSet;
@@ -27,15 +27,14 @@ pub fn is_connected(sets: &[LinkSet], point: PointCode, other: PointCode) -> boo
     }
 }
 
-/// Which links of a set are available: bit i stands for the link at position i in rising signalling link code
-/// (Q.704 clause 3.2).
+/// Which of the first sixteen links of a set are available: bit i stands for the link at position i in rising signalling link
+/// code (Q.704 clause 3.2).
 pub fn mask(set: &LinkSet) -> u16
-    requires { length set.now.links ≤ 16 }
     ensures { IsMask set.now.links result }
 {
     let mut mask = 0;
     for (i, link) in set.links.as_slice().iter().enumerate() {
-        if link.marks.available() {
+        if i < 16 && link.marks.available() {
             mask |= 1 << i;
         }
     }

@@ -159,7 +159,7 @@ impl Rows {
         Ok(Rows { list, codes })
     }
 
-    /// The rows in a vector.
+    /// The rows in a vector. It takes no memory.
     pub fn into_vec(self) -> Vec<Row>
         ensures { result.items ≡ self }
     {
@@ -202,6 +202,14 @@ impl Slcs {
         Ok(Slcs {
             list: Box::new(alloc, list)?,
         })
+    }
+
+    /// The link codes in a vector. It takes no memory.
+    pub fn into_vec(self) -> Vec<u8>
+        ensures { result.items ≡ self }
+    {
+        let Slcs { list } = self;
+        Box::into_inner(list)
     }
 
     /// The link codes as a slice.

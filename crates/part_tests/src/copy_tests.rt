@@ -228,3 +228,11 @@ fn a_copy_of_link_codes_is_equal(rt: HostRuntime) -> Result<(), Fail> {
     assert!(rt; are_same_slcs(copy.as_slice(), &[0, 5, 15]));
     Ok(())
 }
+
+#[test]
+fn link_codes_are_given_back(rt: HostRuntime) -> Result<(), Fail> {
+    let slcs = Slcs::from_vec(rt.alloc(), vec![in rt.alloc(); 0, 5, 15]?)?;
+    let given = slcs.into_vec();
+    assert_eq!(rt; given.as_slice(), [0, 5, 15].as_slice());
+    Ok(())
+}

@@ -1,6 +1,6 @@
 //! A point with three sets, of which one is down.
 
-use crate::parts::{CLEAR, code, half_a_set, set_between};
+use crate::parts::{CLEAR, code, half_a_set, set_between, set_of_seventeen};
 use link_sets::{Neighbours, is_connected, mask, next_neighbour, set_available};
 use link_state::Marks;
 use net_items::LinkSet;
@@ -62,5 +62,12 @@ fn tells_what_joins_points(rt: HostRuntime) -> Result<(), Fail> {
 fn masks_links(rt: HostRuntime) -> Result<(), Fail> {
     let set = half_a_set(rt.alloc())?;
     assert_eq!(rt; (mask(&set), set_available(&set)), (2, true));
+    Ok(())
+}
+
+#[test]
+fn masks_the_first_sixteen_links(rt: HostRuntime) -> Result<(), Fail> {
+    let set = set_of_seventeen(rt.alloc())?;
+    assert_eq!(rt; mask(&set), 65_535);
     Ok(())
 }

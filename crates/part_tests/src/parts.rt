@@ -54,3 +54,18 @@ pub(crate) fn half_a_set(alloc: Global) -> Result<LinkSet, Fail>
 {
     set_between(alloc, 1, "0-0-1", "0-0-2", [Marks::FAILED, CLEAR])
 }
+
+/// A set of seventeen links, which no network has. All are in service.
+pub(crate) fn set_of_seventeen(alloc: Global) -> Result<LinkSet, Fail> {
+    let end = code("0-0-1")?;
+    let mut links = Vec::new(alloc);
+    for slc in 0..17u8 {
+        links.push(link(slc, CLEAR))?;
+    }
+    Ok(LinkSet {
+        id: 1,
+        a: end,
+        b: end,
+        links: Links::from_vec(links),
+    })
+}

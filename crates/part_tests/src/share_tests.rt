@@ -3,7 +3,7 @@
 ghost use Rattle.std.specs.Prelude.{◌≡◌, ◌<◌, All, IfOk, length};
 ghost use Rattle.net_items.specs.Keyed.{IsRising};
 
-use crate::parts::{CLEAR, code, half_a_set, link};
+use crate::parts::{CLEAR, code, half_a_set, link, set_of_seventeen};
 use link_state::Marks;
 use net_items::{LinkSet, Links};
 use sls_share::{Carried, link_for, member_for, probe};
@@ -100,4 +100,18 @@ fn shares_over_vias(rt: HostRuntime) {
         member_for(2, [false, true], 6),
     ];
     assert_eq!(rt; shares, [(0, 5), (1, 10), (0, 10), (1, 3)]);
+}
+
+#[test]
+fn no_link_carries_a_share_number_beyond_fifteen(rt: HostRuntime) -> Result<(), Fail> {
+    let set = half_a_set(rt.alloc())?;
+    assert_eq!(rt; [link_for(&set, 15), link_for(&set, 16)], [Some(3), None]);
+    Ok(())
+}
+
+#[test]
+fn no_link_of_a_set_of_seventeen_carries_traffic(rt: HostRuntime) -> Result<(), Fail> {
+    let set = set_of_seventeen(rt.alloc())?;
+    assert_eq!(rt; link_for(&set, 0), None);
+    Ok(())
 }

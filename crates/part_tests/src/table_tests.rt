@@ -127,3 +127,18 @@ fn links_equal_their_copy_alone(rt: HostRuntime) -> Result<(), Fail> {
     assert_eq!(rt; equal_links(rt.alloc())?, (true, false));
     Ok(())
 }
+
+/// The only message of the only row that a table gives back.
+fn message_given_back(table: Table) -> Option<Message> {
+    let mut rows = table.rows.into_vec();
+    let mut messages = rows.pop()?.messages.into_vec();
+    messages.pop()
+}
+
+#[test]
+fn a_table_gives_its_lists_back(rt: HostRuntime) -> Result<(), Fail> {
+    let table = table_of_one(rt.alloc(), new_message()?)?;
+    let wanted = new_message()?;
+    assert_eq!(rt; message_given_back(table), Some(wanted));
+    Ok(())
+}

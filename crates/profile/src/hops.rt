@@ -40,6 +40,14 @@ impl Hops {
         Hops { list }
     }
 
+    /// The hops in a vector. It takes no memory.
+    pub fn into_vec(self) -> Vec<Hop>
+        ensures { result.items ≡ self }
+    {
+        let Hops { list } = self;
+        list
+    }
+
     /// The hops as a slice.
     pub fn as_slice(&self) -> &[Hop]
         ensures { result.now ≡ self.now }

@@ -212,6 +212,14 @@ impl Messages {
         Messages { list }
     }
 
+    /// The messages in a vector. It takes no memory.
+    pub fn into_vec(self) -> Vec<Message>
+        ensures { result.items ≡ self }
+    {
+        let Messages { list } = self;
+        list
+    }
+
     /// The messages as a slice.
     pub fn as_slice(&self) -> &[Message]
         ensures { result.now ≡ self.now }
@@ -297,6 +305,14 @@ impl RowStates {
         ensures { result ≡ list.items }
     {
         RowStates { list }
+    }
+
+    /// The rows in a vector. It takes no memory.
+    pub fn into_vec(self) -> Vec<RowState>
+        ensures { result.items ≡ self }
+    {
+        let RowStates { list } = self;
+        list
     }
 
     /// The rows as a slice.

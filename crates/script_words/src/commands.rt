@@ -30,6 +30,14 @@ impl Events {
         Events { list }
     }
 
+    /// The events in a vector. It takes no memory.
+    pub fn into_vec(self) -> Vec<Event>
+        ensures { result.items ≡ self }
+    {
+        let Events { list } = self;
+        list
+    }
+
     /// The events as a slice.
     pub fn as_slice(&self) -> &[Event]
         ensures { result.now ≡ self.now }

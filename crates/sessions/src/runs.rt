@@ -15,7 +15,7 @@ use std::io::{ErrorKind, Read, Write};
 /// How a run ended.
 #[derive(Drop)]
 pub struct ScriptEnd {
-    /// How many answers were written whole.
+    /// How many lines of answers were written whole.
     pub lines: u64,
     /// Why the run ended early, if it did.
     pub fault: Option<Fault>,
@@ -26,7 +26,7 @@ pub struct ScriptEnd {
 /// How a run ended, with who answered handed back.
 #[derive(Drop)]
 pub struct LinesEnd<A> {
-    /// How many answers were written whole.
+    /// How many lines of answers were written whole.
     pub lines: u64,
     /// Why the run ended early, if it did.
     pub fault: Option<Fault>,

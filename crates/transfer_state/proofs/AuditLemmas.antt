@@ -1,15 +1,23 @@
--- The table by what is kept of choices.
-use Rattle.std.proofs.Common.{◌≡◌, ℕ, zero, suc, List, [], ◌∷◌, Some, map, refl, sym, ap, ◌∙◌, arith, length, get_or, slice_get}
+-- The table by what is kept of choices, and what is wrong with it.
+use Rattle.std.proofs.Common.{◌≡◌, ℕ, zero, suc, List, [], ◌∷◌, Some, Result, Ok, Err, map, refl, sym, ap, ◌∙◌, subst, inr, arith, length, get_or, slice_get}
+use Rattle.std.specs.Prelude.{IsOk, OnOk, OnErr, IfErr}
+use Rattle.std.proofs.lemmas.List.{length-map}
 use Rattle.std.proofs.lemmas.Option.{same_Some, get_or_from_slice_get}
 use Rattle.net_items.specs.declared.lists.Row.{Row}
 use Rattle.route_choice.specs.declared.choices.Choice.{Choice}
 use Rattle.profile.specs.declared.tables.RowState.{RowState}
 use Rattle.profile.specs.Status.{Source, choice}
-use Rattle.profile.specs.Whole.{heard_in, scratch, state_of}
-use Rattle.transfer_state.specs.Complaints.{chosen_states, chosen_table, heard_table, kept_table, HasAllPoints, HasPoints}
+use Rattle.profile.specs.Whole.{heard_in, scratch, state_of, IsSettledTable}
+use Rattle.profile.proofs.CertificateLemmas.{scratch_table}
+use Rattle.excerpts.specs.Excerpt.{ExcerptValue, source_of, IsRight}
+use Rattle.transfer_state.specs.Complaints.{chosen_states, chosen_table, heard_table, kept_table, HasAllPoints, HasPoints, IsFirstKept, IsFirstWrong, IsSettledKept}
+use Rattle.transfer_state.specs.declared.complaints.Complaint.{Complaint}
 use Rattle.transfer_state.specs.declared.hearing.Heard.{Heard}
 use Rattle.transfer_state.specs.declared.hearing.Heard.TheVariants.{Written, Kept}
-use Rattle.transfer_state.specs.Kept.{KeptValue, opened, opened_rows}
+use Rattle.transfer_state.specs.Kept.{KeptValue, kept, opened, opened_rows}
+use Rattle.transfer_state.specs.Routing.{IsChosen}
+use Rattle.transfer_state.proofs.MatchLemmas.{complaint_unsettled}
+use Rattle.transfer_state.proofs.RouteLemmas.{opened_chosen}
 
 -- the state in a place is that of the choice there
 states_at : (src : Source) (rows : List Row) (ks : List KeptValue) (i : ℕ) (row : Row) (k : KeptValue) → slice_get rows i ≡ Some row → slice_get ks i ≡ Some k
@@ -50,3 +58,32 @@ states_chosen src (row ∷ rows) = ap (λ (ss : List RowState). state_of src row
 -- the choices from scratch make the table from scratch
 pub table_settled : (src : Source) (choices : List Choice) → choices ≡ map (choice src) src.rows → chosen_table src choices ≡ scratch src
 table_settled src choices is = ap (chosen_table src) is ∙ ap (λ (ss : List RowState). record { dest = src.dest; rows = ss }) (states_chosen src src.rows)
+
+-- ---- what is said of what is kept
+
+module _ (src : Source) (ks : List KeptValue) where
+  pub settled_kept : {X : Type 0} (r : Result X Complaint) → length ks ≡ length src.rows → OnOk r (IsSettledTable src (kept_table src ks)) → OnOk r (IsSettledKept src ks)
+  settled_kept (Ok u) together settled = record { together = together; settled = settled }
+  settled_kept (Err e) together settled = tt
+
+  pub first_kept : {X : Type 0} (r : Result X Complaint) → length ks ≡ length src.rows → IfErr r (IsFirstWrong src (kept_table src ks)) → IfErr r (IsFirstKept src ks)
+  first_kept (Ok u) together first = tt
+  first_kept (Err e) together first = inr (together, first)
+
+  pub wrong_kept : {X : Type 0} (r : Result X Complaint) → IfErr r (IsFirstWrong src (kept_table src ks)) → OnErr r (IsSettledKept src ks → ⊥)
+  wrong_kept (Ok u) first = tt
+  wrong_kept (Err e) first = λ kept. complaint_unsettled src (kept_table src ks) e (inr first) kept.settled
+
+  -- of the settled one there is no complaint
+  pub no_complaint : {X : Type 0} (r : Result X Complaint) → IsSettledKept src ks → OnErr r (IsSettledKept src ks → ⊥) → IsOk r
+  no_complaint (Ok u) settled wrong = refl
+  no_complaint (Err e) settled wrong = absurd (wrong settled)
+
+-- what is kept of the choices from scratch is the settled table
+pub chosen_settled : (x : ExcerptValue) → IsRight x → (ks : List KeptValue) → IsChosen x ks → IsSettledKept (source_of x) ks
+chosen_settled x right ks is =
+    let scratched : kept_table (source_of x) ks ≡ scratch (source_of x) = table_settled (source_of x) (opened_rows (source_of x) x.plan.rows ks) (opened_chosen x right ks is) in
+    record {
+      together = ap (length {A = KeptValue}) is ∙ length-map x.plan.rows (λ (row : Row). kept (choice (source_of x) row));
+      settled = subst (IsSettledTable (source_of x)) (sym scratched) (scratch_table (source_of x) right.valid);
+    }

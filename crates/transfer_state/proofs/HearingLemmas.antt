@@ -1,6 +1,5 @@
 -- What a row hears over its vias by what is kept: the row of a via doesn't lead back, so what it tells is its status.
 use Rattle.std.proofs.Common.{◌≡◌, ◌≢◌, ℕ, zero, suc, ◌+◌, ◌-◌, ◌<◌, List, [], ◌∷◌, Option, Some, None, All, get_or, set, map, cond, eqb, Bool, true, false, refl, sym, ap, ◌∙◌, arith, inl, inr, subst, length, slice_get}
-use Rattle.std.specs.Option.{option_map_or}
 use Rattle.std.proofs.lemmas.List.Elements.{All-weaker}
 use Rattle.std.proofs.lemmas.Bool.{cases_eq, eqb-true, eqb-false, ne_eqb}
 use Rattle.std.proofs.lemmas.List.{length-set}
@@ -8,7 +7,6 @@ use Rattle.std.proofs.lemmas.Option.{get_or_from_slice_get, same_Some, slice_get
 use Rattle.net_items.specs.declared.lists.Row.{Row}
 use Rattle.route_choice.specs.declared.choices.Far.{Far}
 use Rattle.route_choice.specs.declared.choices.Far.TheVariants.{Allowed, Prohibited}
-use Rattle.route_choice.specs.declared.choices.Choice.{Choice}
 use Rattle.link_sets.specs.Availability.{connected}
 use Rattle.link_sets.proofs.ListLemmas.{map_same}
 use Rattle.profile.specs.declared.tables.RowState.{RowState}

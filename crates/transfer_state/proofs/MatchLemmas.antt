@@ -154,7 +154,7 @@ module _ (src : Source) (table : Table) where
   not_wrong Clause.Messages state right e w = w.2 (ap (λ (s : RowState). s.messages) e)
 
   -- a table with a complaint isn't settled
-  complaint_unsettled : (complaint : Complaint) → IsFirstComplaint src table complaint → IsSettledTable src table → ⊥
+  pub complaint_unsettled : (complaint : Complaint) → IsFirstComplaint src table complaint → IsSettledTable src table → ⊥
   complaint_unsettled complaint c settled = elim c [
     | inl w ↦ w.wrong (settled_points settled)
     | inr w ↦ not_wrong complaint.clause w.state (right_state src table w.row) (map_at (right_state src table) table.rows src.rows w.position w.row w.state (ap (λ (t : Table). t.rows) settled) w.row_at w.state_at) w.wrong

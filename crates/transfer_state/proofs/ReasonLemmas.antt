@@ -1,8 +1,8 @@
 -- The statuses that a routing tells, by what is kept of its choices.
-use Rattle.std.proofs.Common.{◌≡◌, ◌∙◌, ℕ, List, Some, None, Option, ap, map, option_map, slice_get}
+use Rattle.std.proofs.Common.{◌≡◌, ◌∙◌, ℕ, List, ap, option_map, slice_get}
 use Rattle.std.proofs.lemmas.Option.{slice_get-map}
 use Rattle.net_items.specs.declared.lists.Row.{Row}
-use Rattle.profile.specs.Status.{Source, offers, choice, status}
+use Rattle.profile.specs.Status.{offers, choice, status}
 use Rattle.excerpts.specs.Excerpt.{ExcerptValue, source_of, IsRight}
 use Rattle.transfer_state.specs.Kept.{KeptValue, kept}
 use Rattle.transfer_state.specs.Routing.{IsChosen}

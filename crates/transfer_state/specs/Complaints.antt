@@ -9,7 +9,7 @@ use Rattle.net_items.specs.declared.lists.Row.{Row}
 use Rattle.profile.specs.declared.tables.RowState.{RowState}
 use Rattle.profile.specs.declared.tables.Table.{Table}
 use Rattle.profile.specs.Status.{Source, mate_row, over_mate}
-use Rattle.profile.specs.Whole.{heard_from, choice_heard, state_of}
+use Rattle.profile.specs.Whole.{heard_from, choice_heard, state_of, IsSettledTable}
 use Rattle.transfer_state.specs.Kept.{KeptValue, opened_rows}
 use Rattle.transfer_state.specs.declared.hearing.Heard.{Heard}
 use Rattle.transfer_state.specs.declared.hearing.Heard.TheVariants.{Written, Kept}
@@ -95,3 +95,18 @@ pub record HasWrongPoints (src : Source) (table : Table) (complaint : Complaint)
 -- the first complaint of a table
 abbrev pub IsFirstComplaint : Source → Table → Complaint → Type 0
 IsFirstComplaint src table complaint = HasWrongPoints src table complaint ⊎ IsFirstWrong src table complaint
+
+-- what is kept is the settled table: a choice for each row, and the table that they make is its own answer
+pub record IsSettledKept (src : Source) (ks : List KeptValue) : Type 0 where
+  pub together : length ks ≡ length src.rows
+  pub settled : IsSettledTable src (kept_table src ks)
+
+-- there isn't a choice for each row, and the complaint says so of the destination
+pub record HasWrongCount (src : Source) (ks : List KeptValue) (complaint : Complaint) : Type 0 where
+  pub clause : complaint.clause ≡ Points
+  pub point : complaint.point ≡ src.dest
+  pub wrong : length ks ≢ length src.rows
+
+-- the first complaint about what is kept
+abbrev pub IsFirstKept : Source → List KeptValue → Complaint → Type 0
+IsFirstKept src ks complaint = HasWrongCount src ks complaint ⊎ ((length ks ≡ length src.rows) × IsFirstWrong src (kept_table src ks) complaint)

@@ -4,13 +4,13 @@
 //! The row of a via doesn't lead back, so what is heard over a via is its status, which a table of all codes tells. A mate's may,
 //! and its message is worked out.
 
-ghost use Rattle.std.specs.Prelude.{◌≡◌, ◌≢◌, IfErr, OnOk, OnErr, Some, length};
+ghost use Rattle.std.specs.Prelude.{◌≡◌, IfErr, OnOk, OnErr, Some, length};
 ghost use Rattle.std.specs.Option.{MatchOption};
 ghost use Rattle.net_items.specs.declared.lists.Row.{Row};
 ghost use Rattle.profile.specs.Status.{Source, source_row};
-ghost use Rattle.profile.specs.Whole.{choice_heard, scratch, state_of, IsSettledTable};
+ghost use Rattle.profile.specs.Whole.{choice_heard, state_of, IsSettledTable};
 ghost use Rattle.excerpts.specs.Excerpt.{source_of};
-ghost use Rattle.transfer_state.specs.Complaints.{kept_table, IsFirstComplaint, IsWrongIn};
+ghost use Rattle.transfer_state.specs.Complaints.{kept_table, IsFirstKept, IsFirstWrong, IsSettledKept, IsWrongIn};
 ghost use Rattle.transfer_state.specs.Told.{TellsKept};
 
 use crate::choosing::{Statuses, fars_of, is_same_status, rows_of};
@@ -62,15 +62,11 @@ fn choice_told(e: &Excerpt, kept: &[Kept], fars: &[Far], row: &Row) -> Choice
     route_choice::choose(row, &fars, mate, e.tfr())
 }
 
-/// Whether what is kept of the choices of all rows is that of the excerpt's table, told by each row and the messages that its
-/// neighbours' choices make (own, after Q.704 clauses 13.2 to 13.4). It takes no memory.
-///
-/// The complaint is the first: of the first wrong row in rising code, `Route`, or else `Status`.
-pub(crate) fn check_kept(e: &Excerpt, kept: &[Kept]) -> Result<(), Complaint>
+/// What `check_kept` says of a choice for each row.
+fn check_choices(e: &Excerpt, kept: &[Kept]) -> Result<(), Complaint>
     requires { length kept.now ≡ length e.now.plan.rows }
     ensures settled { OnOk result (IsSettledTable (source_of e.now) (kept_table (source_of e.now) kept.now)) }
-    ensures first { IfErr result (IsFirstComplaint (source_of e.now) (kept_table (source_of e.now) kept.now)) }
-    ensures wrong { OnErr result (kept_table (source_of e.now) kept.now ≢ scratch (source_of e.now)) }
+    ensures first { IfErr result (IsFirstWrong (source_of e.now) (kept_table (source_of e.now) kept.now)) }
 {
     e.validity();
     let rows = rows_of(e);
@@ -88,4 +84,23 @@ pub(crate) fn check_kept(e: &Excerpt, kept: &[Kept]) -> Result<(), Complaint>
         }
     }
     Ok(())
+}
+
+/// Whether what is kept of the choices of all rows, whatever it is, is that of the excerpt's table, told by each row and the
+/// messages that its neighbours' choices make (own, after Q.704 clauses 13.2 to 13.4). It takes no memory.
+///
+/// The complaint is the first: where there isn't a choice for each row of the plan, in the row's place, `Points` with the plan's
+/// destination; else of the first wrong row in rising code, `Route`, or else `Status`. Links and messages follow from the choices.
+pub fn check_kept(e: &Excerpt, kept: &[Kept]) -> Result<(), Complaint>
+    ensures settled { OnOk result (IsSettledKept (source_of e.now) kept.now) }
+    ensures first { IfErr result (IsFirstKept (source_of e.now) kept.now) }
+    ensures wrong { OnErr result (IsSettledKept (source_of e.now) kept.now → ⊥) }
+{
+    if kept.len() != rows_of(e).len() {
+        return Err(Complaint {
+            point: e.dest(),
+            clause: Clause::Points,
+        });
+    }
+    check_choices(e, kept)
 }

@@ -10,9 +10,9 @@ use point_codes::PointCode;
 use route_choice::{Choice, Far};
 use std::marker::Model;
 
-/// The class that a row uses, which of its members, and the status.
+/// What is kept of a row's choice: the class that it uses, which of its members, and the status (own).
 #[derive(Clone, Copy, PartialEq, Eq, Drop)]
-pub(crate) struct Kept {
+pub struct Kept {
     /// The class in four bits, a bit for each place of a member, and the status in two.
     byte: u8,
 }
@@ -44,8 +44,8 @@ fn number_of(status: Far) -> u8
 impl Kept {
     ghost use Rattle.transfer_state.specs.Kept.{kept};
 
-    /// What is kept of a choice.
-    pub(crate) fn of(choice: &Choice) -> Kept
+    /// What is kept of a choice, whose class is below 16.
+    pub fn of(choice: &Choice) -> Kept
         requires { choice.now.class < 16 }
         ensures { result ≡ kept choice.now }
     {

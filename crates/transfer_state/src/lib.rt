@@ -32,7 +32,9 @@ mod states;
 mod sweep;
 pub mod table;
 
+pub use auditing::check_kept;
 pub use complaints::{Clause, Complaint, check};
+pub use kept::Kept;
 pub use profile::tables::{LinkRef, Message, Messages, RowLinks, RowState, RowStates, Table};
 pub use routing::{Routing, RoutingSlot};
 pub use states::is_member;

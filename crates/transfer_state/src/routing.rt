@@ -1,14 +1,14 @@
 //! The settled routing towards one destination: what each point of its plan uses.
 
-ghost use Rattle.std.specs.Prelude.{◌≡◌, ◌≢◌, ◌==◌, ◌↔◌, ◌<◌, IsTrue, true, false, None, Some, IfOk, IfErr, OnOk, OnErr, find, not, if◌then◌else◌};
+ghost use Rattle.std.specs.Prelude.{◌≡◌, ◌==◌, ◌↔◌, ◌<◌, IsTrue, true, false, None, Some, IsOk, IfOk, IfErr, find, not, if◌then◌else◌};
 ghost use Rattle.std.specs.Option.{option_map, MatchOption};
 ghost use Rattle.profile.specs.Status.{status};
 ghost use Rattle.profile.specs.Traces.{hop_of};
-ghost use Rattle.profile.specs.Whole.{scratch, IsSettledTable};
+ghost use Rattle.profile.specs.Whole.{scratch};
 ghost use Rattle.excerpts.specs.Excerpt.{content_of, source_of};
 ghost use Rattle.excerpts.specs.Turned.{HasTurned};
 ghost use Rattle.std.specs.Arc.{arc_value};
-ghost use Rattle.transfer_state.specs.Complaints.{chosen_table, IsFirstComplaint};
+ghost use Rattle.transfer_state.specs.Complaints.{chosen_table};
 ghost use Rattle.std.specs.List.{list_any};
 ghost use Rattle.excerpts.specs.declared.turned.Ends.{Ends};
 ghost use Rattle.transfer_state.specs.Following.{rests_on, KeepsStatuses};
@@ -234,13 +234,11 @@ impl Routing {
         hop_at(&self.excerpt, &self.choices, point, s)
     }
 
-    /// Whether what is kept is the table from scratch, told by each row and the messages that its neighbours' choices make (own,
-    /// after Q.704 clauses 13.2 to 13.4): no complaint, since a routing is settled. It takes no memory.
+    /// What `check_kept` says of what is kept: no complaint, since a routing is settled. It takes no memory.
     pub fn audit(&self) -> Result<(), Complaint>
-        ensures settled { OnOk result (IsSettledTable (source_of self.now.excerpt) (chosen_table (source_of self.now.excerpt) self.now.choices)) }
-        ensures first { IfErr result (IsFirstComplaint (source_of self.now.excerpt) (chosen_table (source_of self.now.excerpt) self.now.choices)) }
-        ensures wrong { OnErr result (self.now ≢ settled_routing self.now.excerpt) }
+        ensures { IsOk result }
     {
+        self.excerpt.validity();
         check_kept(&self.excerpt, &self.choices)
     }
 

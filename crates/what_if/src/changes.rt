@@ -44,6 +44,14 @@ impl Changes {
         Changes { list }
     }
 
+    /// The changes in a vector. It takes no memory.
+    pub fn into_vec(self) -> Vec<Change>
+        ensures { result.items ≡ self }
+    {
+        let Changes { list } = self;
+        list
+    }
+
     /// The changes as a slice.
     pub fn as_slice(&self) -> &[Change]
         ensures { result.now ≡ self.now }

@@ -1,63 +1,23 @@
-use Rattle.std.proofs.Common.{◌≡◌, ◌<◌, Some, length, refl, sym, ap, ◌∙◌, subst, arith, inr}
-use Rattle.std.specs.Prelude.{slice_get}
-use Rattle.std.proofs.lemmas.Option.{slice_get_within}
+use Rattle.std.proofs.Common.{◌∙◌, length, refl, ap, sym, inl}
 use Rattle.net_items.specs.declared.lists.Row.{Row}
-use Rattle.route_choice.specs.declared.choices.Choice.{Choice}
-use Rattle.profile.specs.declared.tables.Table.{Table}
-use Rattle.profile.specs.Status.{Source}
-use Rattle.profile.specs.Whole.{state_of}
-use Rattle.profile.proofs.PlacingLemmas.{row_at_place}
 use Rattle.excerpts.specs.Excerpt.{source_of}
-use Rattle.transfer_state.specs.Complaints.{kept_table, IsWrongIn}
-use Rattle.transfer_state.specs.Kept.{KeptValue, opened}
-use Rattle.transfer_state.proofs.AuditLemmas.{kept_at, kept_points}
-use Rattle.transfer_state.proofs.MatchLemmas.{element_read, right_before_more, settled_by_rows, complaint_wrong}
+use Rattle.transfer_state.proofs.AuditLemmas.{settled_kept, first_kept, wrong_kept}
 use Rattle.transfer_state.proofs.auditing.check_kept.Goals as goal
 
-pub returns-in-Some-clause-first : goal.returns-in-Some-clause-first
-returns-in-Some-clause-first c =
-    let src : Source = source_of c.args.e.now in
-    let table : Table = kept_table src c.args.kept.now in
-    let row : Row = c.index-rows-i.result in
-    let k : KeptValue = c.index-kept-i.result in
-    let here : slice_get src.rows c.loop-i.i ≡ Some row = element_read c.rows_of-rows.result.now src.rows c.loop-i.i row c.rows_of-rows.ensures c.loop-i-test.true c.index-rows-i.is in
-    let low : c.loop-i.i < length c.args.kept.now = omega (arith, slice_get_within src.rows c.loop-i.i row here, c.requires) in
-    let there : slice_get c.args.kept.now c.loop-i.i ≡ Some k = element_read c.args.kept.now c.args.kept.now c.loop-i.i k refl low c.index-kept-i.is in
-    inr (record {
-      points = kept_points src c.args.kept.now c.requires;
-      position = c.loop-i.i;
-      row = row;
-      state = state_of src row (opened src row k);
-      row_at = here;
-      state_at = kept_at src c.args.kept.now c.loop-i.i row k here there;
-      before = c.loop-i.invariant;
-      point = refl;
-      wrong = subst (λ (choice : Choice). IsWrongIn c.in-Some.clause (state_of src row (opened src row k)) (state_of src row choice)) c.choice_told-right.ensures
-          (subst (λ (choice : Choice). IsWrongIn c.in-Some.clause (state_of src row choice) (state_of src row c.choice_told-right.result)) c.opened_choice-choice.ensures (c.in-Some.ensures src row));
-    })
+pub returns-then-kept-rows_of-clause-first : goal.returns-then-kept-rows_of-clause-first
+returns-then-kept-rows_of-clause-first c =
+    inl (record { clause = refl; point = c.dest.ensures; wrong = λ together. c.if-kept-rows_of.true (together ∙ sym (ap (length {A = Row}) c.rows_of.ensures)) })
 
-pub returns-in-Some-clause-wrong : goal.returns-in-Some-clause-wrong
-returns-in-Some-clause-wrong c = complaint_wrong (source_of c.args.e.now) (kept_table (source_of c.args.e.now) c.args.kept.now) c.validity.ensures.valid _ (returns-in-Some-clause-first c)
-
-pub loop-i-preserved : goal.loop-i-preserved
-loop-i-preserved c =
-    let src : Source = source_of c.args.e.now in
-    let row : Row = c.index-rows-i.result in
-    let k : KeptValue = c.index-kept-i.result in
-    let here : slice_get src.rows c.loop-i.i ≡ Some row = element_read c.rows_of-rows.result.now src.rows c.loop-i.i row c.rows_of-rows.ensures c.loop-i-test.true c.index-rows-i.is in
-    let low : c.loop-i.i < length c.args.kept.now = omega (arith, slice_get_within src.rows c.loop-i.i row here, c.requires) in
-    let there : slice_get c.args.kept.now c.loop-i.i ≡ Some k = element_read c.args.kept.now c.args.kept.now c.loop-i.i k refl low c.index-kept-i.is in
-    right_before_more src (kept_table src c.args.kept.now) c.loop-i.i row (state_of src row (opened src row k)) here (kept_at src c.args.kept.now c.loop-i.i row k here there)
-    (ap (state_of src row) (sym c.opened_choice-choice.ensures ∙ c.in_default.ensures ∙ c.choice_told-right.ensures)) c.loop-i.invariant
+pub returns-then-kept-rows_of-clause-wrong : goal.returns-then-kept-rows_of-clause-wrong
+returns-then-kept-rows_of-clause-wrong c = λ settled. c.if-kept-rows_of.true (settled.together ∙ sym (ap (length {A = Row}) c.rows_of.ensures))
 
 pub returns-clause-settled : goal.returns-clause-settled
 returns-clause-settled c =
-    let src : Source = source_of c.args.e.now in
-    let count = ap (length {A = Row}) c.rows_of-rows.ensures in
-    settled_by_rows src (kept_table src c.args.kept.now) (kept_points src c.args.kept.now c.requires)
-    (λ k row state row_at state_at. c.loop-i.invariant k row state (omega (arith, count, slice_get_within src.rows k row row_at, c.loop-i-test.false)) row_at state_at)
+    settled_kept (source_of c.args.e.now) c.args.kept.now c.check_choices.result (c.if-kept-rows_of.false ∙ ap (length {A = Row}) c.rows_of.ensures) c.check_choices.ensures.settled
 
-pub choice_told-right-requires-clause-planned : goal.choice_told-right-requires-clause-planned
-choice_told-right-requires-clause-planned c =
-    row_at_place (source_of c.args.e.now) c.validity.ensures.valid c.loop-i.i c.index-rows-i.result
-    (element_read c.rows_of-rows.result.now (source_of c.args.e.now).rows c.loop-i.i c.index-rows-i.result c.rows_of-rows.ensures c.loop-i-test.true c.index-rows-i.is)
+pub returns-clause-first : goal.returns-clause-first
+returns-clause-first c =
+    first_kept (source_of c.args.e.now) c.args.kept.now c.check_choices.result (c.if-kept-rows_of.false ∙ ap (length {A = Row}) c.rows_of.ensures) c.check_choices.ensures.first
+
+pub returns-clause-wrong : goal.returns-clause-wrong
+returns-clause-wrong c = wrong_kept (source_of c.args.e.now) c.args.kept.now c.check_choices.result c.check_choices.ensures.first

@@ -1,4 +1,4 @@
-use Rattle.std.proofs.Common.{◌≡◌, ◌∙◌, refl}
+use Rattle.std.proofs.Common.{◌∙◌, refl}
 use Rattle.profile.specs.Status.{Source}
 use Rattle.profile.specs.Valid.{IsValidRow}
 use Rattle.profile.proofs.UnfoldingLemmas.{row_valid}

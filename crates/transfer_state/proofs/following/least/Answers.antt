@@ -1,4 +1,3 @@
-use Rattle.std.proofs.Common.{arith}
 use Rattle.transfer_state.proofs.FollowLemmas.{mark_at}
 use Rattle.transfer_state.proofs.following.least.Goals as goal
 
