@@ -50,4 +50,5 @@ soak:
 	@scripts/soak.sh
 
 hostile: build
-	@scripts/hostile.py $(PROGRAM)
+	@scripts/build.py library_calls
+	@scripts/hostile.py $(PROGRAM) crates/library_calls/out/library_calls

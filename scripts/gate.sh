@@ -88,7 +88,7 @@ add scripts/terminal.py "$1"
 add scripts/files.py "$1"
 add scripts/serving.py "$1"
 add scripts/packed.sh "$1"
-add scripts/hostile.py --short "$1"
+add scripts/hostile.py --short "$1" crates/library_calls/out/library_calls
 times > "$log"
 spent=$(($(in_children "$log") - before))
 echo "processor time: $spent s${unit:+, $((spent / unit)) times the first check of net_items ($unit s)}"

@@ -1,10 +1,11 @@
 #!/usr/bin/env python3
-"""hostile.py [--short] PROGRAM: takes memory away from the program, and breaks what it reads and writes.
+"""hostile.py [--short] PROGRAM CALLS: takes memory away from the program, and breaks what it reads and writes. CALLS is the program
+`library_calls`, which makes the calls that no script reaches.
 
 scripts/refuse.c, which is compiled with `cc` and loaded before the C library, refuses the k-th request for memory (alone, and with
 all after it), stops reading or writing after k bytes, lets one byte through a call, interrupts the k-th call, and refuses to keep a file
 or to change its name. Each k has a run of its own, until none is reached. What such a run may do is said at `memory`, `reads`, `writes`,
-`saves`, `names`, `serves`, `cuts` and `calls`; nothing else may happen. The inputs are a script that uses every word, two sessions at
+`saves`, `names`, `serves`, `cuts`, `calls` and `again`; nothing else may happen. The inputs are a script that uses every word, two sessions at
 one desk, networks that aren't loaded, command lines, and the worked examples, of which --short leaves out most; for the few long ones k
 grows by a tenth at a time. The last line is 'N cases, M failed': a case is an input and a way of breaking."""
 import os
@@ -34,8 +35,9 @@ class Case:
     program = library = None
     runs = 0
 
-    def __init__(self, name, words, text=b"", files=None, head=0, answered=(), large=False):
+    def __init__(self, name, words, text=b"", files=None, head=0, answered=(), large=False, program=None):
         self.name, self.words, self.text, self.files, self.large = name, words, text, files or {}, large
+        self.program = program or Case.program
         # how much of what is read is the network, before which nothing is answered; and where each answered line ends
         self.head, self.answered = head, answered
         self.wanted, self.written, _ = self.run()
@@ -209,6 +211,16 @@ def serves(case):
             k += 1
 
 
+def again(case):
+    """Whatever request is refused: the refused call is repeated, and answers as if it had been made once."""
+    case.want(case.wanted[0].count(b": right\n") == case.wanted[0].count(b"\n") and case.wanted[1:] == (b"", 0), "nothing broken", case.wanted)
+    k, reached = 1, True
+    while reached:
+        got, _, reached = case.run(memory=k)
+        case.want(got == case.wanted, f"request {k} refused", got)
+        k += 1
+
+
 def plain(case):
     """A command line that can't be read is told so by `clap`, with 2, and a word that isn't UTF-8 in a line of its own."""
     got = case.wanted
@@ -245,8 +257,9 @@ def desks():
     yield Case("two sessions beside workers", [*words, "--workers", "2"], files=files), (serves,)
 
 
-def cases(short):
+def cases(short, caller):
     """Each case, with the ways in which it is broken."""
+    yield Case("library_calls", [], program=caller), (again,)
     every_word = examples_of(os.path.join(HERE, "every-word.txt"))[0]
     for form, ways in ("run", (memory, reads, writes, cuts, calls)), ("play", (memory, reads, calls)), ("save", (memory, reads, saves, names, calls)):
         yield case_of(every_word, form), ways
@@ -284,12 +297,12 @@ def failure_of(case, way):
 
 
 def main():
-    short, program = sys.argv[1:-1] == ["--short"], os.path.abspath(sys.argv[-1])
+    short, program, caller = sys.argv[1:-2] == ["--short"], os.path.abspath(sys.argv[-2]), os.path.abspath(sys.argv[-1])
     with tempfile.TemporaryDirectory() as folder:
         Case.program, Case.library = program, os.path.join(folder, "refuse.so")
         source = os.path.join(os.path.dirname(os.path.abspath(__file__)), "refuse.c")
         subprocess.run(["cc", "-O2", "-Wall", "-shared", "-fPIC", "-o", Case.library, source], check=True)
-        tried = [(case, way) for case, ways in cases(short) for way in ways]
+        tried = [(case, way) for case, ways in cases(short, caller) for way in ways]
         with ThreadPoolExecutor(2) as pool:
             failures = [text for text in pool.map(lambda pair: failure_of(*pair), tried) if text]
     for text in failures:

@@ -1,0 +1,86 @@
+//! Questions about a version.
+
+use crate::samples::{change, code, worked};
+use route_state::codes::PointCode;
+use route_state::desks::Version;
+use route_state::marks::{End, LinkChange};
+use route_state::nets::Event;
+use route_state::traces::{Hop, Trace, trace};
+use route_state::what_ifs::{changes_since, find_mend, what_if as report_on};
+use std::alloc::Global;
+
+/// Version 0 of the worked network.
+fn version(alloc: Global) -> Option<Version> {
+    Version::opening(alloc, worked(alloc)?).ok()
+}
+
+/// Whether two hops lead over these points.
+fn leads_over(hops: &[Hop], points: [PointCode; 3]) -> bool {
+    match hops {
+        [one, two] => [one.from, one.to, two.to] == points,
+        _ => false,
+    }
+}
+
+/// Whether a trace leads over these points.
+fn is_way(trace: &Trace, points: [PointCode; 3]) -> bool {
+    match trace {
+        Trace::Reached(hops) => leads_over(hops.as_slice(), points),
+        Trace::Stopped => false,
+    }
+}
+
+/// The way of the signalling link selection 1 between the first and the last of three points, over the other.
+fn leads(alloc: Global, version: &Version, points: [PointCode; 3]) -> Option<bool> {
+    let way = trace(alloc, version, points[0], points[2], 1).ok()?;
+    Some(is_way(&way, points))
+}
+
+/// The way of a signalling link selection from 2-1-1 to 2-1-2: over 2-10-2.
+pub(crate) fn traces(alloc: Global) -> Option<bool> {
+    let points = [code("2-1-1")?, code("2-10-2")?, code("2-1-2")?];
+    leads(alloc, &version(alloc)?, points)
+}
+
+/// How many changes some events would make, and whether an inhibition among them is denied.
+fn reported(alloc: Global, version: &Version, events: &[Event]) -> Option<(usize, bool)> {
+    let report = report_on(alloc, version, events).ok()?;
+    Some((report.changes.as_slice().len(), report.denied))
+}
+
+/// What the failure of a link would change.
+fn fails(alloc: Global, version: &Version) -> Option<(usize, bool)> {
+    let events = [change(LinkChange::Fail)];
+    reported(alloc, version, &events)
+}
+
+/// What the inhibition of a link among several would change.
+fn inhibits(alloc: Global, version: &Version) -> Option<(usize, bool)> {
+    let events = [Event::Link(3, 0, LinkChange::Inhibit(End::First))];
+    reported(alloc, version, &events)
+}
+
+/// Whether nothing changed since a version that is published.
+fn is_unchanged(alloc: Global, version: &Version) -> Option<bool> {
+    let changes = changes_since(alloc, version, version).ok()?;
+    Some(changes.as_slice().is_empty())
+}
+
+/// Whether a point that lacks nothing is mended by no link.
+fn lacks_nothing(alloc: Global, version: &Version) -> Option<bool> {
+    let (q, x) = (code("2-10-2")?, code("2-1-2")?);
+    let mend = find_mend(alloc, version.routing(x)?, q).ok()??;
+    Some(mend.as_slice().is_empty())
+}
+
+/// What is asked of a version besides.
+fn asks(alloc: Global, version: &Version) -> Option<bool> {
+    let reports = [fails(alloc, version)?, inhibits(alloc, version)?];
+    let quiet = is_unchanged(alloc, version)? && lacks_nothing(alloc, version)?;
+    Some(quiet && reports == [(1, false), (0, false)])
+}
+
+/// What events would change, what changed, and what would mend a point.
+pub(crate) fn what_ifs(alloc: Global) -> Option<bool> {
+    asks(alloc, &version(alloc)?)
+}
