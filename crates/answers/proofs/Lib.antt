@@ -1,4 +1,3 @@
-pub mod PlainLemmas
-pub mod RowLemmas
-pub mod ReplyLemmas
 pub mod DigitLemmas
+pub mod HelpLemmas
+pub mod RowLemmas

@@ -5,6 +5,9 @@ use Rattle.point_codes.specs.Codes.{code_text}
 use Rattle.transfer_state.specs.declared.complaints.Clause.{Clause}
 use Rattle.transfer_state.specs.declared.complaints.Clause.TheVariants.{Points, Route, Status, Links, Messages}
 use Rattle.transfer_state.specs.declared.complaints.Complaint.{Complaint}
+use Rattle.answers.specs.declared.answer.Answer.{Answer}
+use Rattle.answers.specs.declared.answer.Answer.TheVariants as answer
+use Rattle.answers.specs.declared.answer.NetAnswer.TheVariants as net
 
 -- the letter of what is wrong
 abbrev pub clause_letter : Clause → List ℕ
@@ -25,3 +28,7 @@ audit_right count = codes "audit ok " ++ decimal count
 -- `audit bad X Y c`: the first wrong table
 abbrev pub audit_wrong : ℕ → Complaint → List ℕ
 audit_wrong dest complaint = codes "audit bad " ++ complaint_text dest complaint
+
+-- all tables of a version are right
+abbrev pub audit_answer : ℕ → Answer
+audit_answer count = answer.Net (net.Right count)

@@ -1,28 +1,37 @@
 -- How a desk's refusals are printed: a number, a name, and the values of those that have some.
-use Rattle.std.specs.Prelude.{ℕ, List, ◌++◌, Option, Some, None, codes}
+use Rattle.std.specs.Prelude.{ℕ, List, [], ◌∷◌, Option, Some, None, codes}
 use Rattle.std.specs.Fmt.{decimal}
 use Rattle.work_units.specs.declared.replies.Refusal.{Refusal}
 use Rattle.work_units.specs.declared.replies.Refusal.TheVariants as desk
-use Rattle.answers.specs.Refusals as edits
+use Rattle.answers.specs.Refusals.{refusal_name, refusal_values}
+
+-- the number and the name of a refusal
+abbrev pub desk_name : Refusal → List ℕ
+desk_name desk.OutOfMemory = codes "1 OutOfMemory"
+desk_name (desk.Edit refusal) = refusal_name refusal
+desk_name (desk.Gap next) = codes "40 Gap"
+desk_name (desk.Old last) = codes "41 Old"
+desk_name desk.Clash = codes "42 Clash"
+desk_name desk.BacklogFull = codes "43 BacklogFull"
+desk_name (desk.NotReady left) = codes "44 NotReady"
+desk_name desk.Nothing = codes "45 Nothing"
+desk_name desk.Busy = codes "46 Busy"
+desk_name (desk.Stale target) = codes "47 Stale"
+desk_name desk.Unasked = codes "48 Unasked"
+desk_name desk.Differs = codes "49 Differs"
+desk_name desk.EndOfNumbers = codes "51 EndOfNumbers"
+desk_name desk.NotOpen = codes "52 NotOpen"
 
 -- the number of the open target, if there is one
 abbrev pub target_text : Option ℕ → List ℕ
 target_text None = codes "none"
 target_text (Some number) = decimal number
 
--- a refusal
-abbrev pub desk_refusal_text : Refusal → List ℕ
-desk_refusal_text desk.OutOfMemory = codes "1 OutOfMemory"
-desk_refusal_text (desk.Edit refusal) = edits.refusal_text refusal
-desk_refusal_text (desk.Gap next) = codes "40 Gap " ++ decimal next
-desk_refusal_text (desk.Old last) = codes "41 Old " ++ decimal last
-desk_refusal_text desk.Clash = codes "42 Clash"
-desk_refusal_text desk.BacklogFull = codes "43 BacklogFull"
-desk_refusal_text (desk.NotReady left) = codes "44 NotReady " ++ decimal left
-desk_refusal_text desk.Nothing = codes "45 Nothing"
-desk_refusal_text desk.Busy = codes "46 Busy"
-desk_refusal_text (desk.Stale target) = codes "47 Stale " ++ target_text target
-desk_refusal_text desk.Unasked = codes "48 Unasked"
-desk_refusal_text desk.Differs = codes "49 Differs"
-desk_refusal_text desk.EndOfNumbers = codes "51 EndOfNumbers"
-desk_refusal_text desk.NotOpen = codes "52 NotOpen"
+-- the values of a refusal, each after a space
+abbrev pub desk_values : Refusal → List ℕ
+desk_values (desk.Edit refusal) = refusal_values refusal
+desk_values (desk.Gap next) = 32 ∷ decimal next
+desk_values (desk.Old last) = 32 ∷ decimal last
+desk_values (desk.NotReady left) = 32 ∷ decimal left
+desk_values (desk.Stale target) = 32 ∷ target_text target
+desk_values refusal = []

@@ -4,7 +4,9 @@ use Rattle.std.specs.List.{flat_map}
 use Rattle.std.specs.Option.{option_map_or}
 use Rattle.std.specs.Str.{bytes_eq}
 use Rattle.answers.specs.declared.help.Form.{Form}
-use Rattle.answers.specs.Plain.{bad_line}
+use Rattle.answers.specs.declared.answer.Answer.{Answer}
+use Rattle.answers.specs.declared.answer.Answer.TheVariants as answer
+use Rattle.answers.specs.declared.answer.Reason.TheVariants as reason
 
 -- a word that begins a command, and what is told of it: the form of its commands, and an example
 pub record FormValue : Type 0 where
@@ -63,14 +65,14 @@ abbrev pub all_words : List ℕ
 all_words = codes "help" ++ flat_map (λ form. 32 ∷ form.word) forms
 
 -- what is told about the words after `help`
-abbrev pub help_on : List (List ℕ) → List ℕ
+abbrev pub help_on : List (List ℕ) → Answer
 -- `help`
-help_on [] = all_words
+help_on [] = answer.Help all_words
 -- `help WORD`
-help_on (word ∷ []) = option_map_or (λ (form : FormValue). form.text) (find (is_of word) forms) bad_line
-help_on _ = bad_line
+help_on (word ∷ []) = option_map_or (λ (form : FormValue). answer.Help form.text) (find (is_of word) forms) (answer.Refused reason.BadLine)
+help_on _ = answer.Refused reason.BadLine
 
 -- the answer to a line that is no command, by its words
-abbrev pub other_answer : List (List ℕ) → List ℕ
-other_answer (first ∷ rest) = if bytes_eq first (codes "help") then help_on rest else bad_line
-other_answer [] = bad_line
+abbrev pub other_answer : List (List ℕ) → Answer
+other_answer (first ∷ rest) = if bytes_eq first (codes "help") then help_on rest else answer.Refused reason.BadLine
+other_answer [] = answer.Refused reason.BadLine

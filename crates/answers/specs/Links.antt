@@ -3,7 +3,6 @@ use Rattle.std.specs.Prelude.{ℕ, ◌==◌, if◌then◌else◌, List, [], ◌�
 use Rattle.std.specs.List.{flat_map}
 use Rattle.std.specs.Fmt.{decimal}
 use Rattle.profile.specs.declared.tables.LinkRef.{LinkRef}
-use Rattle.profile.specs.declared.tables.RowState.{RowState}
 
 -- a link after a space, `ID:SLC`; nothing if there is none
 abbrev pub link_text : Option LinkRef → List ℕ
@@ -11,5 +10,5 @@ link_text None = []
 link_text (Some link) = 32 ∷ (decimal link.id ++ 58 ∷ decimal link.slc)
 
 -- `sls ID:SLC ID:SLC ..` in rising signalling link selection, and `sls none` for class 0
-abbrev pub links_text : RowState → List ℕ
-links_text state = if state.choice.class == 0 then codes "sls none" else codes "sls" ++ flat_map link_text state.links
+abbrev pub links_text : ℕ → List (Option LinkRef) → List ℕ
+links_text class links = if class == 0 then codes "sls none" else codes "sls" ++ flat_map link_text links

@@ -1,53 +1,41 @@
--- How a desk's replies are printed.
-use Rattle.std.specs.Prelude.{ℕ, List, ◌∷◌, ◌++◌, Result, Ok, Err, codes}
-use Rattle.std.specs.Fmt.{decimal}
-use Rattle.point_codes.specs.Codes.{code_text}
+-- What a desk's replies are answered with.
+use Rattle.std.specs.Prelude.{Result, Ok, Err}
 use Rattle.work_units.specs.Work.{Work}
 use Rattle.work_units.specs.declared.replies.Posted.{Posted}
 use Rattle.work_units.specs.declared.replies.Posted.TheVariants.{Taken, Again}
 use Rattle.work_units.specs.declared.replies.Opened.{Opened}
 use Rattle.work_units.specs.declared.replies.Refusal.{Refusal}
-use Rattle.answers.specs.DeskRefusals.{desk_refusal_text}
+use Rattle.answers.specs.declared.answer.Answer.{Answer}
+use Rattle.answers.specs.declared.answer.Answer.TheVariants as answer
+use Rattle.answers.specs.declared.answer.Reason.TheVariants as reason
+use Rattle.answers.specs.declared.answer.Reply.TheVariants as reply
 
--- `refused NUMBER NAME VALUES`
-abbrev pub refused_text : Refusal → List ℕ
-refused_text refusal = codes "refused " ++ desk_refusal_text refusal
+-- the desk refuses
+abbrev pub refused : Refusal → Answer
+refused refusal = answer.Refused (reason.Desk refusal)
 
--- of a post: `taken N` or `again N`
-abbrev pub posted_text : Result Posted Refusal → List ℕ
-posted_text (Ok (Taken number)) = codes "taken " ++ decimal number
-posted_text (Ok (Again number)) = codes "again " ++ decimal number
-posted_text (Err refusal) = refused_text refusal
+-- of a post
+abbrev pub posted_answer : Result Posted Refusal → Answer
+posted_answer (Ok (Taken number)) = answer.Reply (reply.Taken number)
+posted_answer (Ok (Again number)) = answer.Reply (reply.Again number)
+posted_answer (Err refusal) = refused refusal
 
--- of an opening: `opened T waiting W`
-abbrev pub opened_text : Result Opened Refusal → List ℕ
-opened_text (Ok opened) = codes "opened " ++ (decimal opened.target ++ (codes " waiting " ++ decimal opened.waiting))
-opened_text (Err refusal) = refused_text refusal
+-- of an opening
+abbrev pub opened_answer : Result Opened Refusal → Answer
+opened_answer (Ok opened) = answer.Reply (reply.Opened opened)
+opened_answer (Err refusal) = refused refusal
 
--- of the taking of a job: `job V CODE`
-abbrev pub job_text : Result Work Refusal → List ℕ
-job_text (Ok job) = codes "job " ++ (decimal job.version ++ 32 ∷ code_text job.excerpt.plan.dest)
-job_text (Err refusal) = refused_text refusal
+-- of the taking of a job
+abbrev pub job_answer : Result Work Refusal → Answer
+job_answer (Ok job) = answer.Reply (reply.Job job.version job.excerpt.plan.dest)
+job_answer (Err refusal) = refused refusal
 
--- of the giving of a result: `given`
-abbrev pub given_text : Result (Unit {0}) (Work × Refusal) → List ℕ
-given_text (Ok done) = codes "given"
-given_text (Err back) = refused_text back.1
+-- of the giving of a result
+abbrev pub given_answer : Result (Unit {0}) (Work × Refusal) → Answer
+given_answer (Ok done) = answer.Reply reply.Given
+given_answer (Err back) = refused back.1
 
--- of an abandonment: `abandoned`
-abbrev pub abandoned_text : Result (Unit {0}) Refusal → List ℕ
-abandoned_text (Ok done) = codes "abandoned"
-abandoned_text (Err refusal) = refused_text refusal
-
--- of a publication: `published N`
-abbrev pub published_text : Result ℕ Refusal → List ℕ
-published_text (Ok number) = codes "published " ++ decimal number
-published_text (Err refusal) = refused_text refusal
-
--- once all that is accepted is settled and published: `synced N`
-abbrev pub synced_text : ℕ → List ℕ
-synced_text number = codes "synced " ++ decimal number
-
--- the number of the published version, and how many events are accepted: `version P accepted N`
-abbrev pub version_text : ℕ → ℕ → List ℕ
-version_text number accepted = codes "version " ++ (decimal number ++ (codes " accepted " ++ decimal accepted))
+-- of an abandonment
+abbrev pub abandoned_answer : Result (Unit {0}) Refusal → Answer
+abandoned_answer (Ok done) = answer.Reply reply.Abandoned
+abandoned_answer (Err refusal) = refused refusal

@@ -1,14 +1,16 @@
 -- How what events would change is answered.
 use Rattle.std.specs.Prelude.{ℕ, List, ◌∷◌, ◌++◌, Option, Some, None, Result, Ok, Err, if◌then◌else◌, codes}
 use Rattle.std.specs.List.{flat_map}
-use Rattle.std.specs.Fmt.{decimal}
 use Rattle.point_codes.specs.Codes.{code_text}
 use Rattle.route_choice.specs.declared.choices.Far.{Far}
 use Rattle.what_if.specs.declared.changes.Change.{Change}
 use Rattle.what_if.specs.declared.reports.Refused.{Refused}
 use Rattle.what_if.specs.declared.reports.Report.{Report}
-use Rattle.answers.specs.Refusals.{refusal_text}
 use Rattle.answers.specs.Status.{far_text}
+use Rattle.answers.specs.declared.answer.Answer.{Answer}
+use Rattle.answers.specs.declared.answer.Answer.TheVariants as answer
+use Rattle.answers.specs.declared.answer.NetAnswer.TheVariants as net
+use Rattle.answers.specs.declared.answer.Reason.TheVariants as reason
 
 -- a status, `none` if there is no row
 abbrev pub status_word : Option Far → List ℕ
@@ -24,11 +26,7 @@ change_text change =
 abbrev pub report_text : Report → List ℕ
 report_text report = (if report.denied then codes "whatif denied" else codes "whatif granted") ++ flat_map change_text report.changes
 
--- a refusal and its place, `refused NUMBER NAME VALUES at PLACE`
-abbrev pub refused_event_text : Refused → List ℕ
-refused_event_text r = codes "refused " ++ (refusal_text r.refusal ++ (codes " at " ++ decimal r.place))
-
 -- the report, or the refusal and its place
-abbrev pub what_if_text : Result Report Refused → List ℕ
-what_if_text (Ok report) = report_text report
-what_if_text (Err r) = refused_event_text r
+abbrev pub what_if_answer : Result Report Refused → Answer
+what_if_answer (Ok report) = answer.Net (net.WhatIf report)
+what_if_answer (Err refused) = answer.Refused (reason.Event refused)

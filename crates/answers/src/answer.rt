@@ -1,90 +1,110 @@
-//! The answer to a line.
+//! What is answered to a line, with its values.
 
-ghost use Rattle.std.specs.Prelude.{◌≡◌, ◌++◌, OnOk, Ok, string_bytes};
-ghost use Rattle.std.specs.Fmt.{decimal};
-ghost use Rattle.answers.specs.Answer.{form_text};
-ghost use Rattle.answers.specs.Replies.{posted_text};
-ghost use Rattle.answers.specs.Text.{line_count};
+use crate::text::Text;
+use crate::ways::Ways;
+use point_codes::PointCode;
+use profile::{Messages, RowLinks, Trace};
+use route_choice::{Choice, Far};
+use transfer_state::Complaint;
+use what_if::{Changes, Mend, Refused, Report};
+use work_units::{Opened, Refusal};
 
-use itoa::Buffer;
-use std::alloc::AllocError;
-use std::marker::Model;
-use work_units::Posted;
+/// Why a line is refused.
+#[derive(Clone, Copy)]
+pub enum Reason {
+    /// The desk refuses a call.
+    Desk(Refusal),
+    /// The network refuses an event of a what-if.
+    Event(Refused),
+    /// The destination has no plan.
+    NoPlan,
+    /// The point has no row.
+    NoRow,
+    /// The line is no command, or its slot is empty.
+    BadLine,
+    /// A file can't be written.
+    Write,
+}
 
-/// What an answer is kept as.
+/// What the desk replies.
+#[derive(Clone, Copy)]
+pub enum Reply {
+    /// The event was accepted, under this number.
+    Taken(u64),
+    /// The event was accepted before, under this number.
+    Again(u64),
+    /// A target is open.
+    Opened(Opened),
+    /// A job was taken: the version that it is for, and its destination.
+    Job(u64, PointCode),
+    /// A result was given.
+    Given,
+    /// A destination was abandoned.
+    Abandoned,
+    /// The number of the published version, and how many events are accepted.
+    Version(u64, u64),
+    /// Whether changes are told behind publications from now on.
+    Watch(bool),
+}
+
+/// What was published, and what that changed.
 #[derive(Drop)]
-pub(crate) enum Form {
-    /// An accepted post, the answer to most lines: its text takes no memory of its own.
-    Posted(Posted),
-    /// A text.
-    Text(String),
+pub enum Publication {
+    /// The version of this number is published, and what changed, if that is told behind publications.
+    Published(u64, Option<Changes>),
+    /// All that is accepted is published, under this number; and what changed, if that is told behind publications.
+    Synced(u64, Option<Changes>),
+    /// What changed from the version before to the one of this number.
+    Changes(u64, Changes),
 }
 
-/// The answer to a line, without a line feed. Contracts see its bytes.
+/// What is told of the row of a point.
 #[derive(Drop)]
-pub struct Answer {
-    form: Form,
+pub enum RowAnswer {
+    /// What it uses.
+    Status(Choice),
+    /// Its class, and the link of each signalling link selection (Q.704 clause 2.3).
+    Links(u8, RowLinks),
+    /// The messages in force from its point (Q.704 clauses 13.2 to 13.4).
+    Messages(Messages),
+    /// The octets of the message in force to a point, if one is.
+    Octets(Option<[u8; 8]>),
+    /// Why it uses what it uses: its status, and its ways.
+    Why(Far, Ways),
+    /// The links that have to be restored, if restoring does it.
+    Mend(Option<Mend>),
 }
 
-impl Model for Answer {
-    ghost use Rattle.std.specs.Prelude.{ℕ, List};
-    ghost use Rattle.answers.specs.Answer.{form_text};
-
-    ghost Value = { List ℕ };
-
-    ghost view = { λ a. form_text a.form };
+/// What is told of the whole network.
+#[derive(Drop)]
+pub enum NetAnswer {
+    /// The links that a signalling link selection follows.
+    Trace(Trace),
+    /// What events would change.
+    WhatIf(Report),
+    /// So many tables, each right.
+    Right(usize),
+    /// A wrong table: its destination, and the first complaint about it.
+    Wrong(PointCode, Complaint),
+    /// The file that a picture is for, and the picture.
+    Picture(Text, Text),
+    /// The file that a picture was put into.
+    Drawn(Text),
 }
 
-/// The word and the number of the reply to an accepted post.
-fn words_of(posted: Posted) -> (&'static str, u64)
-    ensures text { posted_text (Ok posted) ≡ result.0.now ++ decimal result.1 }
-    ensures plain { line_count result.0.now ≡ 0 }
-{
-    match posted {
-        Posted::Taken(number) => ("taken ", number),
-        Posted::Again(number) => ("again ", number),
-    }
-}
-
-/// Adds the reply to an accepted post.
-fn put_posted(text: &mut String, posted: Posted) -> Result<(), AllocError>
-    ensures { OnOk result (string_bytes text.new ≡ string_bytes text.old ++ posted_text (Ok posted)) }
-{
-    let (word, number) = words_of(posted);
-    let mut digits = Buffer::new();
-    text.push_str(word)?;
-    text.push_str(digits.format(number))
-}
-
-impl Answer {
-    /// The answer to an accepted post: `taken N` or `again N`.
-    pub fn of_post(posted: Posted) -> Answer
-        ensures text { result ≡ posted_text (Ok posted) }
-        ensures plain { line_count result ≡ 0 }
-    {
-        // The proof reads the number's range from this.
-        let _words = words_of(posted);
-        Answer {
-            form: Form::Posted(posted),
-        }
-    }
-
-    /// The answer that a text is.
-    pub fn of_text(text: String) -> Answer
-        ensures { result ≡ string_bytes text }
-    {
-        Answer {
-            form: Form::Text(text),
-        }
-    }
-
-    /// Adds the answer to a text. It takes no memory but that of the text.
-    pub fn put(&self, text: &mut String) -> Result<(), AllocError>
-        ensures { OnOk result (string_bytes text.new ≡ string_bytes text.old ++ self.now) }
-    {
-        match &self.form {
-            Form::Posted(posted) => put_posted(text, *posted),
-            Form::Text(own) => text.push_str(own.as_str()),
-        }
-    }
+/// What is answered to a line.
+#[derive(Drop)]
+pub enum Answer {
+    /// What the desk replies.
+    Reply(Reply),
+    /// What was published, and what that changed.
+    Publication(Publication),
+    /// What is told of the row of a point.
+    Row(RowAnswer),
+    /// What is told of the whole network.
+    Net(NetAnswer),
+    /// What `help` tells.
+    Help(Text),
+    /// Why the line is refused.
+    Refused(Reason),
 }

@@ -1,9 +1,10 @@
 //! The answer to `audit`.
 
-ghost use Rattle.std.specs.Prelude.{◌≡◌, ◌++◌, IfOk, OnErr, OnOk, length, string_bytes};
-ghost use Rattle.answers.specs.Audits.{audit_right, audit_wrong, clause_letter, complaint_text};
-ghost use Rattle.answers.specs.Text.{line_count};
+ghost use Rattle.std.specs.Prelude.{◌≡◌, ◌++◌, OnErr, OnOk, length, string_bytes};
+ghost use Rattle.answers.specs.Audits.{audit_answer, audit_right, audit_wrong, clause_letter, complaint_text};
 
+use crate::answer::{Answer, NetAnswer};
+use crate::codes::put_numbered;
 use net_versions::Version;
 use point_codes::PointCode;
 use std::alloc::{AllocError, Global};
@@ -32,47 +33,44 @@ pub fn put_complaint(
 ) -> Result<(), AllocError>
     ensures text { OnOk result (string_bytes text.new ≡ string_bytes text.old ++ complaint_text dest complaint) }
     ensures kept { OnErr result (string_bytes text.new ≡ string_bytes text.old) }
-    ensures plain { line_count (complaint_text dest complaint) ≡ 0 }
 {
     let point = complaint.point;
-    // The proof reads the codes' ranges from these.
-    let (_dest, _point) = (dest.number(), point.number());
     let letter = clause_word(complaint.clause);
     let words = format!(in alloc; "{dest} {point} {letter}")?;
     text.push_str(words.as_str())
 }
 
-/// That many tables, each right, in text.
-fn write_right(alloc: Global, count: usize) -> Result<String, AllocError>
-    ensures text { IfOk result (λ text. string_bytes text ≡ audit_right count) }
-    ensures plain { IfOk result (λ text. line_count (string_bytes text) ≡ 0) }
+/// Adds that many tables, each right.
+pub(crate) fn put_right(text: &mut String, count: usize) -> Result<(), AllocError>
+    ensures { OnOk result (string_bytes text.new ≡ string_bytes text.old ++ audit_right count) }
 {
-    format!(in alloc; "audit ok {count}")
+    put_numbered(text, "audit ok ", count as u64)
 }
 
-/// The first wrong table in text.
-fn write_wrong(alloc: Global, dest: PointCode, complaint: Complaint) -> Result<String, AllocError>
-    ensures text { IfOk result (λ text. string_bytes text ≡ audit_wrong dest complaint) }
-    ensures plain { IfOk result (λ text. line_count (string_bytes text) ≡ 0) }
+/// Adds a wrong table.
+pub(crate) fn put_wrong(
+    alloc: Global,
+    text: &mut String,
+    dest: PointCode,
+    complaint: Complaint,
+) -> Result<(), AllocError>
+    ensures { OnOk result (string_bytes text.new ≡ string_bytes text.old ++ audit_wrong dest complaint) }
 {
-    let mut text = String::from_str(alloc, "audit bad ")?;
-    put_complaint(alloc, &mut text, dest, complaint)?;
-    Ok(text)
+    text.push_str("audit bad ")?;
+    put_complaint(alloc, text, dest, complaint)
 }
 
-/// The check of every table of a version by the local rule, without a line feed: `audit ok P` for P tables, or
-/// `audit bad X Y c` for the first wrong one (own, after Q.704 clauses 13.2 to 13.4). A version has settled tables
-/// alone, so it is always `ok`, which is the contract.
-pub fn answer_audit(alloc: Global, version: &Version) -> Result<String, AllocError>
-    ensures text { IfOk result (λ text. string_bytes text ≡ audit_right (length version.now.network.plans)) }
-    ensures plain { IfOk result (λ text. line_count (string_bytes text) ≡ 0) }
+/// The check of every table of a version by the local rule: so many tables, each right, or the first wrong one (own, after Q.704
+/// clauses 13.2 to 13.4). A version has settled tables alone, so they are always right, which is the contract.
+pub fn answer_audit(version: &Version) -> Answer
+    ensures { result ≡ audit_answer (length version.now.network.plans) }
 {
     let routings = version.routings();
     for routing in routings {
         routing.validity();
         if let Err(complaint) = routing.audit() {
-            return write_wrong(alloc, routing.dest(), complaint);
+            return Answer::Net(NetAnswer::Wrong(routing.dest(), complaint));
         }
     }
-    write_right(alloc, routings.len())
+    Answer::Net(NetAnswer::Right(routings.len()))
 }

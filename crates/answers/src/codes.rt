@@ -4,6 +4,7 @@ ghost use Rattle.std.specs.Prelude.{◌≡◌, ◌<◌, ◌++◌, OnOk, string_b
 ghost use Rattle.std.specs.Fmt.{decimal};
 ghost use Rattle.point_codes.specs.Codes.{code_text};
 
+use itoa::Buffer;
 use point_codes::PointCode;
 use std::alloc::AllocError;
 
@@ -37,4 +38,13 @@ pub fn write_code(text: &mut String, code: PointCode) -> Result<(), AllocError>
     put_number(text, u16::from(code.area()))?;
     text.push('-')?;
     put_digit(text, code.point())
+}
+
+/// Adds a word and a number. It takes no memory but that of the text.
+pub(crate) fn put_numbered(text: &mut String, word: &str, number: u64) -> Result<(), AllocError>
+    ensures { OnOk result (string_bytes text.new ≡ string_bytes text.old ++ (word.now ++ decimal number)) }
+{
+    let mut digits = Buffer::new();
+    text.push_str(word)?;
+    text.push_str(digits.format(number))
 }

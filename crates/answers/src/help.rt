@@ -1,11 +1,11 @@
 //! What `help` answers.
 
-ghost use Rattle.std.specs.Prelude.{◌≡◌, IfOk, IfSome, find as first_that, map, option_map, string_bytes};
-ghost use Rattle.answers.specs.Help.{forms as all_forms, is_of, other_answer, value_of};
-ghost use Rattle.answers.specs.Text.{line_count};
+ghost use Rattle.std.specs.Prelude.{◌≡◌, ◌∷◌, [], IfOk, find as first_that, map, option_map};
+ghost use Rattle.answers.specs.Help.{forms as all_forms, help_on, is_of, other_answer, value_of};
 ghost use Rattle.tokens.specs.Words.{words_of};
 
-use crate::plain::write_bad_line;
+use crate::answer::{Answer, Reason};
+use crate::text::Text;
 use std::alloc::{AllocError, Global};
 use tokens::split_words;
 
@@ -182,38 +182,53 @@ fn find_among<'a>(list: &'a [Form], word: &[u8]) -> Option<&'a Form>
 
 /// What is told of a word that begins a command: the form of its commands, and an example.
 fn form_of(word: &[u8]) -> Option<&'static str>
-    ensures form { option_map (λ text. text.now) result ≡ option_map (λ f. f.text) (first_that (is_of word.now) all_forms) }
-    ensures plain { IfSome result (λ text. line_count text.now ≡ 0) }
+    ensures { option_map (λ text. text.now) result ≡ option_map (λ f. f.text) (first_that (is_of word.now) all_forms) }
 {
     find_among(forms(), word).map(|form| form.text)
 }
 
-/// What is answered to the words of a line that is no command.
-fn answer_words(alloc: Global, words: &[&[u8]]) -> Result<String, AllocError>
-    ensures text { IfOk result (λ text. string_bytes text ≡ other_answer (map (λ w. w.now) words.now)) }
-    ensures plain { IfOk result (λ text. line_count (string_bytes text) ≡ 0) }
+/// The answer that a text is.
+fn help(alloc: Global, text: &str) -> Result<Answer, AllocError>
+    ensures { IfOk result (λ answer. answer ≡ Answer.Help text.now) }
 {
-    let [first, rest @ ..] = words else {
-        return write_bad_line(alloc);
-    };
-    if *first != "help".as_bytes() {
-        return write_bad_line(alloc);
+    Ok(Answer::Help(Text::from_string(String::from_str(alloc, text)?)))
+}
+
+/// What is told about a word.
+fn help_on_word(alloc: Global, word: &[u8]) -> Result<Answer, AllocError>
+    ensures { IfOk result (λ answer. answer ≡ help_on (word.now ∷ [])) }
+{
+    match form_of(word) {
+        Some(text) => help(alloc, text),
+        None => Ok(Answer::Refused(Reason::BadLine)),
     }
-    match rest {
-        [] => String::from_str(alloc, ALL_WORDS),
-        [word] => match form_of(*word) {
-            Some(text) => String::from_str(alloc, text),
-            None => write_bad_line(alloc),
-        },
-        [_, _, ..] => write_bad_line(alloc),
+}
+
+/// What is told about the words after `help`.
+fn help_on_words(alloc: Global, words: &[&[u8]]) -> Result<Answer, AllocError>
+    ensures { IfOk result (λ answer. answer ≡ help_on (map (λ w. w.now) words.now)) }
+{
+    match words {
+        [] => help(alloc, ALL_WORDS),
+        [word] => help_on_word(alloc, *word),
+        [_, _, ..] => Ok(Answer::Refused(Reason::BadLine)),
+    }
+}
+
+/// What is answered to the words of a line that is no command.
+fn answer_words(alloc: Global, words: &[&[u8]]) -> Result<Answer, AllocError>
+    ensures { IfOk result (λ answer. answer ≡ other_answer (map (λ w. w.now) words.now)) }
+{
+    match words {
+        [first, rest @ ..] if *first == "help".as_bytes() => help_on_words(alloc, rest),
+        _ => Ok(Answer::Refused(Reason::BadLine)),
     }
 }
 
 /// What is answered to a line that is no command: `help` tells every word that begins one, `help WORD` the form of that word's
 /// commands, with an example; any other is refused as a bad line. It fails if memory is refused.
-pub fn answer_other(alloc: Global, line: &[u8]) -> Result<String, AllocError>
-    ensures text { IfOk result (λ text. string_bytes text ≡ other_answer (words_of line.now)) }
-    ensures plain { IfOk result (λ text. line_count (string_bytes text) ≡ 0) }
+pub fn answer_other(alloc: Global, line: &[u8]) -> Result<Answer, AllocError>
+    ensures { IfOk result (λ answer. answer ≡ other_answer (words_of line.now)) }
 {
     let words = split_words(alloc, line)?;
     answer_words(alloc, words.as_slice())

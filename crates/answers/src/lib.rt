@@ -1,4 +1,5 @@
-//! The texts of answers, replies and refusals (all own). Each text stands here and nowhere else.
+//! What is answered to a line: its values (`Answer`), how they come about, and how they are told in text (all own).
+//! Each text stands here and nowhere else.
 //!
 //! 1. A question about the row of the point Y in the settled table of the destination X is refused 26 NoPlan where X
 //!    has no plan, then 29 NoRow where Y has no row. It is answered by search, with no table made.
@@ -27,38 +28,44 @@
 //! 14. A line that is no command is refused 62 BadLine, but for `help`: it tells every word that begins a command, and `help
 //!     WORD` the form of that word's commands, with an example: `help FORM, as EXAMPLE`.
 //!
-//! Stands on `work_units`, `path_trace`, `what_if`, `tokens`, `script_words`, `itoa`. A change here also changes specs/ (Answer, Audits, Changes,
-//! DeskRefusals, Help, Links, Mend, Messages, Plain, Refusals, Replies, Rows, Status, Text, Traces, WhatIfs, Why), proofs/ and must-fail/.
+//! Stands on `work_units`, `path_trace`, `what_if`, `tokens`, `script_words`, `itoa`. A change here also changes specs/ (Answers, Audits,
+//! Changes, DeskRefusals, Help, Links, Mend, Messages, Refusals, Replies, Rows, Status, Traces, Ways, WhatIfs, Why), proofs/ and
+//! must-fail/.
 #![tactic(auto)]
 
 pub mod answer;
 pub mod audits;
-mod changes;
+pub mod changes;
 mod codes;
 mod desk_refusals;
 pub mod help;
 mod links;
 mod mend;
 mod messages;
-pub mod plain;
+pub mod printing;
 pub mod refusals;
 pub mod replies;
 pub mod rows;
 mod status;
+pub mod telling;
+pub mod text;
 pub mod traces;
+pub mod ways;
 pub mod what_ifs;
 mod why;
 
-pub use answer::Answer;
+pub use answer::{Answer, NetAnswer, Publication, Reason, Reply, RowAnswer};
 pub use audits::{answer_audit, clause_word, put_complaint};
-pub use changes::{answer_changes, write_watch};
+pub use changes::{answer_changes, changes_of};
 pub use help::answer_other;
-pub use plain::{write_bad_line, write_no_plan, write_no_row};
-pub use refusals::put_refusal;
-pub use replies::{
-    write_abandoned, write_given, write_job, write_opened, write_posted, write_published,
-    write_refused, write_synced, write_version,
-};
+pub use messages::kind_word;
+pub use printing::{print_answer, put_answer, reason_title};
+pub use refusals::{cause_word, put_refusal};
+pub use replies::{answer_abandoned, answer_given, answer_job, answer_open, answer_post};
 pub use rows::answer_about;
+pub use status::far_word;
+pub use telling::{Asked, Telling};
+pub use text::Text;
 pub use traces::answer_trace;
+pub use ways::{Offer, Way, Ways};
 pub use what_ifs::answer_what_if;

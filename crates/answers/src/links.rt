@@ -1,21 +1,16 @@
 //! The answer to `sls`.
 
-ghost use Rattle.std.specs.Prelude.{◌≡◌, ◌==◌, ◌++◌, if◌then◌else◌, IfOk, OnOk, Some, codes, string_bytes};
+ghost use Rattle.std.specs.Prelude.{◌≡◌, ◌++◌, OnOk, Some, string_bytes};
 ghost use Rattle.std.specs.List.{flat_map};
-ghost use Rattle.answers.specs.Links.{link_text};
-ghost use Rattle.answers.specs.Text.{line_count};
+ghost use Rattle.answers.specs.Links.{link_text, links_text};
 
 use crate::codes::put_number;
 use profile::{LinkRef, RowLinks};
-use std::alloc::{AllocError, Global};
-
-/// The room for `sls` and sixteen links, each after a space with at most four digits, a colon and two digits.
-const ROOM: usize = 131;
+use std::alloc::AllocError;
 
 /// Adds a link after a space, by its set and its signalling link code. It takes no memory but that of the text.
 pub(crate) fn put_link(text: &mut String, link: LinkRef) -> Result<(), AllocError>
-    ensures text { OnOk result (string_bytes text.new ≡ string_bytes text.old ++ link_text (Some link)) }
-    ensures plain { line_count (link_text (Some link)) ≡ 0 }
+    ensures { OnOk result (string_bytes text.new ≡ string_bytes text.old ++ link_text (Some link)) }
 {
     text.push(' ')?;
     put_number(text, link.id)?;
@@ -25,8 +20,7 @@ pub(crate) fn put_link(text: &mut String, link: LinkRef) -> Result<(), AllocErro
 
 /// Adds a link after a space, or nothing if there is none.
 fn put_selected(text: &mut String, link: Option<LinkRef>) -> Result<(), AllocError>
-    ensures text { OnOk result (string_bytes text.new ≡ string_bytes text.old ++ link_text link) }
-    ensures plain { line_count (link_text link) ≡ 0 }
+    ensures { OnOk result (string_bytes text.new ≡ string_bytes text.old ++ link_text link) }
 {
     match link {
         Some(link) => put_link(text, link),
@@ -35,9 +29,8 @@ fn put_selected(text: &mut String, link: Option<LinkRef>) -> Result<(), AllocErr
 }
 
 /// Adds the sixteen links, each after a space.
-fn put_links(text: &mut String, links: &RowLinks) -> Result<(), AllocError>
-    ensures text { OnOk result (string_bytes text.new ≡ string_bytes text.old ++ flat_map link_text links.now) }
-    ensures plain { OnOk result (line_count (string_bytes text.new) ≡ line_count (string_bytes text.old)) }
+fn put_each(text: &mut String, links: &RowLinks) -> Result<(), AllocError>
+    ensures { OnOk result (string_bytes text.new ≡ string_bytes text.old ++ flat_map link_text links.now) }
 {
     links.validity();
     for s in 0..16u8 {
@@ -46,17 +39,13 @@ fn put_links(text: &mut String, links: &RowLinks) -> Result<(), AllocError>
     Ok(())
 }
 
-/// The links of a row of a class in text, in rising signalling link selection.
-pub(crate) fn write_links(alloc: Global, class: u8, links: &RowLinks) -> Result<String, AllocError>
-    ensures text { IfOk result (λ text. string_bytes text ≡
-        (if class == 0 then codes "sls none" else codes "sls" ++ flat_map link_text links.now)) }
-    ensures plain { IfOk result (λ text. line_count (string_bytes text) ≡ 0) }
+/// Adds the links of a row of a class, in rising signalling link selection.
+pub(crate) fn put_links(text: &mut String, class: u8, links: &RowLinks) -> Result<(), AllocError>
+    ensures { OnOk result (string_bytes text.new ≡ string_bytes text.old ++ links_text class links.now) }
 {
     if class == 0 {
-        return String::from_str(alloc, "sls none");
+        return text.push_str("sls none");
     }
-    let mut text = String::with_capacity(alloc, ROOM)?;
     text.push_str("sls")?;
-    put_links(&mut text, links)?;
-    Ok(text)
+    put_each(text, links)
 }

@@ -1,10 +1,8 @@
 //! The answer to `mend`.
 
-ghost use Rattle.std.specs.Prelude.{◌≡◌, ◌++◌, IfOk, OnOk, string_bytes};
+ghost use Rattle.std.specs.Prelude.{◌≡◌, ◌++◌, OnOk, string_bytes};
 ghost use Rattle.std.specs.List.{flat_map};
-ghost use Rattle.std.specs.Option.{option_copied};
 ghost use Rattle.answers.specs.Mend.{mend_text, set_link_word};
-ghost use Rattle.answers.specs.Text.{line_count};
 
 use crate::codes::put_number;
 use std::alloc::{AllocError, Global};
@@ -13,8 +11,7 @@ use what_if::{Mend, SetLink};
 
 /// Adds a link with its set and its marks after a space.
 fn put_set_link(alloc: Global, text: &mut String, link: SetLink) -> Result<(), AllocError>
-    ensures text { OnOk result (string_bytes text.new ≡ string_bytes text.old ++ set_link_word link) }
-    ensures plain { OnOk result (line_count (string_bytes text.new) ≡ line_count (string_bytes text.old)) }
+    ensures { OnOk result (string_bytes text.new ≡ string_bytes text.old ++ set_link_word link) }
 {
     let word = write_marked(alloc, &link.link)?;
     text.push_str(" ")?;
@@ -26,8 +23,7 @@ fn put_set_link(alloc: Global, text: &mut String, link: SetLink) -> Result<(), A
 
 /// Adds links with their sets and marks, each after a space.
 fn put_set_links(alloc: Global, text: &mut String, links: &[SetLink]) -> Result<(), AllocError>
-    ensures text { OnOk result (string_bytes text.new ≡ string_bytes text.old ++ flat_map set_link_word links.now) }
-    ensures plain { OnOk result (line_count (string_bytes text.new) ≡ line_count (string_bytes text.old)) }
+    ensures { OnOk result (string_bytes text.new ≡ string_bytes text.old ++ flat_map set_link_word links.now) }
 {
     for link in links {
         put_set_link(alloc, text, *link)?;
@@ -35,19 +31,21 @@ fn put_set_links(alloc: Global, text: &mut String, links: &[SetLink]) -> Result<
     Ok(())
 }
 
-/// The links that have to be restored, in text.
-pub(crate) fn write_mend(alloc: Global, mend: Option<&Mend>) -> Result<String, AllocError>
-    ensures text { IfOk result (λ text. string_bytes text ≡ mend_text (option_copied mend.entry)) }
-    ensures plain { IfOk result (λ text. line_count (string_bytes text) ≡ 0) }
+/// Adds the links that have to be restored, if restoring does it.
+pub(crate) fn put_mend(
+    alloc: Global,
+    text: &mut String,
+    mend: &Option<Mend>,
+) -> Result<(), AllocError>
+    ensures { OnOk result (string_bytes text.new ≡ string_bytes text.old ++ mend_text mend.now) }
 {
     let Some(mend) = mend else {
-        return String::from_str(alloc, "mend none");
+        return text.push_str("mend none");
     };
     let links = mend.as_slice();
     if links.is_empty() {
-        return String::from_str(alloc, "mend ok");
+        return text.push_str("mend ok");
     }
-    let mut text = String::from_str(alloc, "mend")?;
-    put_set_links(alloc, &mut text, links)?;
-    Ok(text)
+    text.push_str("mend")?;
+    put_set_links(alloc, text, links)
 }

@@ -2,14 +2,13 @@
 
 ghost use Rattle.std.specs.Prelude.{◌≡◌, ◌++◌, OnErr, OnOk, string_bytes};
 ghost use Rattle.answers.specs.Refusals.{refusal_name, refusal_values, refusal_text, cause_letter};
-ghost use Rattle.answers.specs.Text.{line_count};
 
 use net_data::{Cause, Refusal};
 use point_codes::PointCode;
 use std::alloc::{AllocError, Global};
 
 /// The number and the name of a refusal.
-fn refusal_words(refusal: &Refusal) -> &'static str
+pub fn refusal_title(refusal: &Refusal) -> &'static str
     ensures { result.now ≡ refusal_name refusal.now }
 {
     match refusal {
@@ -37,7 +36,7 @@ fn refusal_words(refusal: &Refusal) -> &'static str
 }
 
 /// The letter of what is wrong with a row.
-fn cause_word(cause: Cause) -> &'static str
+pub fn cause_word(cause: Cause) -> &'static str
     ensures { result.now ≡ cause_letter cause }
 {
     match cause {
@@ -53,7 +52,11 @@ fn cause_word(cause: Cause) -> &'static str
 }
 
 /// Adds the values of a refusal, each after a space.
-fn put_values(alloc: Global, text: &mut String, refusal: &Refusal) -> Result<(), AllocError>
+pub(crate) fn put_values(
+    alloc: Global,
+    text: &mut String,
+    refusal: &Refusal,
+) -> Result<(), AllocError>
     ensures { OnOk result (string_bytes text.new ≡ string_bytes text.old ++ refusal_values refusal.now) }
 {
     match refusal {
@@ -81,30 +84,12 @@ fn put_bad_row(
     text.push_str(cause_word(cause))
 }
 
-/// The values of a refusal have no line feed. It does nothing when it runs.
-fn values_are_plain(refusal: &Refusal)
-    ensures { line_count (refusal_values refusal.now) ≡ 0 }
-{
-    // The proof reads the ranges of the values from this.
-    match refusal {
-        Refusal::Joined(id) => {
-            let _id = *id;
-        }
-        Refusal::BadRow(point, _) => {
-            let _number = point.number();
-        }
-        _ => {}
-    }
-}
-
 /// Adds a refusal: its number, its name and its values. If memory is refused the text stays as it was.
 pub fn put_refusal(alloc: Global, text: &mut String, refusal: &Refusal) -> Result<(), AllocError>
     ensures text { OnOk result (string_bytes text.new ≡ string_bytes text.old ++ refusal_text refusal.now) }
     ensures kept { OnErr result (string_bytes text.new ≡ string_bytes text.old) }
-    ensures plain { line_count (refusal_text refusal.now) ≡ 0 }
 {
-    values_are_plain(refusal);
-    let mut words = String::from_str(alloc, refusal_words(refusal))?;
+    let mut words = String::from_str(alloc, refusal_title(refusal))?;
     put_values(alloc, &mut words, refusal)?;
     text.push_str(words.as_str())
 }

@@ -1,21 +1,16 @@
 //! The answer to `status`.
 
-ghost use Rattle.std.specs.Prelude.{◌≡◌, ◌++◌, IfOk, OnOk, codes, string_bytes};
-ghost use Rattle.std.specs.Fmt.{decimal};
+ghost use Rattle.std.specs.Prelude.{◌≡◌, ◌++◌, OnOk, string_bytes};
 ghost use Rattle.std.specs.List.{flat_map};
 ghost use Rattle.answers.specs.Status.{far_text, member_text, status_text};
-ghost use Rattle.answers.specs.Text.{line_count};
 
 use crate::codes::{put_number, write_code};
 use point_codes::PointCode;
 use route_choice::{Choice, Far};
-use std::alloc::{AllocError, Global};
-
-/// The room for the longest status, a class of three digits, and two members.
-const ROOM: usize = 46;
+use std::alloc::AllocError;
 
 /// A status.
-pub(crate) fn far_word(far: Far) -> &'static str
+pub fn far_word(far: Far) -> &'static str
     ensures { result.now ≡ far_text far }
 {
     match far {
@@ -27,22 +22,18 @@ pub(crate) fn far_word(far: Far) -> &'static str
 
 /// Adds a member after a space.
 fn put_member(text: &mut String, member: Option<PointCode>) -> Result<(), AllocError>
-    ensures text { OnOk result (string_bytes text.new ≡ string_bytes text.old ++ member_text member) }
-    ensures plain { line_count (member_text member) ≡ 0 }
+    ensures { OnOk result (string_bytes text.new ≡ string_bytes text.old ++ member_text member) }
 {
     let Some(code) = member else {
         return Ok(());
     };
-    // The proof reads the code's range from this.
-    let _number = code.number();
     text.push(' ')?;
     write_code(text, code)
 }
 
 /// Adds the members of a choice.
 fn put_members(text: &mut String, members: &[Option<PointCode>]) -> Result<(), AllocError>
-    ensures text { OnOk result (string_bytes text.new ≡ string_bytes text.old ++ flat_map member_text members.now) }
-    ensures plain { OnOk result (line_count (string_bytes text.new) ≡ line_count (string_bytes text.old)) }
+    ensures { OnOk result (string_bytes text.new ≡ string_bytes text.old ++ flat_map member_text members.now) }
 {
     for member in members {
         put_member(text, *member)?;
@@ -50,29 +41,18 @@ fn put_members(text: &mut String, members: &[Option<PointCode>]) -> Result<(), A
     Ok(())
 }
 
-/// A status and a class, with room for members.
-fn write_head(alloc: Global, word: &str, class: u8) -> Result<String, AllocError>
-    ensures { IfOk result (λ text. string_bytes text ≡ codes "status " ++ (word.now ++ (codes " class " ++ (decimal class ++ codes " by")))) }
+/// Adds what a point uses towards a destination: its status, its class and the members of the class. It takes no memory but that of
+/// the text.
+pub(crate) fn put_status(text: &mut String, choice: &Choice) -> Result<(), AllocError>
+    ensures { OnOk result (string_bytes text.new ≡ string_bytes text.old ++ status_text choice.now) }
 {
-    let mut text = String::with_capacity(alloc, ROOM)?;
-    text.push_str("status ")?;
-    text.push_str(word)?;
-    text.push_str(" class ")?;
-    put_number(&mut text, u16::from(class))?;
-    text.push_str(" by")?;
-    Ok(text)
-}
-
-/// What a point uses towards a destination, in text: its status, its class and the members of the class.
-pub(crate) fn write_status(alloc: Global, choice: &Choice) -> Result<String, AllocError>
-    ensures text { IfOk result (λ text. string_bytes text ≡ status_text choice.now) }
-    ensures plain { IfOk result (λ text. line_count (string_bytes text) ≡ 0) }
-{
-    let class = choice.class;
-    if class == 0 {
-        return String::from_str(alloc, "status prohibited");
+    if choice.class == 0 {
+        return text.push_str("status prohibited");
     }
-    let mut text = write_head(alloc, far_word(choice.status), class)?;
-    put_members(&mut text, &choice.members)?;
-    Ok(text)
+    text.push_str("status ")?;
+    text.push_str(far_word(choice.status))?;
+    text.push_str(" class ")?;
+    put_number(text, u16::from(choice.class))?;
+    text.push_str(" by")?;
+    put_members(text, &choice.members)
 }

@@ -1,13 +1,15 @@
 //! The answer to `whatif`.
 
-ghost use Rattle.std.specs.Prelude.{◌≡◌, ◌++◌, Ok, Err, IfOk, OnOk, string_bytes};
+ghost use Rattle.std.specs.Prelude.{◌≡◌, ◌++◌, IfOk, OnOk, string_bytes};
 ghost use Rattle.std.specs.List.{flat_map};
 ghost use Rattle.what_if.specs.Reports.{report_of};
-ghost use Rattle.answers.specs.Text.{line_count};
-ghost use Rattle.answers.specs.WhatIfs.{change_text, refused_event_text, report_text, what_if_text};
+ghost use Rattle.answers.specs.Answers.{reason_values};
+ghost use Rattle.answers.specs.WhatIfs.{change_text, report_text, what_if_answer};
 ghost use Rattle.answers.specs.WhatIfs.{status_word as status_text};
 
-use crate::refusals::put_refusal;
+use crate::answer::{Answer, NetAnswer, Reason};
+use crate::codes::put_numbered;
+use crate::refusals::put_values;
 use crate::status::far_word;
 use net_data::Event;
 use net_versions::Version;
@@ -27,12 +29,9 @@ fn status_word(status: Option<Far>) -> &'static str
 
 /// Adds a change after a space.
 fn put_change(alloc: Global, text: &mut String, change: Change) -> Result<(), AllocError>
-    ensures text { OnOk result (string_bytes text.new ≡ string_bytes text.old ++ change_text change) }
-    ensures plain { line_count (change_text change) ≡ 0 }
+    ensures { OnOk result (string_bytes text.new ≡ string_bytes text.old ++ change_text change) }
 {
     let Change { point, dest, .. } = change;
-    // The proof reads the codes' ranges from these.
-    let (_point, _dest) = (point.number(), dest.number());
     let before = status_word(change.before);
     let after = status_word(change.after);
     let word = format!(in alloc; " {point}/{dest} {before}>{after}")?;
@@ -45,8 +44,7 @@ pub(crate) fn put_changes(
     text: &mut String,
     changes: &[Change],
 ) -> Result<(), AllocError>
-    ensures text { OnOk result (string_bytes text.new ≡ string_bytes text.old ++ flat_map change_text changes.now) }
-    ensures plain { OnOk result (line_count (string_bytes text.new) ≡ line_count (string_bytes text.old)) }
+    ensures { OnOk result (string_bytes text.new ≡ string_bytes text.old ++ flat_map change_text changes.now) }
 {
     for change in changes {
         put_change(alloc, text, *change)?;
@@ -54,52 +52,51 @@ pub(crate) fn put_changes(
     Ok(())
 }
 
-/// A report in text, with its changes in their order.
-fn write_report(alloc: Global, report: &Report) -> Result<String, AllocError>
-    ensures text { IfOk result (λ text. string_bytes text ≡ report_text report.now) }
-    ensures plain { IfOk result (λ text. line_count (string_bytes text) ≡ 0) }
+/// Adds a report, with its changes in their order.
+pub(crate) fn put_report(
+    alloc: Global,
+    text: &mut String,
+    report: &Report,
+) -> Result<(), AllocError>
+    ensures { OnOk result (string_bytes text.new ≡ string_bytes text.old ++ report_text report.now) }
 {
-    let word = if report.denied {
+    text.push_str(if report.denied {
         "whatif denied"
     } else {
         "whatif granted"
-    };
-    let mut text = String::from_str(alloc, word)?;
-    put_changes(alloc, &mut text, report.changes.as_slice())?;
-    Ok(text)
+    })?;
+    put_changes(alloc, text, report.changes.as_slice())
 }
 
-/// A refused event in text, with its place.
-fn write_refused(alloc: Global, refused: Refused) -> Result<String, AllocError>
-    ensures text { IfOk result (λ text. string_bytes text ≡ refused_event_text refused) }
-    ensures plain { IfOk result (λ text. line_count (string_bytes text) ≡ 0) }
+/// Adds the values of the refusal of an event, and its place.
+pub(crate) fn put_refused_values(
+    alloc: Global,
+    text: &mut String,
+    refused: &Refused,
+) -> Result<(), AllocError>
+    ensures { OnOk result (string_bytes text.new ≡ string_bytes text.old ++ reason_values (Reason.Event refused.now)) }
 {
-    let place = refused.place;
-    let mut text = String::from_str(alloc, "refused ")?;
-    put_refusal(alloc, &mut text, &refused.refusal)?;
-    let word = format!(in alloc; " at {place}")?;
-    text.push_str(word.as_str())?;
-    Ok(text)
+    put_values(alloc, text, &refused.refusal)?;
+    put_numbered(text, " at ", refused.place)
 }
 
-/// What a list of events would change, made one after the other on the network of a version, without a line feed. The
-/// first event that is refused is told, with its place (own, after Q.704 clause 10).
+/// What a list of events would change, made one after the other on the network of a version. The first event that is refused is
+/// told, with its place (own, after Q.704 clause 10). It fails if memory is refused.
 pub fn answer_what_if(
     alloc: Global,
     version: &Version,
     events: &[Event],
-) -> Result<String, AllocError>
-    ensures text { IfOk result (λ text. string_bytes text ≡ what_if_text (report_of version.now.network events.now)) }
-    ensures plain { IfOk result (λ text. line_count (string_bytes text) ≡ 0) }
+) -> Result<Answer, AllocError>
+    ensures { IfOk result (λ answer. answer ≡ what_if_answer (report_of version.now.network events.now)) }
 {
     match what_if(alloc, version, events) {
-        Ok(report) => write_report(alloc, &report),
+        Ok(report) => Ok(Answer::Net(NetAnswer::WhatIf(report))),
         Err(refused) => {
             // No other refusal than out of memory has place 0.
             if refused.place == 0 {
                 return Err(AllocError);
             }
-            write_refused(alloc, refused)
+            Ok(Answer::Refused(Reason::Event(refused)))
         }
     }
 }

@@ -2,7 +2,8 @@
 use Rattle.std.proofs.Common.{◌≡◌, ◌≢◌, append_assoc, append-nil, ℕ, ◌+◌, ◌-◌, ◌^◌, ◌==◌, arith, inl, inr, false, List, [], ◌∷◌, ◌++◌, refl, sym, ap, subst, ◌∙◌, ne_eqb, Option, Some, None, Result, Ok, Err}
 use Rattle.std.specs.Prelude.{IfOk, OnOk, true}
 use Rattle.work_units.specs.declared.replies.Refusal.TheVariants.{EndOfNumbers}
-use Rattle.answers.specs.Replies.{refused_text}
+use Rattle.answers.specs.Replies.{posted_answer, refused}
+use Rattle.answers.specs.declared.answer.Answer.{Answer}
 use Rattle.desk_console.specs.Watch.{WatchValue}
 use Rattle.std.proofs.lemmas.Bool.Decides.{nat_tests}
 use Rattle.net_data.specs.declared.events.Event.{Event}
@@ -10,7 +11,6 @@ use Rattle.net_data.specs.Network.{Network}
 use Rattle.net_versions.specs.Versions.{VersionValue, settled_version}
 use Rattle.desk_core.specs.Desk.{DeskValue, accepted, new_desk}
 use Rattle.desk_core.specs.Steps.{last_of, Posts}
-use Rattle.answers.specs.Replies.{posted_text}
 use Rattle.desk_console.specs.Console.{ConsoleValue}
 use Rattle.desk_console.specs.Does.{Calls, PostsAfter, PostsNext, Tells}
 use Rattle.desk_console.specs.Watch.{unwatched}
@@ -59,18 +59,18 @@ pub opens_first : (net : Network) → StartsBeside net (first_beside net)
 opens_first net = record { seat = refl; desk = refl; shown = refl; seen = refl; synced = refl; watch = refl }
 
 -- a call at the hub that was found
-pub some_there : (seats : ℕ) {T F : Type 0} (r : Result T F) (text_of : T → List ℕ) (Done : ConsoleValue → List ℕ → ConsoleValue → Type 0) (old : BesideValue) (found : DeskAndChain) (new : BesideValue)
-    → IfOk r (λ t. DoesAt seats Done old found (text_of t) new) → IfOk r (λ t. DoesThere seats Done old (text_of t) new)
-some_there seats (Ok t) text_of Done old found new h = (found, h)
-some_there seats (Err e) text_of Done old found new h = tt
+pub some_there : (seats : ℕ) {F : Type 0} (r : Result Answer F) (Done : ConsoleValue → Answer → ConsoleValue → Type 0) (old : BesideValue) (found : DeskAndChain) (new : BesideValue)
+    → IfOk r (λ a. DoesAt seats Done old found a new) → IfOk r (λ a. DoesThere seats Done old a new)
+some_there seats (Ok a) Done old found new h = (found, h)
+some_there seats (Err e) Done old found new h = tt
 
 -- a collector's next post
-pub posted_next : (seats : ℕ) {T F : Type 0} (r : Result T F) (text_of : T → List ℕ) (collector : ℕ) (event : Event) (old : BesideValue) (found : DeskAndChain) (new : BesideValue) (last : ℕ)
+pub posted_next : (seats : ℕ) {F : Type 0} (r : Result Answer F) (collector : ℕ) (event : Event) (old : BesideValue) (found : DeskAndChain) (new : BesideValue) (last : ℕ)
     → last ≡ (last_of found.desk collector).seq → last ≢ 2 ^ 64 - 1
-    → IfOk r (λ t. DoesAt seats (Calls (λ s. Posts s collector (last + 1) event) posted_text) old found (text_of t) new) → IfOk r (λ t. DoesThere seats (PostsNext collector event) old (text_of t) new)
-posted_next seats (Ok t) text_of collector event old found new last e less h =
+    → IfOk r (λ a. DoesAt seats (Calls (λ s. Posts s collector (last + 1) event) posted_answer) old found a new) → IfOk r (λ a. DoesThere seats (PostsNext collector event) old a new)
+posted_next seats (Ok a) collector event old found new last e less h =
     let off : ((last_of found.desk collector).seq == 2 ^ 64 - 1) ≡ false = ne_eqb (last_of found.desk collector).seq (2 ^ 64 - 1) (λ same. less (e ∙ same)) in
-    let calls = subst (λ n. Calls (λ s. Posts s collector (n + 1) event) posted_text (at_console found.desk) (text_of t) (at_console new.left.desk)) e h.done in (
+    let calls = subst (λ n. Calls (λ s. Posts s collector (n + 1) event) posted_answer (at_console found.desk) a (at_console new.left.desk)) e h.done in (
       found,
       record {
         finds = h.finds;
@@ -78,10 +78,10 @@ posted_next seats (Ok t) text_of collector event old found new last e less h =
         shown = h.shown;
         told = h.told;
         kept = h.kept;
-        done = subst (λ b. PostsAfter b collector event (at_console found.desk) (text_of t) (at_console new.left.desk)) (sym off) calls;
+        done = subst (λ b. PostsAfter b collector event (at_console found.desk) a (at_console new.left.desk)) (sym off) calls;
       },
     )
-posted_next seats (Err e) text_of collector event old found new last is less h = tt
+posted_next seats (Err e) collector event old found new last is less h = tt
 
 -- chains that begin with one another
 pub begins_itself : (xs : List VersionValue) → IsPrefix xs xs
@@ -101,21 +101,21 @@ looks_later first old new version seat same begins is = record {
 }
 
 -- a run from a new hub
-pub ran_fresh : (net : Network) (pair : PairValue) (unread left held holds : Option (List ℕ)) (fault : Option Fault) (lines : ℕ) (back : Option Network) → IsFresh net pair → (seat : SeatValue DeskAndChain) → seat.saw ≡ sight 0 pair.state ∷ []
-    → Ran (CommandsBeside 1) (LeavesBeside 1) (Unit {0}) (newcomer seat pair.state) unread left held holds fault lines back → RanBeside net unread left held holds fault lines back
-ran_fresh net pair unread left held holds fault lines back fresh seat saw ran = record {
+pub ran_fresh : (Tells : Answer → List ℕ → Type 0) (net : Network) (pair : PairValue) (unread left held holds : Option (List ℕ)) (fault : Option Fault) (lines : ℕ) (back : Option Network) → IsFresh net pair → (seat : SeatValue DeskAndChain) → seat.saw ≡ sight 0 pair.state ∷ []
+    → Ran Tells (CommandsBeside 1) (LeavesBeside 1) (Unit {0}) (newcomer seat pair.state) unread left held holds fault lines back → RanBeside Tells net unread left held holds fault lines back
+ran_fresh Tells net pair unread left held holds fault lines back fresh seat saw ran = record {
   start = newcomer seat pair.state;
   opens = opens_fresh net pair _ fresh seat saw refl;
   ran = ran;
 }
 
 -- no hub could be made
-pub ran_unopened : (net : Network) (unread held : Option (List ℕ)) (fault : Option Fault) (lines : ℕ) (back : Option Network) → lines ≡ 0 → fault ≡ Some OutOfMemory → back ≡ None
-    → RanBeside net unread unread held held fault lines back
-ran_unopened net unread held fault lines back zero some none = record {
+pub ran_unopened : (Tells : Answer → List ℕ → Type 0) (net : Network) (unread held : Option (List ℕ)) (fault : Option Fault) (lines : ℕ) (back : Option Network) → lines ≡ 0 → fault ≡ Some OutOfMemory → back ≡ None
+    → RanBeside Tells net unread unread held held fault lines back
+ran_unopened Tells net unread held fault lines back zero some none = record {
   start = first_beside net;
   opens = opens_first net;
-  ran = ran_nothing (CommandsBeside 1) (LeavesBeside 1) (Unit {0}) (first_beside net) unread held OutOfMemory fault lines back tt zero some none;
+  ran = ran_nothing Tells (CommandsBeside 1) (LeavesBeside 1) (Unit {0}) (first_beside net) unread held OutOfMemory fault lines back tt zero some none;
 }
 
 -- what who comes finds
@@ -128,29 +128,29 @@ finds_by seats old found there left comes seen = record {
 }
 
 -- who came and changed nothing is told what it found
-pub visited : (seats : ℕ) (Done : ConsoleValue → List ℕ → ConsoleValue → Type 0) (old : BesideValue) (found : DeskAndChain) (text : List ℕ) (new : BesideValue)
-    → VisitsAt seats old found new → Done (at_console found.desk) text (at_console found.desk) → DoesAt seats Done old found text new
-visited seats Done old found text new is done = record {
+pub visited : (seats : ℕ) (Done : ConsoleValue → Answer → ConsoleValue → Type 0) (old : BesideValue) (found : DeskAndChain) (a : Answer) (new : BesideValue)
+    → VisitsAt seats old found new → Done (at_console found.desk) a (at_console found.desk) → DoesAt seats Done old found a new
+visited seats Done old found a new is done = record {
   finds = is.0;
   leaves = inl (ap (λ (b : BesideValue). b.seat) is.1, ap (λ (b : BesideValue). b.left) is.1);
   shown = ap (λ (b : BesideValue). b.left.shown) is.1;
   told = ap (λ (b : BesideValue). b.seen) is.1;
   kept = (ap (λ (b : BesideValue). b.synced) is.1, ap (λ (b : BesideValue). b.watch) is.1);
-  done = subst (λ (s : DeskAndChain). Done (at_console found.desk) text (at_console s.desk)) (sym (ap (λ (b : BesideValue). b.left) is.1)) done;
+  done = subst (λ (s : DeskAndChain). Done (at_console found.desk) a (at_console s.desk)) (sym (ap (λ (b : BesideValue). b.left) is.1)) done;
 }
 
 -- who came and posted
-pub posted : (seats : ℕ) (Done : ConsoleValue → List ℕ → ConsoleValue → Type 0) (old : BesideValue) (found left : DeskAndChain) (text : List ℕ) (new : BesideValue) → left_at old.seat.saw ≡ old.left
+pub posted : (seats : ℕ) (Done : ConsoleValue → Answer → ConsoleValue → Type 0) (old : BesideValue) (found left : DeskAndChain) (a : Answer) (new : BesideValue) → left_at old.seat.saw ≡ old.left
     → ComesAndDoes seats old.seat found left new.seat → new.left ≡ left_at new.seat.saw → IsPrefix old.seen found.shown.chain → left.shown ≡ found.shown → new.seen ≡ found.shown.chain → KeepsSynced old new
-    → Done (at_console found.desk) text (at_console left.desk) → DoesAt seats Done old found text new
-posted seats Done old found left text new at came there seen shown told kept done =
+    → Done (at_console found.desk) a (at_console left.desk) → DoesAt seats Done old found a new
+posted seats Done old found left a new at came there seen shown told kept done =
     let last : new.left ≡ left = there ∙ did_last seats old.seat found left new.seat came in record {
       finds = finds_by seats old found came.0 at came.1 seen;
       leaves = inr (came.2 ∙ ap (leaving came.0) (sym last));
       shown = ap (λ (s : DeskAndChain). s.shown) last ∙ shown;
       told = told;
       kept = kept;
-      done = subst (λ (s : DeskAndChain). Done (at_console found.desk) text (at_console s.desk)) (sym last) done;
+      done = subst (λ (s : DeskAndChain). Done (at_console found.desk) a (at_console s.desk)) (sym last) done;
     }
 
 -- so many events are accepted at the hub that was found, or left
@@ -192,10 +192,10 @@ each_ok (Ok t) P Q f h = f t h
 each_ok (Err e) P Q f h = tt
 
 -- a collector has no next post
-pub refused_next : (seats : ℕ) {T F : Type 0} (r : Result T F) (text_of : T → List ℕ) (collector : ℕ) (event : Event) (old : BesideValue) (found : DeskAndChain) (new : BesideValue) (last : ℕ)
+pub refused_next : (seats : ℕ) {F : Type 0} (r : Result Answer F) (collector : ℕ) (event : Event) (old : BesideValue) (found : DeskAndChain) (new : BesideValue) (last : ℕ)
     → last ≡ (last_of found.desk collector).seq → last ≡ 2 ^ 64 - 1
-    → IfOk r (λ t. DoesAt seats (Tells (refused_text EndOfNumbers)) old found (text_of t) new) → IfOk r (λ t. DoesThere seats (PostsNext collector event) old (text_of t) new)
-refused_next seats (Ok t) text_of collector event old found new last e full h =
+    → IfOk r (λ a. DoesAt seats (Tells (refused EndOfNumbers)) old found a new) → IfOk r (λ a. DoesThere seats (PostsNext collector event) old a new)
+refused_next seats (Ok a) collector event old found new last e full h =
     let on : ((last_of found.desk collector).seq == 2 ^ 64 - 1) ≡ true = eqb_same (last_of found.desk collector).seq (2 ^ 64 - 1) (sym e ∙ full) in (
       found,
       record {
@@ -204,10 +204,10 @@ refused_next seats (Ok t) text_of collector event old found new last e full h =
         shown = h.shown;
         told = h.told;
         kept = h.kept;
-        done = subst (λ b. PostsAfter b collector event (at_console found.desk) (text_of t) (at_console new.left.desk)) (sym on) h.done;
+        done = subst (λ b. PostsAfter b collector event (at_console found.desk) a (at_console new.left.desk)) (sym on) h.done;
       },
     )
   where
     eqb_same : (a b : ℕ) → a ≡ b → (a == b) ≡ true
     eqb_same a b same = grind (arith, nat_tests)
-refused_next seats (Err e) text_of collector event old found new last is full h = tt
+refused_next seats (Err e) collector event old found new last is full h = tt

@@ -1,6 +1,5 @@
 -- At each line of a script beside workers all versions are the ones of their numbers.
-use Rattle.std.proofs.Common.{◌≡◌, ℕ, ◌+◌, Bool, true, false, List, [], ◌∷◌, ◌++◌, Option, Some, None, map, refl, sym, ap, ◌∙◌, subst, append-nil}
-use Rattle.std.specs.Prelude.{if◌then◌else◌}
+use Rattle.std.proofs.Common.{◌≡◌, ℕ, ◌+◌, Bool, true, false, List, [], ◌∷◌, ◌++◌, Option, Some, None, map, refl, sym, ap, ◌∙◌, subst, append-nil, arith}
 use Rattle.std.specs.Option.{option_map_or}
 use mathlib.Core.List.{IsPrefix}
 use Rattle.net_data.specs.declared.events.Event.{Event}
@@ -15,15 +14,16 @@ use Rattle.desk_core.specs.Desk.{DeskValue, new_desk}
 use Rattle.desk_core.specs.Steps.{Posts, last_of}
 use Rattle.desk_core.specs.Runs.{IsRightVersion, IsRunOf, IsSteadyDesk, first_numbers, numbers_after}
 use Rattle.desk_core.proofs.RunLemmas.{right_after, run_none}
-use Rattle.answers.specs.Replies.{posted_text}
+use Rattle.answers.specs.Replies.{posted_answer}
+use Rattle.answers.specs.declared.answer.Answer.{Answer}
 use Rattle.desk_console.specs.Commands.{Obeys}
 use Rattle.desk_console.specs.Console.{ConsoleValue}
 use Rattle.desk_console.specs.Does.{Calls, PostsAfter}
 use Rattle.desk_console.specs.Right.{IsRightDesk}
-use Rattle.desk_console.specs.Taken.{event_of, says_taken, taken_by}
-use Rattle.desk_console.proofs.RunLemmas.{line_runs}
+use Rattle.desk_console.specs.Taken.{event_of, taken_at, taken_by}
+use Rattle.desk_console.proofs.RunLemmas.{line_runs, nothing_taken}
 use Rattle.sessions.specs.Lines.{is_silent, is_too_long, trimmed}
-use Rattle.sessions.specs.Replies.{Answered, IsReply as IsAnswer, Replies}
+use Rattle.sessions.specs.Replies.{Answered, Answers, AreTexts, IsReply, Replies}
 use Rattle.seats.specs.Minutes.{SeatValue}
 use Rattle.versions.specs.Working.{Comes, IsWorkedOn}
 use Rattle.versions.specs.declared.state.DeskAndChain.{DeskAndChain}
@@ -32,7 +32,7 @@ use Rattle.histories.specs.Right.{AreRight}
 use Rattle.histories.proofs.CountLemmas.{post_publishes_none, prefix_right}
 use Rattle.histories.proofs.KeepLemmas.{Keeps, ends_same, keeps_opened, keeps_stay, keeps_worked, new_is_steady}
 use Rattle.beside.proofs.BesideLemmas.{prefix_then}
-use Rattle.beside.specs.Right.{AreRightMoments, IsRightBeside, IsRightScript, Moment, texts}
+use Rattle.beside.specs.Right.{AreRightMoments, IsRightBeside, IsRightScript, Moment, told_in}
 
 -- ---- a line
 
@@ -67,46 +67,37 @@ stays_same : (old : BesideValue) (taken : List Event) (new : BesideValue) → ta
 stays_same old taken new none same = stays none (ap (λ (b : BesideValue). b.seat) same) (ap (λ (b : BesideValue). b.left) same) (ap (λ (b : BesideValue). b.seen) same)
 
 -- posts publish nothing
-calls_publish_none : (s t : DeskValue) (collector seq : ℕ) (event : Event) (text : List ℕ) → Calls (λ s. Posts s collector seq event) posted_text (at_console s) text (at_console t) → t.published ≡ s.published
-calls_publish_none s t collector seq event text is = post_publishes_none s collector seq event is.0 t is.1
+calls_publish_none : (s t : DeskValue) (collector seq : ℕ) (event : Event) (a : Answer) → Calls (λ s. Posts s collector seq event) posted_answer (at_console s) a (at_console t) → t.published ≡ s.published
+calls_publish_none s t collector seq event a is = post_publishes_none s collector seq event is.0 t is.1
 
-posts_publish_none : (s t : DeskValue) (collector : ℕ) (event : Event) (text : List ℕ) (b : Bool) → PostsAfter b collector event (at_console s) text (at_console t) → t.published ≡ s.published
-posts_publish_none s t collector event text true is = ap (λ (c : ConsoleValue). c.desk.published) is.1
-posts_publish_none s t collector event text false is = calls_publish_none s t collector ((last_of s collector).seq + 1) event text is
+posts_publish_none : (s t : DeskValue) (collector : ℕ) (event : Event) (a : Answer) (b : Bool) → PostsAfter b collector event (at_console s) a (at_console t) → t.published ≡ s.published
+posts_publish_none s t collector event a true is = ap (λ (c : ConsoleValue). c.desk.published) is.1
+posts_publish_none s t collector event a false is = calls_publish_none s t collector ((last_of s collector).seq + 1) event a is
 
-abbrev no_events : List Event
-no_events = []
-
-pub nothing_taken : (b : Bool) → (if b then no_events else no_events) ≡ no_events
-nothing_taken true = refl
-nothing_taken false = refl
-
-module _ (line : List ℕ) (old : BesideValue) (text : List ℕ) (new : BesideValue) where
+module _ (line : List ℕ) (old : BesideValue) (a : Answer) (new : BesideValue) where
   -- a command that posts nothing is taken for no event
-  none_taken : (o : Option Command) → command_of (words_of line) ≡ o → option_map_or event_of o [] ≡ [] → taken_by line text ≡ []
-  none_taken o is none =
-      ap (λ (c : Option Command). if says_taken text then option_map_or event_of c [] else []) is
-      ∙ ap (λ (es : List Event). if says_taken text then es else []) none ∙ nothing_taken (says_taken text)
+  none_taken : (o : Option Command) → command_of (words_of line) ≡ o → option_map_or event_of o [] ≡ [] → taken_by line a ≡ []
+  none_taken o is none = nothing_taken line a (ap (λ (c : Option Command). option_map_or event_of c []) is ∙ none)
 
   -- a command that is done under the lock
-  done_there : (o : Option Command) → command_of (words_of line) ≡ o → (found : DeskAndChain) → DoesAt 1 (Obeys (other_answer (words_of line)) o) old found text new → new.left.desk.published ≡ found.desk.published → Moves old (taken_by line text) new
+  done_there : (o : Option Command) → command_of (words_of line) ≡ o → (found : DeskAndChain) → DoesAt 1 (Obeys (other_answer (words_of line)) o) old found a new → new.left.desk.published ≡ found.desk.published → Moves old (taken_by line a) new
   done_there o is found does published = acts found (record {
     finds = does.finds;
     shown = does.shown;
     told = does.told;
     published = published;
-    runs = line_runs line (at_console found.desk) text (at_console new.left.desk) (subst (λ (c : Option Command). Obeys (other_answer (words_of line)) c (at_console found.desk) text (at_console new.left.desk)) (sym is) does.done);
+    runs = line_runs line (at_console found.desk) a (at_console new.left.desk) (subst (λ (c : Option Command). Obeys (other_answer (words_of line)) c (at_console found.desk) a (at_console new.left.desk)) (sym is) does.done);
   })
 
-  obeyed : (o : Option Command) → command_of (words_of line) ≡ o → ObeysBeside 1 (other_answer (words_of line)) o old text new → Moves old (taken_by line text) new
-  obeyed None e is = stays_same old (taken_by line text) new (none_taken None e refl) is.1
-  obeyed (Some (command.Event event)) e is = done_there (Some (command.Event event)) e is.0 is.1 (posts_publish_none is.0.desk new.left.desk 0 event text _ is.1.done)
-  obeyed (Some (command.Post collector seq event)) e is = done_there (Some (command.Post collector seq event)) e is.0 is.1 (calls_publish_none is.0.desk new.left.desk collector seq event text is.1.done)
-  obeyed (Some command.Open) e is = stays_same old (taken_by line text) new (none_taken (Some command.Open) e refl) is.1
-  obeyed (Some (command.Take k)) e is = stays_same old (taken_by line text) new (none_taken (Some (command.Take k)) e refl) is.1
-  obeyed (Some (command.Give k)) e is = stays_same old (taken_by line text) new (none_taken (Some (command.Give k)) e refl) is.1
-  obeyed (Some (command.Abandon k)) e is = stays_same old (taken_by line text) new (none_taken (Some (command.Abandon k)) e refl) is.1
-  obeyed (Some command.Publish) e is = stays_same old (taken_by line text) new (none_taken (Some command.Publish) e refl) is.1
+  obeyed : (o : Option Command) → command_of (words_of line) ≡ o → ObeysBeside 1 (other_answer (words_of line)) o old a new → Moves old (taken_by line a) new
+  obeyed None e is = stays_same old (taken_by line a) new (none_taken None e refl) is.1
+  obeyed (Some (command.Event event)) e is = done_there (Some (command.Event event)) e is.0 is.1 (posts_publish_none is.0.desk new.left.desk 0 event a _ is.1.done)
+  obeyed (Some (command.Post collector seq event)) e is = done_there (Some (command.Post collector seq event)) e is.0 is.1 (calls_publish_none is.0.desk new.left.desk collector seq event a is.1.done)
+  obeyed (Some command.Open) e is = stays_same old (taken_by line a) new (none_taken (Some command.Open) e refl) is.1
+  obeyed (Some (command.Take k)) e is = stays_same old (taken_by line a) new (none_taken (Some (command.Take k)) e refl) is.1
+  obeyed (Some (command.Give k)) e is = stays_same old (taken_by line a) new (none_taken (Some (command.Give k)) e refl) is.1
+  obeyed (Some (command.Abandon k)) e is = stays_same old (taken_by line a) new (none_taken (Some (command.Abandon k)) e refl) is.1
+  obeyed (Some command.Publish) e is = stays_same old (taken_by line a) new (none_taken (Some command.Publish) e refl) is.1
   obeyed (Some command.Sync) e is =
       comes_and_looks is.there is.visits.0 is.syncs.0 (none_taken (Some command.Sync) e refl) (visit_acts old is.visits.0 is.there is.visits.1) is.syncs.1
   obeyed (Some command.Version) e is = done_there (Some command.Version) e is.0 is.1 (ap (λ (c : ConsoleValue). c.desk.published) is.1.done.1)
@@ -115,31 +106,18 @@ module _ (line : List ℕ) (old : BesideValue) (text : List ℕ) (new : BesideVa
   obeyed (Some (command.WhatIf events)) e is = looks is.0 (none_taken (Some (command.WhatIf events)) e refl) is.1
   obeyed (Some command.Audit) e is = looks is.0 (none_taken (Some command.Audit) e refl) is.1
   obeyed (Some (command.Picture file about)) e is = looks is.0 (none_taken (Some (command.Picture file about)) e refl) is.1
-  obeyed (Some command.Changes) e is = stays_same old (taken_by line text) new (none_taken (Some command.Changes) e refl) is.1
+  obeyed (Some command.Changes) e is = stays_same old (taken_by line a) new (none_taken (Some command.Changes) e refl) is.1
   obeyed (Some (command.Watch is_on)) e is =
       stays (none_taken (Some (command.Watch is_on)) e refl) (ap (λ (b : BesideValue). b.seat) is.1) (ap (λ (b : BesideValue). b.left) is.1) (ap (λ (b : BesideValue). b.seen) is.1)
 
--- a line feed more doesn't matter
-says_ended : (answer : List ℕ) → says_taken answer ≡ says_taken (answer ++ 10 ∷ [])
-says_ended [] = refl
-says_ended (a ∷ []) = refl
-says_ended (a ∷ b ∷ []) = refl
-says_ended (a ∷ b ∷ c ∷ []) = refl
-says_ended (a ∷ b ∷ c ∷ d ∷ []) = refl
-says_ended (a ∷ b ∷ c ∷ d ∷ e ∷ []) = refl
-says_ended (a ∷ b ∷ c ∷ d ∷ e ∷ f ∷ rest) = refl
-
-pub taken_ended : (line answer : List ℕ) → taken_by line answer ≡ taken_by line (answer ++ 10 ∷ [])
-taken_ended line answer = ap (λ (b : Bool). if b then option_map_or event_of (command_of (words_of line)) [] else []) (says_ended answer)
-
-pub line_moves : (line : List ℕ) (old : BesideValue) (text : List ℕ) (new : BesideValue) → Replies (CommandsBeside 1) line old text new → Moves old (taken_by (trimmed line) text) new
-line_moves line old text new = go (is_too_long (trimmed line)) (is_silent (trimmed line))
+pub line_moves : (line : List ℕ) (old : BesideValue) (told : Option Answer) (new : BesideValue) → Replies (CommandsBeside 1) line old told new → Moves old (taken_at (trimmed line) told) new
+line_moves line old told new = go (is_too_long (trimmed line)) (is_silent (trimmed line))
   where
-    go : (long quiet : Bool) → IsAnswer (CommandsBeside 1) long quiet (trimmed line) old text new → Moves old (taken_by (trimmed line) text) new
-    go true quiet is = stays_same old (taken_by (trimmed line) text) new (ap (taken_by (trimmed line)) is.0) is.1
-    go false true is = stays_same old (taken_by (trimmed line) text) new (ap (taken_by (trimmed line)) is.0) is.1
+    go : (long quiet : Bool) → IsReply (CommandsBeside 1) long quiet (trimmed line) old told new → Moves old (taken_at (trimmed line) told) new
+    go true quiet is = stays_same old (taken_at (trimmed line) told) new (ap (taken_at (trimmed line)) is.0) is.1
+    go false true is = stays_same old (taken_at (trimmed line) told) new (ap (taken_at (trimmed line)) is.0) is.1
     go false false is =
-        subst (λ (es : List Event). Moves old es new) (taken_ended (trimmed line) is.0 ∙ ap (taken_by (trimmed line)) (sym is.2))
+        subst (λ (es : List Event). Moves old es new) (ap (taken_at (trimmed line)) (sym is.2))
         (obeyed (trimmed line) old is.0 new (command_of (words_of (trimmed line))) refl is.1)
 
 -- ---- what is found later
@@ -172,10 +150,10 @@ later_before old taken new (looks version none is) later = (
 later_before old taken new (comes_and_looks there found version none comes is) later = (found, comes.finds)
 
 -- before all lines that are still answered
-pub finds_later : (old : BesideValue) (lines : List (List ℕ)) (text : List ℕ) (new : BesideValue) → Answered (CommandsBeside 1) old lines text new → Later new → Later old
-finds_later old [] text new is later = subst Later is.1 later
-finds_later old (line ∷ lines) text new is later =
-    later_before old (taken_by (trimmed line) is.0) is.1 (line_moves line old is.0 is.1 is.3) (finds_later is.1 lines is.2 new is.4 later)
+pub finds_later : (old : BesideValue) (lines : List (List ℕ)) (told : List (Option Answer)) (new : BesideValue) → Answers (CommandsBeside 1) old lines told new → Later new → Later old
+finds_later old [] told new is later = subst Later is.1 later
+finds_later old (line ∷ lines) told new is later =
+    later_before old (taken_at (trimmed line) is.0) is.1 (line_moves line old is.0 is.1 is.3) (finds_later is.1 lines is.2 new is.4 later)
 
 -- ---- all lines
 
@@ -225,39 +203,39 @@ module _ (start : Network) where
   }
 
   -- lines that were answered make moments
-  record Made (es : List Event) (b : BesideValue) (lines : List (List ℕ)) (text : List ℕ) : Type 0 where
+  record Made (es : List Event) (b : BesideValue) (lines : List (List ℕ)) (told : List (Option Answer)) : Type 0 where
     moments : List Moment
     asked : lines ≡ map (λ (m : Moment). m.line) moments
-    told : text ≡ texts moments
+    are_told : told ≡ told_in moments
     each : AreRightMoments start es b moments
 
-  made : (es : List Event) (b : BesideValue) → Keeps (new_desk start) es b.left → (lines : List (List ℕ)) (text : List ℕ) (new : BesideValue) → Answered (CommandsBeside 1) b lines text new → Later new → Made es b lines text
-  made es b h [] text new is later = record { moments = []; asked = refl; told = is.0; each = tt }
-  made es b h (line ∷ lines) text new is later =
-      let taken : List Event = taken_by (trimmed line) is.0 in
+  made : (es : List Event) (b : BesideValue) → Keeps (new_desk start) es b.left → (lines : List (List ℕ)) (told : List (Option Answer)) (new : BesideValue) → Answers (CommandsBeside 1) b lines told new → Later new → Made es b lines told
+  made es b h [] told new is later = record { moments = []; asked = refl; are_told = is.0; each = tt }
+  made es b h (line ∷ lines) told new is later =
+      let taken : List Event = taken_at (trimmed line) is.0 in
       let after : Keeps (new_desk start) (es ++ taken) is.1.left = keeps_moved (new_desk start) (new_is_steady start) es b taken is.1 h (line_moves line b is.0 is.1 is.3) in
       let right : IsRightBeside start (es ++ taken) is.1 = right_beside (es ++ taken) is.1 after (finds_later is.1 lines is.2 new is.4 later) in
       let rest : Made (es ++ taken) is.1 lines is.2 = made (es ++ taken) is.1 after lines is.2 new is.4 later in
       record {
-        moments = record { line = line; text = is.0; after = is.1 } ∷ rest.moments;
+        moments = record { line = line; told = is.0; after = is.1 } ∷ rest.moments;
         asked = ap (λ (ls : List (List ℕ)). line ∷ ls) rest.asked;
-        told = is.5 ∙ ap (λ (t : List ℕ). is.0 ++ t) rest.told;
+        are_told = is.5 ∙ ap (λ (t : List (Option Answer)). is.0 ∷ t) rest.are_told;
         each = (is.3, right, rest.each);
       }
 
 -- a script that was answered to its end
-pub script_right : (start : Network) (b : BesideValue) (lines : List (List ℕ)) (text : List ℕ) (after : BesideValue) (left : Network)
-    → StartsBeside start b → Answered (CommandsBeside 1) b lines text after → LeavesBeside 1 after left → IsRightScript start lines text
-script_right start b lines text after left opens answered leaves =
+pub script_right : (Tells : Answer → List ℕ → Type 0) (start : Network) (b : BesideValue) (lines : List (List ℕ)) (text : List ℕ) (after : BesideValue) (left : Network)
+    → StartsBeside start b → Answered Tells (CommandsBeside 1) b lines text after → LeavesBeside 1 after left → IsRightScript Tells start lines text
+script_right Tells start b lines text after left opens answered leaves =
     let later : Later after = (leaves.0, leaves.1) in
     let first : Keeps (new_desk start) [] b.left = keeps_first start b opens in
-    let m : Made start [] b lines text = made start [] b first lines text after answered later in
+    let m : Made start [] b lines answered.0 = made start [] b first lines answered.0 after answered.1 later in
     record {
       opening = b;
       opens = opens;
       moments = m.moments;
       asked = m.asked;
-      told = m.told;
-      first = right_beside start [] b first (finds_later b lines text after answered later);
+      told = subst (λ (t : List (Option Answer)). AreTexts Tells t text) m.are_told answered.2;
+      first = right_beside start [] b first (finds_later b lines answered.0 after answered.1 later);
       each = m.each;
     }

@@ -18,20 +18,25 @@ use Rattle.desk_core.specs.Desk.{DeskValue, accepted, net_now, new_desk}
 use Rattle.desk_core.specs.Steps.{Posts, last_of}
 use Rattle.desk_core.specs.Runs.{IsSteadyDesk}
 use Rattle.desk_core.proofs.ReplayLemmas.{replay-append}
-use Rattle.answers.specs.Audits.{audit_right}
-use Rattle.answers.specs.Changes.{changes_text}
-use Rattle.answers.specs.Replies.{posted_text, synced_text, version_text}
+use Rattle.answers.specs.Audits.{audit_answer}
+use Rattle.answers.specs.Changes.{changes_answer, changes_since}
+use Rattle.answers.specs.Replies.{posted_answer}
 use Rattle.answers.specs.Rows.{answer_about}
 use Rattle.answers.specs.Traces.{trace_answer}
-use Rattle.answers.specs.WhatIfs.{what_if_text}
+use Rattle.answers.specs.WhatIfs.{what_if_answer}
+use Rattle.answers.specs.declared.answer.Answer.{Answer}
+use Rattle.answers.specs.declared.answer.Answer.TheVariants as answer
+use Rattle.answers.specs.declared.answer.Publication.TheVariants as publication
+use Rattle.answers.specs.declared.answer.Reply.TheVariants as reply
+use Rattle.what_if.specs.declared.changes.Change.{Change}
 use Rattle.desk_console.specs.Pictures.{picture_told}
 use Rattle.desk_console.specs.Commands.{Commands, Obeys}
 use Rattle.desk_console.specs.Console.{ConsoleValue, opening}
 use Rattle.desk_console.specs.Does.{Calls, Does, PostsAfter, Syncs, Watches}
-use Rattle.desk_console.specs.Watch.{WatchValue, changes_told, reply_watched, watched}
+use Rattle.desk_console.specs.Watch.{WatchValue, changes_told, notice, watched}
 use Rattle.desk_console.specs.Syncing.{HasKept, synced}
 use Rattle.sessions.specs.Lines.{is_silent, is_too_long, trimmed}
-use Rattle.sessions.specs.Replies.{Answered, IsReply as IsAnswer, Replies}
+use Rattle.sessions.specs.Replies.{Answered, Answers, AreTexts, IsReply, Replies}
 use Rattle.versions.specs.Chains.{ChainPrefixValue, EndsWith}
 use Rattle.versions.specs.Worked.{LosesNothing}
 use Rattle.versions.specs.declared.state.DeskAndChain.{DeskAndChain}
@@ -39,7 +44,7 @@ use Rattle.versions.proofs.WorkedLemmas.{worked_keeps}
 use Rattle.beside.specs.Beside.{BesideValue, CommandsBeside, DoesAt, Finds, KeepsSynced, LeavesBeside, Looks, ObeysBeside, StartsBeside, SyncsThere, VisitsAt, WatchesBeside, at_console}
 use Rattle.histories.specs.Right.{AreRight, IsRightAt}
 use Rattle.beside.specs.Synced.{IsSynced, MayCome, command_in, events_after, said_by}
-use Rattle.desk_console.specs.Taken.{taken_by}
+use Rattle.desk_console.specs.Taken.{taken_at}
 use Rattle.histories.proofs.CountLemmas.{Counts, last_right, post_publishes_none, run_counts}
 use Rattle.histories.proofs.KeepLemmas.{Keeps, keeps_worked, new_is_steady}
 use Rattle.beside.proofs.BesideLemmas.{visited}
@@ -56,8 +61,8 @@ IsShown b c = (b.synced.number ≡ c.desk.published.number) × (b.synced.network
 abbrev watch_by : WatchValue → ℕ → Network → ℕ → WatchValue
 watch_by w m old n = if not (n == m) then record w { before = Some old } else w
 
-abbrev reply_by : List ℕ → WatchValue → ℕ → Network → ℕ → Network → List ℕ
-reply_by reply w m old n new = if w.is_on && not (n == m) then reply ++ 10 ∷ 42 ∷ changes_text (watch_by w m old n).before n new else reply
+abbrev notice_by : WatchValue → ℕ → Network → ℕ → Network → Option (List Change)
+notice_by w m old n new = if w.is_on && not (n == m) then Some (changes_since (watch_by w m old n).before new) else None
 
 module _ (w x : WatchValue) (old other new next : VersionValue) where
   watch_same : w ≡ x → old.number ≡ other.number → old.network ≡ other.network → new.number ≡ next.number → watched w old new ≡ watched x other next
@@ -65,17 +70,16 @@ module _ (w x : WatchValue) (old other new next : VersionValue) where
       ap (λ (q : WatchValue). watch_by q old.number old.network new.number) same ∙ ap (λ (k : ℕ). watch_by x k old.network new.number) number
       ∙ ap (λ (net : Network). watch_by x other.number net new.number) network ∙ ap (watch_by x other.number other.network) later
 
-  reply_same : (reply : List ℕ) → w ≡ x → old.number ≡ other.number → old.network ≡ other.network → new.number ≡ next.number → new.network ≡ next.network
-      → reply_watched w old new reply ≡ reply_watched x other next reply
-  reply_same reply same number network later left =
-      ap (λ (q : WatchValue). reply_by reply q old.number old.network new.number new.network) same ∙ ap (λ (k : ℕ). reply_by reply x k old.network new.number new.network) number
-      ∙ ap (λ (net : Network). reply_by reply x other.number net new.number new.network) network ∙ ap (λ (k : ℕ). reply_by reply x other.number other.network k new.network) later
-      ∙ ap (reply_by reply x other.number other.network next.number) left
+  notice_same : w ≡ x → old.number ≡ other.number → old.network ≡ other.network → new.number ≡ next.number → new.network ≡ next.network → notice w old new ≡ notice x other next
+  notice_same same number network later left =
+      ap (λ (q : WatchValue). notice_by q old.number old.network new.number new.network) same ∙ ap (λ (k : ℕ). notice_by x k old.network new.number new.network) number
+      ∙ ap (λ (net : Network). notice_by x other.number net new.number new.network) network ∙ ap (λ (k : ℕ). notice_by x other.number other.network k new.network) later
+      ∙ ap (notice_by x other.number other.network next.number) left
 
 told_alike : (w x : WatchValue) (old other : VersionValue) → w ≡ x → old.number ≡ other.number → old.network ≡ other.network → changes_told w old ≡ changes_told x other
 told_alike w x old other same number network =
-    ap (λ (q : WatchValue). changes_text q.before old.number old.network) same ∙ ap (λ (k : ℕ). changes_text x.before k old.network) number
-    ∙ ap (changes_text x.before other.number) network
+    ap (λ (q : WatchValue). changes_answer q.before old.number old.network) same ∙ ap (λ (k : ℕ). changes_answer x.before k old.network) number
+    ∙ ap (changes_answer x.before other.number) network
 
 shown_still : (b new : BesideValue) (c end : ConsoleValue) → IsShown b c → KeepsSynced b new → end.desk.published ≡ c.desk.published → end.watch ≡ c.watch → IsShown new end
 shown_still b new c end shown kept published watch = (
@@ -113,9 +117,9 @@ first_same start b opens =
     }
 
 -- after something was done under the lock
-there_same : (start : DeskValue) (es : List Event) (n : ℕ) (Done : ConsoleValue → List ℕ → ConsoleValue → Type 0) (old : BesideValue) (found : DeskAndChain) (text : List ℕ) (new : BesideValue) (end : ConsoleValue)
-    → DoesAt 1 Done old found text new → Keeps start es new.left → Alike n new.left.desk end.desk → end.desk.target ≡ None → IsShown new end → Same n new end
-there_same start es n Done old found text new end is kept alike aim shown =
+there_same : (start : DeskValue) (es : List Event) (n : ℕ) (Done : ConsoleValue → Answer → ConsoleValue → Type 0) (old : BesideValue) (found : DeskAndChain) (a : Answer) (new : BesideValue) (end : ConsoleValue)
+    → DoesAt 1 Done old found a new → Keeps start es new.left → Alike n new.left.desk end.desk → end.desk.target ≡ None → IsShown new end → Same n new end
+there_same start es n Done old found a new end is kept alike aim shown =
     let few = alike.few in
     record {
       count = alike.count;
@@ -195,12 +199,13 @@ module _ (start : DeskValue) (steady : IsSteadyDesk start) (es : List Event) (n 
   visited_same found there kept is =
       let alike : Alike n found.desk c.desk = found_alike found is.0 in
       let left : there.left.desk ≡ found.desk = ap (λ (x : BesideValue). x.left.desk) is.1 in
-      let does : DoesAt 1 (λ old text new. Unit {0}) b found [] there = visited 1 (λ old text new. Unit {0}) b found [] there is tt in
-      there_same start es n (λ old text new. Unit {0}) b found [] there c does kept (same_alike n found.desk c.desk there.left.desk c.desk alike left refl) same.aim
+      let none : Answer = answer.Help [] in
+      let does : DoesAt 1 (λ old a new. Unit {0}) b found none there = visited 1 (λ old a new. Unit {0}) b found none there is tt in
+      there_same start es n (λ old a new. Unit {0}) b found none there c does kept (same_alike n found.desk c.desk there.left.desk c.desk alike left refl) same.aim
       (shown_still b there c c same.shown does.kept refl refl)
 
   -- after a `sync` where who came left the hub
-  synced_same : (x y : List ℕ) (new : BesideValue) (end : ConsoleValue) → Later new → SyncsThere b x new → Syncs c y end → (x ≡ y) × Same 0 new end
+  synced_same : (x y : Answer) (new : BesideValue) (end : ConsoleValue) → Later new → SyncsThere b x new → Syncs c y end → (x ≡ y) × Same 0 new end
   synced_same x y new end later is at =
       let v : VersionValue = is.0 in
       let within : v.number ≤ accepted b.left.desk = look_within v new is.1 later in
@@ -217,8 +222,9 @@ module _ (start : DeskValue) (steady : IsSteadyDesk start) (es : List Event) (n 
         ap (λ (w : VersionValue). w.network) is.4 ∙ network ∙ ap (λ (s : DeskValue). s.published.network) (sym desk),
         is.5 ∙ watch_same b.watch c.watch b.synced c.desk.published v (synced c.desk).published same.shown.2 same.shown.0 same.shown.1 published ∙ sym (ap (λ (d : ConsoleValue). d.watch) at.1),
       ) in (
-        is.3 ∙ ap (λ (k : ℕ). reply_watched b.watch b.synced v (synced_text k)) number
-            ∙ reply_same b.watch c.watch b.synced c.desk.published v (synced c.desk).published (synced_text (accepted c.desk)) same.shown.2 same.shown.0 same.shown.1 published network ∙ sym at.0,
+        is.3 ∙ ap (λ (k : ℕ). answer.Publication (publication.Synced k (notice b.watch b.synced v))) number
+            ∙ ap (λ (changes : Option (List Change)). answer.Publication (publication.Synced (accepted c.desk) changes))
+            (notice_same b.watch c.watch b.synced c.desk.published v (synced c.desk).published same.shown.2 same.shown.0 same.shown.1 published network) ∙ sym at.0,
         looked_same 0 v new end is.1 after.kept after.none after.aim (omega arith) shown,
       )
 
@@ -226,17 +232,17 @@ module _ (start : DeskValue) (steady : IsSteadyDesk start) (es : List Event) (n 
 
 module _ (start : DeskValue) (steady : IsSteadyDesk start) (es more : List Event) (n : ℕ) (b new : BesideValue) (c end : ConsoleValue) (same : Same n b c) (keeps : Keeps start es b.left) (kept : Keeps start more new.left) (later : Later new) where
   -- a line that changes nothing
-  told_same : (told x y : List ℕ) → (x ≡ told) × (new ≡ b) → (y ≡ told) × (end ≡ c) → (x ≡ y) × Same n new end
+  told_same : {T : Type 0} (told x y : T) → (x ≡ told) × (new ≡ b) → (y ≡ told) × (end ≡ c) → (x ≡ y) × Same n new end
   told_same told x y is at = (is.0 ∙ sym at.0, still_same n b new c end same is.1 at.1)
 
-  module _ (x y : List ℕ) where
+  module _ (x y : Answer) where
     -- a post
-    calls_same : (Done : ConsoleValue → List ℕ → ConsoleValue → Type 0) (found : DeskAndChain) (collector seq : ℕ) (event : Event) → n < 65536 → DoesAt 1 Done b found x new
-        → Calls (λ s. Posts s collector seq event) posted_text (at_console found.desk) x (at_console new.left.desk) → Calls (λ s. Posts s collector seq event) posted_text c y end → (x ≡ y) × Same (n + 1) new end
+    calls_same : (Done : ConsoleValue → Answer → ConsoleValue → Type 0) (found : DeskAndChain) (collector seq : ℕ) (event : Event) → n < 65536 → DoesAt 1 Done b found x new
+        → Calls (λ s. Posts s collector seq event) posted_answer (at_console found.desk) x (at_console new.left.desk) → Calls (λ s. Posts s collector seq event) posted_answer c y end → (x ≡ y) × Same (n + 1) new end
     calls_same Done found collector seq event small does is at =
         let alike : Alike n found.desk c.desk = found_alike start steady es n b c same keeps found does.finds in
         let both : (is.0 ≡ at.0) × Alike (n + 1) new.left.desk end.desk = posts_same n found.desk c.desk alike small collector seq event is.0 at.0 new.left.desk end.desk is.2 at.2 is.1 at.1 in (
-          is.3 ∙ ap posted_text both.0 ∙ sym at.3,
+          is.3 ∙ ap posted_answer both.0 ∙ sym at.3,
           there_same start more (n + 1) Done b found x new end does kept both.1 (post_aims c.desk collector seq event at.0 end.desk at.1 ∙ same.aim)
               (shown_still b new c end same.shown does.kept (post_publishes_none c.desk collector seq event at.0 end.desk at.1) at.5),
         )
@@ -263,7 +269,7 @@ module _ (start : DeskValue) (steady : IsSteadyDesk start) (es more : List Event
             )
         go false is at =
             calls_same (Does (command.Event event)) found 0 ((last_of found.desk 0).seq + 1) event small does is
-            (subst (λ (l : Last). Calls (λ s. Posts s 0 (l.seq + 1) event) posted_text c y end) (sym last) at)
+            (subst (λ (l : Last). Calls (λ s. Posts s 0 (l.seq + 1) event) posted_answer c y end) (sym last) at)
 
     -- `version`
     versions_same : (found : DeskAndChain) → n ≡ 0 → DoesAt 1 (Does command.Version) b found x new → Does command.Version c y end → (x ≡ y) × Same n new end
@@ -275,7 +281,7 @@ module _ (start : DeskValue) (steady : IsSteadyDesk start) (es more : List Event
         let number : found.desk.published.number ≡ c.desk.published.number = omega arith in
         let desk : new.left.desk ≡ found.desk = ap (λ (d : ConsoleValue). d.desk) does.done.1 in
         let other : end.desk ≡ c.desk = ap (λ (d : ConsoleValue). d.desk) at.1 in (
-          does.done.0 ∙ ap (λ (k : ℕ). version_text k (accepted found.desk)) number ∙ ap (version_text c.desk.published.number) count ∙ sym at.0,
+          does.done.0 ∙ ap (λ (k : ℕ). answer.Reply (reply.Version k (accepted found.desk))) number ∙ ap (λ (k : ℕ). answer.Reply (reply.Version c.desk.published.number k)) count ∙ sym at.0,
           there_same start more n (Does command.Version) b found x new end does kept (same_alike n found.desk c.desk new.left.desk end.desk alike desk other)
               (ap (λ (s : DeskValue). s.target) other ∙ same.aim)
               (shown_still b new c end same.shown does.kept (ap (λ (s : DeskValue). s.published) other) (ap (λ (d : ConsoleValue). d.watch) at.1)),
@@ -305,8 +311,8 @@ module _ (start : DeskValue) (steady : IsSteadyDesk start) (es more : List Event
         )
 
     -- what is asked
-    asks_same : (text_of : Network → List ℕ) (version : VersionValue) → n ≡ 0 → Looks b version new → x ≡ text_of version.network → y ≡ text_of c.desk.published.network → end ≡ c → KeepsSynced b new → (x ≡ y) × Same n new end
-    asks_same text_of version now looks is at other told =
+    asks_same : (answer_of : Network → Answer) (version : VersionValue) → n ≡ 0 → Looks b version new → x ≡ answer_of version.network → y ≡ answer_of c.desk.published.network → end ≡ c → KeepsSynced b new → (x ≡ y) × Same n new end
+    asks_same answer_of version now looks is at other told =
         let low : same.last.number ≤ version.number = look_rises start steady es n b c same keeps version new looks in
         let near = same.near in
         let less = same.less in
@@ -314,11 +320,11 @@ module _ (start : DeskValue) (steady : IsSteadyDesk start) (es more : List Event
         let none : c.desk.pending ≡ [] = no_length c.desk.pending (omega arith) in
         let settled : net_now c.desk ≡ c.desk.published.network = ap (replay c.desk.published.network) none in
         let kept : HasKept c.desk c.desk = record { accepted = refl; net = refl; lasts = refl; spare = refl } in (
-          is ∙ ap text_of (network ∙ same.net ∙ settled) ∙ sym at,
+          is ∙ ap answer_of (network ∙ same.net ∙ settled) ∙ sym at,
           subst (Same n new) (sym other) (looked_same start steady es n b c same keeps n version new c looks kept same.less same.aim (omega arith) (shown_still b new c c same.shown told refl refl)),
         )
 
-    obeys_same : (other : List ℕ) (o : Option Command) → MayCome n o → ObeysBeside 1 other o b x new → Obeys other o c y end → (x ≡ y) × Same (events_after n o) new end
+    obeys_same : (other : Answer) (o : Option Command) → MayCome n o → ObeysBeside 1 other o b x new → Obeys other o c y end → (x ≡ y) × Same (events_after n o) new end
     obeys_same other None may is at = told_same _ x y is at
     obeys_same other (Some (command.Event event)) may is at = nexts_same is.0 event may is.1 at
     obeys_same other (Some (command.Post collector seq event)) may is at = calls_same (Does (command.Post collector seq event)) is.0 collector seq event may is.1 is.1.done at
@@ -332,41 +338,43 @@ module _ (start : DeskValue) (steady : IsSteadyDesk start) (es more : List Event
         let stands : Keeps start es is.there.left = subst (λ (l : List Event). Keeps start l is.there.left) (append-nil es) (keeps_acted start steady es b [] is.visits.0 is.there keeps acts) in
         synced_same start steady es n is.there c (visited_same start steady es n b c same keeps is.visits.0 is.there stands is.visits.1) stands x y new end later is.syncs at
     obeys_same other (Some command.Version) may is at = versions_same is.0 may is.1 at
-    obeys_same other (Some (command.About asked p d)) may is at = asks_same (λ net. answer_about asked net p d) is.0 may is.1 is.2.0 at.0 at.1 is.3
-    obeys_same other (Some (command.Trace p d s)) may is at = asks_same (λ net. trace_answer (trace_at net p d s)) is.0 may is.1 is.2.0 at.0 at.1 is.3
-    obeys_same other (Some (command.WhatIf events)) may is at = asks_same (λ net. what_if_text (report_of net events)) is.0 may is.1 is.2.0 at.0 at.1 is.3
-    obeys_same other (Some command.Audit) may is at = asks_same (λ net. audit_right (length net.plans)) is.0 may is.1 is.2.0 at.0 at.1 is.3
-    obeys_same other (Some (command.Picture file about)) may is at = asks_same (λ net. picture_told file net about) is.0 may is.1 is.2.0 at.0 at.1 is.3
+    obeys_same other (Some (command.About asked p d)) may is at = asks_same (λ net. answer_about asked net p d) is.0 may is.1 is.2 at.0 at.1 is.3
+    obeys_same other (Some (command.Trace p d s)) may is at = asks_same (λ net. trace_answer (trace_at net p d s)) is.0 may is.1 is.2 at.0 at.1 is.3
+    obeys_same other (Some (command.WhatIf events)) may is at = asks_same (λ net. what_if_answer (report_of net events)) is.0 may is.1 is.2 at.0 at.1 is.3
+    obeys_same other (Some command.Audit) may is at = asks_same (λ net. audit_answer (length net.plans)) is.0 may is.1 is.2 at.0 at.1 is.3
+    obeys_same other (Some (command.Picture file about)) may is at = asks_same (λ net. picture_told file net about) is.0 may is.1 is.2 at.0 at.1 is.3
     obeys_same other (Some command.Changes) may is at = changes_same is at
     obeys_same other (Some (command.Watch is_on)) may is at = watches_same is_on is at
 
-  line_same : (line x y : List ℕ) → MayCome n (command_in line) → Replies (CommandsBeside 1) line b x new → Replies Commands line c y end → (x ≡ y) × Same (events_after n (command_in line)) new end
+  line_same : (line : List ℕ) (x y : Option Answer) → MayCome n (command_in line) → Replies (CommandsBeside 1) line b x new → Replies Commands line c y end → (x ≡ y) × Same (events_after n (command_in line)) new end
   line_same line x y = go (is_too_long (trimmed line)) (is_silent (trimmed line))
     where
-      go : (long quiet : Bool) → MayCome n (said_by long quiet (trimmed line)) → IsAnswer (CommandsBeside 1) long quiet (trimmed line) b x new → IsAnswer Commands long quiet (trimmed line) c y end
+      go : (long quiet : Bool) → MayCome n (said_by long quiet (trimmed line)) → IsReply (CommandsBeside 1) long quiet (trimmed line) b x new → IsReply Commands long quiet (trimmed line) c y end
           → (x ≡ y) × Same (events_after n (said_by long quiet (trimmed line))) new end
       go true quiet may is at = told_same _ x y is at
       go false true may is at = told_same _ x y is at
       go false false may is at =
           let both = obeys_same is.0 at.0 (other_answer (words_of (trimmed line))) (command_of (words_of (trimmed line))) may is.1 at.1 in
-          (is.2 ∙ ap (λ (t : List ℕ). t ++ 10 ∷ []) both.0 ∙ sym at.2, both.1)
+          (is.2 ∙ ap (λ (a : Answer). Some a) both.0 ∙ sym at.2, both.1)
 
 -- ---- all lines
 
 lines_same : (start : DeskValue) → IsSteadyDesk start → (es : List Event) (n : ℕ) (b : BesideValue) (c : ConsoleValue) → Same n b c → Keeps start es b.left → (lines : List (List ℕ)) → IsSynced n lines
-    → (text : List ℕ) (after : BesideValue) → Answered (CommandsBeside 1) b lines text after → Later after → (other : List ℕ) (end : ConsoleValue) → Answered Commands c lines other end → text ≡ other
-lines_same start steady es n b c same keeps [] synced text after is later other end at = is.0 ∙ sym at.0
-lines_same start steady es n b c same keeps (line ∷ lines) synced text after is later other end at =
-    let taken : List Event = taken_by (trimmed line) is.0 in
+    → (told : List (Option Answer)) (after : BesideValue) → Answers (CommandsBeside 1) b lines told after → Later after → (other : List (Option Answer)) (end : ConsoleValue) → Answers Commands c lines other end → told ≡ other
+lines_same start steady es n b c same keeps [] synced told after is later other end at = is.0 ∙ sym at.0
+lines_same start steady es n b c same keeps (line ∷ lines) synced told after is later other end at =
+    let taken : List Event = taken_at (trimmed line) is.0 in
     let kept : Keeps start (es ++ taken) is.1.left = keeps_moved start steady es b taken is.1 keeps (line_moves line b is.0 is.1 is.3) in
     let rest : Later is.1 = finds_later is.1 lines is.2 after is.4 later in
     let both = line_same start steady es (es ++ taken) n b is.1 c at.1 same keeps kept rest line is.0 at.0 synced.0 is.3 at.3 in
     let others : is.2 ≡ at.2 =
     lines_same start steady (es ++ taken) (events_after n (command_in line)) is.1 at.1 both.1 kept lines synced.1 is.2 after is.4 later at.2 end at.4 in
-    is.5 ∙ ap (λ (t : List ℕ). t ++ is.2) both.0 ∙ ap (λ (t : List ℕ). at.0 ++ t) others ∙ sym at.5
+    is.5 ∙ ap (λ (t : Option Answer). t ∷ is.2) both.0 ∙ ap (λ (t : List (Option Answer)). at.0 ∷ t) others ∙ sym at.5
 
--- a script that was answered to its end has the text that it has in line
-pub script_same : (start : Network) (b : BesideValue) (lines : List (List ℕ)) (text : List ℕ) (after : BesideValue) (left : Network) (other : List ℕ) (end : ConsoleValue)
-    → StartsBeside start b → Answered (CommandsBeside 1) b lines text after → LeavesBeside 1 after left → IsSynced 0 lines → Answered Commands (opening start) lines other end → text ≡ other
-script_same start b lines text after left other end opens answered leaves synced at =
-    lines_same (new_desk start) (new_is_steady start) [] 0 b (opening start) (first_same start b opens) (keeps_first start b opens) lines synced text after answered (leaves.0, leaves.1) other end at
+-- a script that was answered to its end tells the answers that it has in line
+pub script_same : (Tells : Answer → List ℕ → Type 0) (start : Network) (b : BesideValue) (lines : List (List ℕ)) (text : List ℕ) (after : BesideValue) (left : Network) (other : List (Option Answer)) (end : ConsoleValue)
+    → StartsBeside start b → Answered Tells (CommandsBeside 1) b lines text after → LeavesBeside 1 after left → IsSynced 0 lines → Answers Commands (opening start) lines other end → AreTexts Tells other text
+script_same Tells start b lines text after left other end opens answered leaves synced at =
+    subst (λ (told : List (Option Answer)). AreTexts Tells told text)
+    (lines_same (new_desk start) (new_is_steady start) [] 0 b (opening start) (first_same start b opens) (keeps_first start b opens) lines synced answered.0 after answered.1 (leaves.0, leaves.1) other end at)
+    answered.2

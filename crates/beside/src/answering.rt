@@ -1,8 +1,7 @@
 //! Who answers a script beside workers.
 
-ghost use Rattle.std.specs.Prelude.{◌≡◌, ◌≤◌, ◌∷◌, [], IfErr, IfOk, IfSome, OnOk, string_bytes};
+ghost use Rattle.std.specs.Prelude.{◌≡◌, ◌≤◌, ◌∷◌, [], IfErr, IfOk, IfSome, OnOk};
 ghost use Rattle.std.specs.Arc.{arc_value};
-ghost use Rattle.answers.specs.Text.{line_count};
 ghost use Rattle.desk_core.specs.Desk.{accepted};
 ghost use Rattle.desk_console.specs.Taken.{event_of};
 ghost use Rattle.net_versions.specs.Versions.{VersionValue};
@@ -13,7 +12,7 @@ ghost use Rattle.beside.specs.Beside.{DoesBeside, DoesThere, KeepsSynced, Looks,
 ghost use Rattle.beside.specs.Seats.{Came, CamePosting, Goes, Parts, StaysSeated};
 
 use crate::visitor::Visitor;
-use answers::{Answer, answer_other, write_bad_line};
+use answers::{Answer, Reason, answer_other};
 use net_data::{Event, Net};
 use script_words::{Command, read_line};
 use sessions::{Answering, Fault};
@@ -80,7 +79,6 @@ impl<'a, N: Naming, R: Wait> Beside<'a, N, R> {
     pub fn post_next(&mut self, alloc: Global, collector: u8, event: Event) -> Result<Answer, Fault>
         ensures does { IfOk result (λ answer. DoesThere N.seats (PostsNext collector event) self.old answer self.new) }
         ensures goes { Goes N.seats (event ∷ []) self.old self.new }
-        ensures plain { IfOk result (λ answer. line_count answer ≡ 0) }
         ensures fault { IfErr result (CutsOff (Unit {0})) }
     {
         let mut guard = self.hub.lock(self.rt);
@@ -103,7 +101,6 @@ impl<'a, N: Naming, R: Wait> Beside<'a, N, R> {
     ) -> Result<Answer, Fault>
         ensures does { IfOk result (λ answer. DoesBeside N.seats (Command.Post collector seq event) self.old answer self.new) }
         ensures posts { CamePosting N.seats event self.old self.new }
-        ensures plain { IfOk result (λ answer. line_count answer ≡ 0) }
         ensures fault { IfErr result (CutsOff (Unit {0})) }
     {
         let mut guard = self.hub.lock(self.rt);
@@ -117,14 +114,12 @@ impl<'a, N: Naming, R: Wait> Beside<'a, N, R> {
     }
 
     /// What is published, and what is accepted.
-    fn version(&mut self, alloc: Global) -> Result<String, Fault>
-        ensures does { IfOk result (λ text. DoesBeside N.seats Command.Version self.old (string_bytes text) self.new) }
+    fn version(&mut self) -> Result<Answer, Fault>
+        ensures does { IfOk result (λ answer. DoesBeside N.seats Command.Version self.old answer self.new) }
         ensures comes { Came N.seats self.old self.new }
-        ensures plain { IfOk result (λ text. line_count (string_bytes text) ≡ 0) }
         ensures fault { IfErr result (CutsOff (Unit {0})) }
     {
-        self.visitor
-            .version(self.rt, alloc, &mut *self.hub.lock(self.rt))
+        self.visitor.version(self.rt, &mut *self.hub.lock(self.rt))
     }
 
     /// Waits for a publication, unless all that was accepted is published; does a piece of the workers' work if there are none.
@@ -182,10 +177,9 @@ impl<'a, N: Naming, R: Wait> Beside<'a, N, R> {
     }
 
     /// Waits until all is published that had been accepted when it left the hub.
-    fn sync_there(&mut self, alloc: Global) -> Result<String, Fault>
-        ensures does { IfOk result (λ text. SyncsThere self.old (string_bytes text) self.new) }
+    fn sync_there(&mut self, alloc: Global) -> Result<Answer, Fault>
+        ensures does { IfOk result (λ answer. SyncsThere self.old answer self.new) }
         ensures stays { StaysSeated self.old self.new }
-        ensures lines { IfOk result (λ text. line_count (string_bytes text) ≤ 1) }
         ensures fault { IfErr result (CutsOff (Unit {0})) }
     {
         let version = self.wait_synced(alloc)?;
@@ -193,10 +187,9 @@ impl<'a, N: Naming, R: Wait> Beside<'a, N, R> {
     }
 
     /// Waits until all is published that has been accepted by now, whoever posted it.
-    fn sync(&mut self, alloc: Global) -> Result<String, Fault>
-        ensures does { IfOk result (λ text. SyncsBeside N.seats self.old (string_bytes text) self.new) }
+    fn sync(&mut self, alloc: Global) -> Result<Answer, Fault>
+        ensures does { IfOk result (λ answer. SyncsBeside N.seats self.old answer self.new) }
         ensures comes { Came N.seats self.old self.new }
-        ensures lines { IfOk result (λ text. line_count (string_bytes text) ≤ 1) }
         ensures fault { IfErr result (CutsOff (Unit {0})) }
     {
         self.visit()?;
@@ -204,23 +197,22 @@ impl<'a, N: Naming, R: Wait> Beside<'a, N, R> {
     }
 
     /// Does what a command says that posts nothing.
-    fn obey_silently(&mut self, alloc: Global, command: &Command) -> Result<String, Fault>
+    fn obey_silently(&mut self, alloc: Global, command: &Command) -> Result<Answer, Fault>
         requires within { IsWithin command.now }
         requires none { event_of command.now ≡ [] }
-        ensures does { IfOk result (λ text. DoesBeside N.seats command.now self.old (string_bytes text) self.new) }
+        ensures does { IfOk result (λ answer. DoesBeside N.seats command.now self.old answer self.new) }
         ensures goes { Goes N.seats [] self.old self.new }
-        ensures lines { IfOk result (λ text. line_count (string_bytes text) ≤ 1) }
         ensures fault { IfErr result (CutsOff (Unit {0})) }
     {
         match command {
             Command::Event(_) | Command::Post(_, _, _) => unreachable!(),
             Command::Sync => self.sync(alloc),
-            Command::Version => self.version(alloc),
+            Command::Version => self.version(),
             Command::Open
             | Command::Take(_)
             | Command::Give(_)
             | Command::Abandon(_)
-            | Command::Publish => Ok(write_bad_line(alloc)?),
+            | Command::Publish => Ok(Answer::Refused(Reason::BadLine)),
             _ => self.visitor.tell(alloc, command),
         }
     }
@@ -231,10 +223,11 @@ impl<'a, N: Naming, R: Wait> Beside<'a, N, R> {
         requires none { event_of command ≡ [] }
         ensures does { IfOk result (λ answer. DoesBeside N.seats command self.old answer self.new) }
         ensures goes { Goes N.seats (event_of command) self.old self.new }
-        ensures lines { IfOk result (λ answer. line_count answer ≤ 1) }
         ensures fault { IfErr result (CutsOff (Unit {0})) }
     {
-        self.obey_silently(alloc, &command).map(Answer::of_text)
+        let answer = self.obey_silently(alloc, &command);
+        drop(command);
+        answer
     }
 
     /// Does what a command says.
@@ -246,7 +239,6 @@ impl<'a, N: Naming, R: Wait> Beside<'a, N, R> {
         requires { IsWithin command }
         ensures does { IfOk result (λ answer. DoesBeside N.seats command self.old answer self.new) }
         ensures goes { Goes N.seats (event_of command) self.old self.new }
-        ensures lines { IfOk result (λ answer. line_count answer ≤ 1) }
         ensures fault { IfErr result (CutsOff (Unit {0})) }
     {
         match command {
@@ -272,7 +264,7 @@ impl<'a, N: Naming, R: Wait> Answering for Beside<'a, N, R> {
     fn answer(&mut self, alloc: Global, line: &[u8]) -> Result<Answer, Fault> {
         match read_line(alloc, line)? {
             Some(command) => self.obey(alloc, command),
-            None => Ok(Answer::of_text(answer_other(alloc, line)?)),
+            None => Ok(answer_other(alloc, line)?),
         }
     }
 

@@ -1,7 +1,8 @@
 //! A script beside worker threads (all own).
 //!
 //! 1. A script is run as `sessions` says it, from a new desk over a network, while workers open targets, settle jobs and
-//!    publish versions.
+//!    publish versions. What answers a line is an `Answer`, a value; the text that is written of it is whatever the caller's
+//!    `Telling` makes of it.
 //! 2. An event, `post` and `version` are done under the lock, at the desk as it is found: as the script's thread left it, after
 //!    steps of workers and no others. There they do what they do in line. The script's reader is told of what is published.
 //! 3. What is asked of the published version (`status`, `sls`, `messages`, `octets`, `trace`, `whatif`, `audit`) is answered
@@ -13,8 +14,8 @@
 //! 6. A run without a fault gives back the network after all accepted events. It may also end with 50, if there is no place
 //!    for the reader.
 //!
-//! Stands on `sessions`, `desk_console`, `worker_pool`. A change here also changes specs/ (Beside, Right, Runs, Synced,
-//! Told), proofs/ and must-fail/.
+//! Stands on `answers`, `sessions`, `desk_console`, `worker_pool`. A change here also changes specs/ (Beside, Right, Runs,
+//! Seats, Synced, Told), proofs/ and must-fail/.
 #![tactic(auto)]
 
 mod answering;

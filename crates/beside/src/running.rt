@@ -10,8 +10,9 @@ ghost use Rattle.versions.specs.Working.{left_at};
 ghost use Rattle.beside.specs.Told.{ToldInput, ToldScript};
 
 use crate::answering::Beside;
-use crate::reading::{BesideEnd, Script, Whole};
+use crate::reading::{After, BesideEnd, Script, Whole};
 use crate::visitor::Visitor;
+use answers::Telling;
 use desk_core::Desk;
 use net_data::Net;
 use sessions::{Fault, ended_by, load_text, read_text};
@@ -188,29 +189,38 @@ fn run_named<
 }
 
 /// Reads a script to its end beside that many workers, which settle jobs through a gate, and answers each line before more is
-/// read, from a new desk over a network. The network that comes back is the one after all accepted events.
+/// read, from a new desk over a network. Each answer is written as it is told by who tells it. The network that comes back is the
+/// one after all accepted events.
 ///
 /// - `ran`: what is read, what is written, how it ends, and by which fault.
 /// - `told`, without a fault: at each line all versions that were published at a lock, or seen, are the ones of their numbers;
-///   and a script with a `sync` between what it asks and the events before has just the text that it has in line.
-pub fn run_beside<T: Threads + Wait + Sync, G: Gate + Sync, R: Read + Drop, W: Write + Drop>(
+///   and a script with a `sync` between what it asks and the events before tells just the answers that it has in line.
+pub fn run_beside<
+    T: Threads + Wait + Sync,
+    G: Gate + Sync,
+    L: Telling,
+    R: Read + Drop,
+    W: Write + Drop,
+>(
     rt: &T,
     alloc: Global,
     n: u32,
     gate: &G,
+    telling: &L,
     reader: R,
     writer: W,
     net: Net,
 ) -> BesideEnd<R, W>
     requires { (0 < n) × (n ≤ 32) }
-    ensures ran { RanBeside net (R.remaining reader) (R.remaining result.reader)
+    ensures ran { RanBeside (L.tells telling.now) net (R.remaining reader) (R.remaining result.reader)
         (W.contents writer) (W.contents result.writer) result.end.fault result.end.lines result.end.net }
-    ensures told { result.end.fault ≡ None → ToldScript net (R.remaining reader) (R.remaining result.reader) (W.contents writer) (W.contents result.writer) }
+    ensures told { result.end.fault ≡ None → ToldScript (L.tells telling.now) net (R.remaining reader) (R.remaining result.reader) (W.contents writer) (W.contents result.writer) }
 {
     match open_hub(rt, alloc, net) {
-        Ok(unnamed) => run_named::<Brand, _, _, _, _, _>(
-            rt, alloc, n, gate, reader, writer, unnamed, Whole,
-        ),
+        Ok(unnamed) => {
+            let script = Whole { telling };
+            run_named::<Brand, _, _, _, _, _>(rt, alloc, n, gate, reader, writer, unnamed, script)
+        }
         Err(_) => BesideEnd {
             end: ended_by(Fault::OutOfMemory, 0),
             reader,
@@ -236,18 +246,17 @@ fn open_text<R: Wait>(rt: &R, alloc: Global, text: &[u8]) -> Result<UnnamedWithS
 ///
 /// - `ran`: what is read, what is written, how it ends, and by which fault.
 /// - `told`, without a fault: as `run_beside` says it.
-pub fn run_input_beside<T: Threads + Wait + Sync, G: Gate + Sync, R: Read + Drop, W: Write + Drop>(
-    rt: &T,
-    alloc: Global,
-    n: u32,
-    gate: &G,
-    mut reader: R,
-    writer: W,
-) -> BesideEnd<R, W>
+pub fn run_input_beside<
+    T: Threads + Wait + Sync,
+    G: Gate + Sync,
+    L: Telling,
+    R: Read + Drop,
+    W: Write + Drop,
+>(rt: &T, alloc: Global, n: u32, gate: &G, telling: &L, mut reader: R, writer: W) -> BesideEnd<R, W>
     requires { (0 < n) × (n ≤ 32) }
-    ensures ran { RanInput StartsBeside (CommandsBeside 1) (LeavesBeside 1) (Unit {0}) (R.remaining reader) (R.remaining result.reader)
+    ensures ran { RanInput StartsBeside (L.tells telling.now) (CommandsBeside 1) (LeavesBeside 1) (Unit {0}) (R.remaining reader) (R.remaining result.reader)
         (W.contents writer) (W.contents result.writer) result.end.fault result.end.lines result.end.net }
-    ensures told { result.end.fault ≡ None → ToldInput (R.remaining reader) (R.remaining result.reader) (W.contents writer) (W.contents result.writer) }
+    ensures told { result.end.fault ≡ None → ToldInput (L.tells telling.now) (R.remaining reader) (R.remaining result.reader) (W.contents writer) (W.contents result.writer) }
 {
     let opening = match read_text(alloc, &mut reader) {
         Ok(opening) => opening,
@@ -259,7 +268,8 @@ pub fn run_input_beside<T: Threads + Wait + Sync, G: Gate + Sync, R: Read + Drop
     };
     match open_text(rt, alloc, &opening.bytes[..opening.text]) {
         Ok(unnamed) => {
-            run_named::<Brand, _, _, _, _, _>(rt, alloc, n, gate, reader, writer, unnamed, opening)
+            let script = After { opening, telling };
+            run_named::<Brand, _, _, _, _, _>(rt, alloc, n, gate, reader, writer, unnamed, script)
         }
         Err(fault) => BesideEnd {
             end: ended_by(fault, 0),

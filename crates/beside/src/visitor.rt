@@ -1,21 +1,20 @@
 //! Who comes to the hub for a script.
 
-ghost use Rattle.std.specs.Prelude.{◌≡◌, ◌≤◌, ◌∷◌, [], Err, IfErr, IfOk, OnErr, OnOk, string_bytes};
+ghost use Rattle.std.specs.Prelude.{◌≡◌, ◌∷◌, [], Err, IfErr, IfOk, OnErr, OnOk};
 ghost use Rattle.std.specs.Arc.{arc_value};
 ghost use mathlib.Core.List.{IsPrefix};
-ghost use Rattle.answers.specs.Replies.{posted_text, refused_text, synced_text};
-ghost use Rattle.answers.specs.Text.{line_count};
+ghost use Rattle.answers.specs.Replies.{posted_answer, refused};
 ghost use Rattle.desk_core.specs.Desk.{accepted};
 ghost use Rattle.desk_core.specs.Steps.{Posts};
 ghost use Rattle.desk_console.specs.Does.{Calls, HasMemory, PostsNext, Tells, version_of};
-ghost use Rattle.desk_console.specs.Watch.{changes_told, reply_watched, watched};
+ghost use Rattle.desk_console.specs.Watch.{changes_told, notice, watched};
 ghost use Rattle.sessions.specs.Run.{CutsOff};
 ghost use Rattle.versions.specs.Chains.{EndsWith, IsChain};
 ghost use Rattle.versions.specs.Working.{Comes, left_at};
 ghost use Rattle.beside.specs.Seats.{Came, CamePosting, Goes, StaysSeated};
 ghost use Rattle.beside.specs.Beside.{DoesAt, DoesThere, KeepsSynced, LeavesBeside, Looks, VisitsAt, WatchesBeside, newcomer};
 
-use answers::{Answer, write_posted, write_refused, write_synced, write_version, write_watch};
+use answers::{Answer, Publication, Reason, Reply, answer_post};
 use desk_console::{Watch, has_memory};
 use desk_core::{Posted, Refusal};
 use net_data::{Event, Net};
@@ -68,15 +67,14 @@ fn tell<N: Naming>(hub: &Hub<N, BySeats>, reader: &mut Reader<N>) -> Result<(), 
 }
 
 /// The answer to a post, if memory sufficed for it.
-fn answer_post(alloc: Global, reply: Result<Posted, Refusal>) -> Result<Answer, Fault>
-    ensures text { IfOk result (λ answer. HasMemory reply × (answer ≡ posted_text reply)) }
-    ensures plain { IfOk result (λ answer. line_count answer ≡ 0) }
+fn answer_reply(reply: Result<Posted, Refusal>) -> Result<Answer, Fault>
+    ensures answer { IfOk result (λ answer. HasMemory reply × (answer ≡ posted_answer reply)) }
     ensures fault { IfErr result (CutsOff (Unit {0})) }
 {
     if !has_memory(&reply) {
         return Err(Fault::OutOfMemory);
     }
-    Ok(write_posted(alloc, reply)?)
+    Ok(answer_post(reply))
 }
 
 impl<N: Naming> Visitor<N> {
@@ -133,9 +131,8 @@ impl<N: Naming> Visitor<N> {
         seq: u64,
         event: Event,
     ) -> Result<Answer, Fault>
-        ensures call { IfOk result (λ answer. DoesAt N.seats (Calls (λ s. Posts s collector seq event) posted_text) self.old hub.old.state answer self.new) }
+        ensures call { IfOk result (λ answer. DoesAt N.seats (Calls (λ s. Posts s collector seq event) posted_answer) self.old hub.old.state answer self.new) }
         ensures posts { CamePosting N.seats event self.old self.new }
-        ensures plain { IfOk result (λ answer. line_count answer ≡ 0) }
         ensures fault { IfErr result (CutsOff (Unit {0})) }
     {
         let reply = self.guest.post(rt, alloc, hub, collector, seq, event);
@@ -143,7 +140,7 @@ impl<N: Naming> Visitor<N> {
         if let Err(fault) = tell(hub, &mut self.reader) {
             return Err(fault);
         }
-        answer_post(alloc, reply)
+        answer_reply(reply)
     }
 
     /// A post.
@@ -156,28 +153,21 @@ impl<N: Naming> Visitor<N> {
         seq: u64,
         event: Event,
     ) -> Result<Answer, Fault>
-        ensures call { IfOk result (λ answer. DoesThere N.seats (Calls (λ s. Posts s collector seq event) posted_text) self.old answer self.new) }
+        ensures call { IfOk result (λ answer. DoesThere N.seats (Calls (λ s. Posts s collector seq event) posted_answer) self.old answer self.new) }
         ensures posts { CamePosting N.seats event self.old self.new }
-        ensures plain { IfOk result (λ answer. line_count answer ≡ 0) }
         ensures fault { IfErr result (CutsOff (Unit {0})) }
     {
         self.post_at(rt, alloc, hub, collector, seq, event)
     }
 
     /// The answer to a post of a collector after which it has no number.
-    fn refuse_next<R: Wait>(
-        &mut self,
-        rt: &R,
-        alloc: Global,
-        hub: &mut Hub<N, BySeats>,
-    ) -> Result<Answer, Fault>
-        ensures refused { IfOk result (λ answer. DoesAt N.seats (Tells (refused_text Refusal.EndOfNumbers)) self.old hub.old.state answer self.new) }
+    fn refuse_next<R: Wait>(&mut self, rt: &R, hub: &mut Hub<N, BySeats>) -> Result<Answer, Fault>
+        ensures refused { IfOk result (λ answer. DoesAt N.seats (Tells (refused Refusal.EndOfNumbers)) self.old hub.old.state answer self.new) }
         ensures comes { Came N.seats self.old self.new }
-        ensures plain { IfOk result (λ answer. line_count answer ≡ 0) }
         ensures fault { IfErr result (CutsOff (Unit {0})) }
     {
         self.visit(rt, hub)?;
-        Ok(Answer::of_text(write_refused(alloc, Refusal::EndOfNumbers)?))
+        Ok(Answer::Refused(Reason::Desk(Refusal::EndOfNumbers)))
     }
 
     /// An event, posted by a collector under the sequence number after its last one.
@@ -191,12 +181,11 @@ impl<N: Naming> Visitor<N> {
     ) -> Result<Answer, Fault>
         ensures call { IfOk result (λ answer. DoesThere N.seats (PostsNext collector event) self.old answer self.new) }
         ensures goes { Goes N.seats (event ∷ []) self.old self.new }
-        ensures plain { IfOk result (λ answer. line_count answer ≡ 0) }
         ensures fault { IfErr result (CutsOff (Unit {0})) }
     {
         let last = hub.desk().last_seq(collector);
         if last == u64::MAX {
-            return self.refuse_next(rt, alloc, hub);
+            return self.refuse_next(rt, hub);
         }
         self.post_at(rt, alloc, hub, collector, last + 1, event)
     }
@@ -205,17 +194,15 @@ impl<N: Naming> Visitor<N> {
     pub(crate) fn version<R: Wait>(
         &mut self,
         rt: &R,
-        alloc: Global,
         hub: &mut Hub<N, BySeats>,
-    ) -> Result<String, Fault>
-        ensures call { IfOk result (λ text. DoesThere N.seats (λ c. Tells (version_of c.desk) c) self.old (string_bytes text) self.new) }
+    ) -> Result<Answer, Fault>
+        ensures call { IfOk result (λ answer. DoesThere N.seats (λ c. Tells (version_of c.desk) c) self.old answer self.new) }
         ensures comes { Came N.seats self.old self.new }
-        ensures plain { IfOk result (λ text. line_count (string_bytes text) ≡ 0) }
         ensures fault { IfErr result (CutsOff (Unit {0})) }
     {
         self.visit(rt, hub)?;
         let desk = hub.desk();
-        Ok(write_version(alloc, desk.published().number(), desk.accepted())?)
+        Ok(Answer::Reply(Reply::Version(desk.published().number(), desk.accepted())))
     }
 
     /// A copy of the network after all accepted events.
@@ -299,32 +286,31 @@ impl<N: Naming> Visitor<N> {
         &mut self,
         alloc: Global,
         version: Arc<Version>,
-    ) -> Result<String, AllocError>
-        ensures text { IfOk result (λ text. string_bytes text ≡ reply_watched self.old.watch self.old.synced (arc_value version) (synced_text (arc_value version).number)) }
+    ) -> Result<Answer, AllocError>
+        ensures answer { IfOk result (λ answer. answer
+            ≡ Answer.Publication (Publication.Synced (arc_value version).number (notice self.old.watch self.old.synced (arc_value version)))) }
         ensures stays { StaysSeated self.old self.new }
         ensures told { OnOk result (self.new ≡ record self.old { synced = arc_value version; watch = watched self.old.watch self.old.synced (arc_value version) }) }
-        ensures lines { IfOk result (λ text. line_count (string_bytes text) ≤ 1) }
     {
-        let reply = write_synced(alloc, version.number())?;
+        let number = version.number();
         let old = replace(&mut self.synced, version);
-        self.watch.reply(alloc, old, &self.synced, reply)
+        let changes = self.watch.notice(alloc, old, &self.synced)?;
+        Ok(Answer::Publication(Publication::Synced(number, changes)))
     }
 
     /// What the last `sync` changed.
-    pub(crate) fn changes(&self, alloc: Global) -> Result<String, AllocError>
-        ensures text { IfOk result (λ text. string_bytes text ≡ changes_told self.now.watch self.now.synced) }
-        ensures plain { IfOk result (λ text. line_count (string_bytes text) ≡ 0) }
+    pub(crate) fn changes(&self, alloc: Global) -> Result<Answer, AllocError>
+        ensures { IfOk result (λ answer. answer ≡ changes_told self.now.watch self.now.synced) }
     {
         self.watch.tell(alloc, &self.synced)
     }
 
     /// Changes are told behind each `sync` from now on, or no more.
-    pub(crate) fn set_watch(&mut self, alloc: Global, is_on: bool) -> Result<String, AllocError>
-        ensures does { IfOk result (λ text. WatchesBeside is_on self.old (string_bytes text) self.new) }
+    pub(crate) fn set_watch(&mut self, is_on: bool) -> Answer
+        ensures does { WatchesBeside is_on self.old result self.new }
         ensures stays { StaysSeated self.old self.new }
-        ensures plain { IfOk result (λ text. line_count (string_bytes text) ≡ 0) }
     {
         self.watch.set(is_on);
-        write_watch(alloc, is_on)
+        Answer::Reply(Reply::Watch(is_on))
     }
 }

@@ -1,5 +1,5 @@
 -- How a check of all tables is answered.
-use Rattle.std.specs.Prelude.{◌≡◌, ℕ, Bool, List, ◌++◌, length, Option, Some, None, is_some, not, All, MatchOption, codes}
+use Rattle.std.specs.Prelude.{◌≡◌, ℕ, List, ◌++◌, length, Option, Some, None, All, MatchOption, codes}
 use Rattle.std.specs.Fmt.{decimal}
 use Rattle.answers.specs.Audits.{complaint_text}
 use Rattle.net_data.specs.Network.{Network}
@@ -20,10 +20,8 @@ abbrev pub verdict_text : ℕ → Option Wrong → List ℕ
 verdict_text count None = right_text count
 verdict_text count (Some w) = wrong_text w
 
--- what is said of tables, whatever they are: that there are so many and all right, exactly if each is the settled one of its
--- destination; else of the first that isn't
-pub record IsVerdict (net : Network) (given : List Table) (text : List ℕ) (right : Bool) : Type 0 where
-  pub wrong : Option Wrong
+-- what is found of tables, whatever they are: how many there are, and none wrong exactly if each is the settled one of its destination; else
+-- the first that isn't
+pub record IsVerdict (net : Network) (given : List Table) (count : ℕ) (wrong : Option Wrong) : Type 0 where
+  pub all : count ≡ length given
   pub found : MatchOption wrong (All (IsSettledIn net) given) (IsFirstWrongTable net given)
-  pub said : text ≡ verdict_text (length given) wrong
-  pub told : is_some wrong ≡ not right

@@ -9,6 +9,7 @@ ghost use Rattle.console.specs.Headline.{RanInputRight};
 ghost use Rattle.console.specs.InLine.{LeavesInLine, StartsInLine};
 
 use crate::in_line::InLine;
+use answers::Telling;
 use sessions::{Fault, ScriptEnd, ended_by, load_text, read_text};
 use std::alloc::Global;
 use std::io::{Read, Write};
@@ -30,17 +31,22 @@ fn open_text(alloc: Global, text: &[u8]) -> Result<InLine, Fault>
 ///
 /// - `ran`: what is read, what is written, how it ends, and by which fault.
 /// - `right`: at each line the published version is the one of its number, as `run_script` says it.
-pub fn run_input<R: Read, W: Write>(alloc: Global, reader: &mut R, writer: &mut W) -> ScriptEnd
-    ensures ran { RanInput StartsInLine Commands LeavesInLine ⊥ (R.remaining reader.old) (R.remaining reader.new)
+pub fn run_input<T: Telling, R: Read, W: Write>(
+    alloc: Global,
+    telling: &T,
+    reader: &mut R,
+    writer: &mut W,
+) -> ScriptEnd
+    ensures ran { RanInput StartsInLine (T.tells telling.now) Commands LeavesInLine ⊥ (R.remaining reader.old) (R.remaining reader.new)
         (W.contents writer.old) (W.contents writer.new) result.fault result.lines result.net }
-    ensures right { RanInputRight (R.remaining reader.old) (R.remaining reader.new) (W.contents writer.old) (W.contents writer.new) }
+    ensures right { RanInputRight (T.tells telling.now) (R.remaining reader.old) (R.remaining reader.new) (W.contents writer.old) (W.contents writer.new) }
 {
     let opening = match read_text(alloc, reader) {
         Ok(opening) => opening,
         Err(fault) => return ended_by(fault, 0),
     };
     match open_text(alloc, &opening.bytes[..opening.text]) {
-        Ok(console) => opening.run(alloc, reader, writer, console),
+        Ok(console) => opening.run(alloc, telling, reader, writer, console),
         Err(fault) => ended_by(fault, 0),
     }
 }

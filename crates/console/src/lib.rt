@@ -2,7 +2,8 @@
 //! network (all own).
 //!
 //! 1. A script is run as `sessions` says it. Each line that isn't too long or silent is answered with what
-//!    `desk_console` does with it, from a new desk over the network, by the thread that reads the script.
+//!    `desk_console` does with it, from a new desk over the network, by the thread that reads the script; whoever is
+//!    `Telling` makes the text of the answer.
 //! 2. A run without a fault gives back the network after all accepted events.
 //! 3. An input starts with the network text, up to the first line that is `%%`, and the script comes after that line;
 //!    without it the input is the network text. Nothing is written unless the network text was read and loaded.

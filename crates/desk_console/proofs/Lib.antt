@@ -4,4 +4,3 @@ pub mod RunLemmas
 pub mod SlotLemmas
 pub mod StepLemmas
 pub mod TaskLemmas
-pub mod PictureLemmas

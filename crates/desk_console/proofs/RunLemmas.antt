@@ -1,6 +1,5 @@
 -- What lines do are runs of the desk's steps.
-use Rattle.std.proofs.Common.{◌≡◌, ℕ, ◌+◌, Bool, true, false, List, [], ◌∷◌, Option, Some, None, Result, Ok, Err, refl, sym, ap, ◌∙◌, subst}
-use Rattle.std.specs.Prelude.{if◌then◌else◌}
+use Rattle.std.proofs.Common.{arith, ◌≡◌, ℕ, ◌+◌, Bool, true, false, List, [], ◌∷◌, Option, Some, None, Result, Ok, Err, refl, sym, ap, ◌∙◌, subst}
 use Rattle.std.specs.Option.{option_map_or}
 use Rattle.net_data.specs.declared.events.Event.{Event}
 use Rattle.work_units.specs.Work.{Work}
@@ -19,11 +18,13 @@ use Rattle.desk_core.specs.Desk.{DeskValue}
 use Rattle.desk_core.specs.Steps.{Posts, Opens, Takes, Gives, Abandons, Publishes, last_of}
 use Rattle.desk_core.specs.Runs.{IsRunOf, event_taken}
 use Rattle.desk_core.proofs.RunLemmas.{run_none, run_one, run_then}
-use Rattle.answers.specs.Replies.{posted_text}
+use Rattle.answers.specs.Replies.{posted_answer}
+use Rattle.answers.specs.declared.answer.Answer.{Answer}
+use Rattle.desk_console.specs.Asked.{asked_answer, is_asked}
 use Rattle.desk_console.specs.Commands.{Commands, Obeys}
 use Rattle.desk_console.specs.Console.{ConsoleValue, slot_of}
 use Rattle.desk_console.specs.Does.{AbandonsOf, Does, GivesFrom, PostsAfter}
-use Rattle.desk_console.specs.Taken.{event_of, says_taken, taken_by}
+use Rattle.desk_console.specs.Taken.{event_of, taken_by}
 
 -- ---- one step
 
@@ -54,72 +55,73 @@ goes_on old mid new one other = run_then old mid new [] [] one other
 
 -- ---- a line
 
--- the event of a post is accepted exactly if the answer says `taken`
-taken_is : (event : Event) (result : Result Posted Refusal) → event_taken event (reply.Post result) ≡ (if says_taken (posted_text result) then event ∷ [] else [])
-taken_is event (Ok (Taken number)) = refl
-taken_is event (Ok (Again number)) = refl
-taken_is event (Err refusal) = refl
+-- the event of a post is accepted exactly if it is answered `taken`
+taken_is : (event : Event) (line : List ℕ) (done : Command) (result : Result Posted Refusal) → command_of (words_of line) ≡ Some done → event_of done ≡ event ∷ []
+    → event_taken event (reply.Post result) ≡ taken_by line (posted_answer result)
+taken_is event line done (Ok (Taken number)) is posts = sym (ap (λ (o : Option Command). option_map_or event_of o []) is ∙ posts)
+taken_is event line done (Ok (Again number)) is posts = refl
+taken_is event line done (Err refusal) is posts = refl
 
--- what a command accepts, by its answer
-abbrev taken_of : Command → List ℕ → List Event
-taken_of done text = if says_taken text then event_of done else []
+-- a question that is answered is done
+pub asked_does : (done : Command) (c : ConsoleValue) (a : Answer) → is_asked done ≡ true → a ≡ asked_answer done c.desk.published.network → Does done c a c
+asked_does (command.About asked y x) c a is said = (said, refl)
+asked_does (command.Trace y x s) c a is said = (said, refl)
+asked_does (command.WhatIf events) c a is said = (said, refl)
+asked_does command.Audit c a is said = (said, refl)
+asked_does (command.Picture file about) c a is said = (said, refl)
+asked_does done c a is said = absurd (cc)
 
-abbrev no_events : List Event
-no_events = []
+-- nothing is taken by a line whose command posts nothing
+pub nothing_taken : (line : List ℕ) (a : Answer) → option_map_or event_of (command_of (words_of line)) [] ≡ [] → taken_by line a ≡ []
+nothing_taken line a none = grind arith
 
-nothing_taken : (text : List ℕ) → (if says_taken text then no_events else no_events) ≡ no_events
-nothing_taken text = go (says_taken text)
-  where
-    go : (b : Bool) → (if b then no_events else no_events) ≡ no_events
-    go true = refl
-    go false = refl
+module _ (line : List ℕ) (c : ConsoleValue) (a : Answer) (new : ConsoleValue) where
+  silent : option_map_or event_of (command_of (words_of line)) [] ≡ [] → IsRunOf c.desk [] new.desk → IsRunOf c.desk (taken_by line a) new.desk
+  silent none run = subst (λ es. IsRunOf c.desk es new.desk) (sym (nothing_taken line a none)) run
 
-module _ (c : ConsoleValue) (text : List ℕ) (new : ConsoleValue) where
-  silent : IsRunOf c.desk [] new.desk → IsRunOf c.desk (if says_taken text then [] else []) new.desk
-  silent run = subst (λ es. IsRunOf c.desk es new.desk) (sym (nothing_taken text)) run
+  told : option_map_or event_of (command_of (words_of line)) [] ≡ [] → new ≡ c → IsRunOf c.desk (taken_by line a) new.desk
+  told none same = silent none (unmoved c.desk new.desk (ap (λ (d : ConsoleValue). d.desk) same))
 
-  told : new ≡ c → IsRunOf c.desk (if says_taken text then [] else []) new.desk
-  told same = silent (unmoved c.desk new.desk (ap (λ (d : ConsoleValue). d.desk) same))
+  calls_post : (done : Command) (collector seq : ℕ) (event : Event) (result : Result Posted Refusal) → command_of (words_of line) ≡ Some done → event_of done ≡ event ∷ []
+      → Posts c.desk collector seq event result new.desk → a ≡ posted_answer result → IsRunOf c.desk (taken_by line a) new.desk
+  calls_post done collector seq event result here posts is said =
+      subst (λ es. IsRunOf c.desk es new.desk) (taken_is event line done result here posts ∙ ap (taken_by line) (sym said)) (posted c.desk new.desk collector seq event result is)
 
-  calls_post : (collector seq : ℕ) (event : Event) (result : Result Posted Refusal) → Posts c.desk collector seq event result new.desk → text ≡ posted_text result → IsRunOf c.desk (if says_taken text then event ∷ [] else []) new.desk
-  calls_post collector seq event result is said =
-      subst (λ es. IsRunOf c.desk es new.desk) (taken_is event result ∙ ap (λ (t : List ℕ). if says_taken t then event ∷ [] else []) (sym said)) (posted c.desk new.desk collector seq event result is)
+  posts_after : (b : Bool) (done : Command) (collector : ℕ) (event : Event) → command_of (words_of line) ≡ Some done → event_of done ≡ event ∷ [] → PostsAfter b collector event c a new → IsRunOf c.desk (taken_by line a) new.desk
+  posts_after true done collector event here posts is =
+      subst (λ es. IsRunOf c.desk es new.desk) (ap (taken_by line) (sym is.0)) (unmoved c.desk new.desk (ap (λ (d : ConsoleValue). d.desk) is.1))
+  posts_after false done collector event here posts is = calls_post done collector ((last_of c.desk collector).seq + 1) event is.0 here posts is.1 is.3
 
-  posts_after : (b : Bool) (collector : ℕ) (event : Event) → PostsAfter b collector event c text new → IsRunOf c.desk (if says_taken text then event ∷ [] else []) new.desk
-  posts_after true collector event is =
-      subst (λ es. IsRunOf c.desk es new.desk) (ap (λ (t : List ℕ). if says_taken t then event ∷ [] else []) (sym is.0)) (unmoved c.desk new.desk (ap (λ (d : ConsoleValue). d.desk) is.1))
-  posts_after false collector event is = calls_post collector ((last_of c.desk collector).seq + 1) event is.0 is.1 is.3
-
-  gives : (k : ℕ) (slot : Option Work) → GivesFrom k slot c text new → IsRunOf c.desk [] new.desk
+  gives : (k : ℕ) (slot : Option Work) → GivesFrom k slot c a new → IsRunOf c.desk [] new.desk
   gives k None is = unmoved c.desk new.desk (ap (λ (d : ConsoleValue). d.desk) is.1)
   gives k (Some work) is = gave c.desk new.desk work is.0 is.1
 
-  abandons : (slot : Option Work) → AbandonsOf slot c text new → IsRunOf c.desk [] new.desk
+  abandons : (slot : Option Work) → AbandonsOf slot c a new → IsRunOf c.desk [] new.desk
   abandons None is = unmoved c.desk new.desk (ap (λ (d : ConsoleValue). d.desk) is.1)
   abandons (Some work) is = abandoned c.desk new.desk work.version work.excerpt.plan.dest is.0 is.1
 
-  command_runs : (done : Command) → Does done c text new → IsRunOf c.desk (taken_of done text) new.desk
-  command_runs (command.Event event) is = posts_after _ 0 event is
-  command_runs (command.Post collector seq event) is = calls_post collector seq event is.0 is.1 is.3
-  command_runs command.Open is = silent (opened c.desk new.desk is.0 is.1)
-  command_runs (command.Take k) is = silent (took c.desk new.desk is.0 is.1)
-  command_runs (command.Give k) is = silent (gives k (slot_of c k) is)
-  command_runs (command.Abandon k) is = silent (abandons (slot_of c k) is)
-  command_runs command.Publish is = silent (published c.desk new.desk is.0 is.1)
-  command_runs command.Sync is = silent is.2
-  command_runs command.Version is = told is.1
-  command_runs (command.About asked y x) is = told is.1
-  command_runs (command.Trace y x s) is = told is.1
-  command_runs (command.WhatIf events) is = told is.1
-  command_runs command.Audit is = told is.1
-  command_runs (command.Picture file about) is = told is.1
-  command_runs command.Changes is = told is.1
-  command_runs (command.Watch is_on) is = silent (unmoved c.desk new.desk (ap (λ (d : ConsoleValue). d.desk) is.1))
+  command_runs : (done : Command) → command_of (words_of line) ≡ Some done → Does done c a new → IsRunOf c.desk (taken_by line a) new.desk
+  command_runs (command.Event event) here is = posts_after _ (command.Event event) 0 event here refl is
+  command_runs (command.Post collector seq event) here is = calls_post (command.Post collector seq event) collector seq event is.0 here refl is.1 is.3
+  command_runs command.Open here is = silent (rw here refl) (opened c.desk new.desk is.0 is.1)
+  command_runs (command.Take k) here is = silent (rw here refl) (took c.desk new.desk is.0 is.1)
+  command_runs (command.Give k) here is = silent (rw here refl) (gives k (slot_of c k) is)
+  command_runs (command.Abandon k) here is = silent (rw here refl) (abandons (slot_of c k) is)
+  command_runs command.Publish here is = silent (rw here refl) (published c.desk new.desk is.0 is.1)
+  command_runs command.Sync here is = silent (rw here refl) is.2
+  command_runs command.Version here is = told (rw here refl) is.1
+  command_runs (command.About asked y x) here is = told (rw here refl) is.1
+  command_runs (command.Trace y x s) here is = told (rw here refl) is.1
+  command_runs (command.WhatIf events) here is = told (rw here refl) is.1
+  command_runs command.Audit here is = told (rw here refl) is.1
+  command_runs (command.Picture file about) here is = told (rw here refl) is.1
+  command_runs command.Changes here is = told (rw here refl) is.1
+  command_runs (command.Watch is_on) here is = silent (rw here refl) (unmoved c.desk new.desk (ap (λ (d : ConsoleValue). d.desk) is.1))
 
-  obeyed : (other : List ℕ) (o : Option Command) → Obeys other o c text new → IsRunOf c.desk (if says_taken text then option_map_or event_of o [] else []) new.desk
-  obeyed other None is = told is.1
-  obeyed other (Some done) is = command_runs done is
+  obeyed : (other : Answer) (o : Option Command) → command_of (words_of line) ≡ o → Obeys other o c a new → IsRunOf c.desk (taken_by line a) new.desk
+  obeyed other None here is = told (rw here refl) is.1
+  obeyed other (Some done) here is = command_runs done here is
 
 -- what a line does is a run of the desk's steps, which accepts the line's event if it is answered `taken`
-pub line_runs : (line : List ℕ) (c : ConsoleValue) (text : List ℕ) (new : ConsoleValue) → Commands line c text new → IsRunOf c.desk (taken_by line text) new.desk
-line_runs line c text new is = obeyed c text new (other_answer (words_of line)) (command_of (words_of line)) is
+pub line_runs : (line : List ℕ) (c : ConsoleValue) (a : Answer) (new : ConsoleValue) → Commands line c a new → IsRunOf c.desk (taken_by line a) new.desk
+line_runs line c a new is = obeyed line c a new (other_answer (words_of line)) (command_of (words_of line)) refl is

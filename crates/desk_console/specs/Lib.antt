@@ -1,5 +1,6 @@
 pub mod Watch
 pub mod Pictures
+pub mod Asked
 pub mod Console
 pub mod Does
 pub mod Commands

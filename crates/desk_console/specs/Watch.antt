@@ -1,8 +1,10 @@
 -- What is kept to tell what a publication changed (own).
-use Rattle.std.specs.Prelude.{ℕ, ◌==◌, ◌&&◌, not, Bool, false, if◌then◌else◌, List, ◌∷◌, ◌++◌, Option, Some, None}
+use Rattle.std.specs.Prelude.{◌==◌, ◌&&◌, not, Bool, false, if◌then◌else◌, List, Option, Some, None}
 use Rattle.net_data.specs.Network.{Network}
 use Rattle.net_versions.specs.Versions.{VersionValue}
-use Rattle.answers.specs.Changes.{changes_text}
+use Rattle.what_if.specs.declared.changes.Change.{Change}
+use Rattle.answers.specs.Changes.{changes_answer, changes_since}
+use Rattle.answers.specs.declared.answer.Answer.{Answer}
 
 -- the network of the version before the published one, if there is one, and whether what a publication changes is told behind its reply
 pub record WatchValue : Type 0 where
@@ -21,11 +23,10 @@ is_replaced old new = not (new.number == old.number)
 abbrev pub watched : WatchValue → VersionValue → VersionValue → WatchValue
 watched w old new = if is_replaced old new then record w { before = Some old.network } else w
 
--- `changes P`, and what changed from the version before
-abbrev pub changes_told : WatchValue → VersionValue → List ℕ
-changes_told w version = changes_text w.before version.number version.network
+-- what changed from the version before
+abbrev pub changes_told : WatchValue → VersionValue → Answer
+changes_told w version = changes_answer w.before version.number version.network
 
--- the reply of a command that found a version published and leaves one: with the changes on a line of their own, behind `*`, if they are watched
-abbrev pub reply_watched : WatchValue → VersionValue → VersionValue → List ℕ → List ℕ
-reply_watched w old new reply =
-    if w.is_on && is_replaced old new then reply ++ 10 ∷ 42 ∷ changes_told (watched w old new) new else reply
+-- what is told behind the reply of a command that found a version published and leaves one: what changed, if that is watched
+abbrev pub notice : WatchValue → VersionValue → VersionValue → Option (List Change)
+notice w old new = if w.is_on && is_replaced old new then Some (changes_since (watched w old new).before new.network) else None

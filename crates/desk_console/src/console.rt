@@ -1,7 +1,6 @@
 //! The console.
 
-ghost use Rattle.std.specs.Prelude.{◌≡◌, ◌≤◌, None, IfOk, map, replicate};
-ghost use Rattle.answers.specs.Text.{line_count};
+ghost use Rattle.std.specs.Prelude.{◌≡◌, None, IfOk, map, replicate};
 ghost use Rattle.desk_console.specs.Commands.{Commands};
 ghost use Rattle.desk_console.specs.Console.{net_of, opening};
 
@@ -75,15 +74,13 @@ impl Console {
         self.desk.into_net()
     }
 
-    /// Does what a line says, and gives its answer: a line without its line feed, or two if changes are watched. It fails if memory
-    /// is refused.
+    /// Does what a line says, and gives its answer. It fails if memory is refused.
     pub fn answer(&mut self, alloc: Global, line: &[u8]) -> Result<Answer, AllocError>
-        ensures command { IfOk result (λ answer. Commands line.now self.old answer self.new) }
-        ensures lines { IfOk result (λ answer. line_count answer ≤ 1) }
+        ensures { IfOk result (λ answer. Commands line.now self.old answer self.new) }
     {
         match read_line(alloc, line)? {
             Some(command) => self.obey(alloc, command),
-            None => Ok(Answer::of_text(answer_other(alloc, line)?)),
+            None => answer_other(alloc, line),
         }
     }
 }

@@ -1,4 +1,4 @@
-//! A desk at a console: what each command of the script language does, and the text of its answer (all own).
+//! A desk at a console: what each command of the script language does, and its answer (all own).
 //!
 //! 1. An event is posted by collector 0, under the sequence number after its last one; if that is the greatest
 //!    number, it is refused 51 EndOfNumbers. `post`, `open` and `publish` are calls of the desk.
@@ -14,25 +14,25 @@
 //!    answered from the published version alone.
 //! 5. `changes` tells what differs between the statuses of the published version and those of the version before: the one that was
 //!    published when the last `publish` or `sync` came that published something. After `watch on` each `publish` and `sync` that
-//!    publishes something tells it too, on a line of its own behind its reply, with `*` at its front; `watch off` ends that.
-//! 6. `picture FILE` tells a picture of the published network in one line, for the program to write to that file: an SVG document if
+//!    publishes something tells it too, behind its reply; `watch off` ends that.
+//! 6. `picture FILE` gives a picture of the published network, for who tells the answers to put into that file: an SVG document if
 //!    the file's name ends in `.svg`, else a DOT text; `picture FILE X` tells one about the destination X.
 //! 7. A line that is no command is answered `refused 62 BadLine`, but for `help` and `help WORD`.
 //!
-//! Stands on `answers`, `pictures`. A change here also changes specs/ (Commands, Console, Does, Pictures, Settling, Syncing, Watch),
+//! Stands on `answers`, `pictures`. A change here also changes specs/ (Asked, Commands, Console, Does, Pictures, Settling, Syncing, Watch),
 //! proofs/ and must-fail/.
 #![tactic(auto)]
 
+pub mod asking;
 pub mod console;
 mod obeying;
-pub mod picturing;
+mod picturing;
 mod slots;
-pub mod swaps;
 pub mod syncing;
 pub mod watching;
 
+pub use asking::answer_asked;
 pub use console::Console;
 pub use obeying::has_memory;
-pub use picturing::{answer_picture, picture_law, read_picture};
 pub use syncing::sync;
 pub use watching::Watch;

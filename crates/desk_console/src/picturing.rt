@@ -1,12 +1,10 @@
-//! Pictures of the published network, each in one line.
+//! Pictures of the published network.
 
-ghost use Rattle.std.specs.Prelude.{◌≡◌, List, ℕ, true, false, IfErr, IfOk, Some, drop, option_map, string_bytes};
-ghost use Rattle.answers.specs.Text.{line_count};
+ghost use Rattle.std.specs.Prelude.{◌≡◌, false, IfErr, IfOk, string_bytes};
 ghost use Rattle.pictures.specs.Shown.{fault_of, lacks_plan};
-ghost use Rattle.desk_console.specs.Pictures.{has_none, is_svg as ends_in_svg, picture_for, picture_in, picture_line, picture_told};
+ghost use Rattle.desk_console.specs.Pictures.{is_svg as ends_in_svg, picture_for, picture_told};
 
-use crate::swaps::{Swap, put_swapped};
-use answers::write_no_plan;
+use answers::{Answer, NetAnswer, Reason, Text};
 use excerpts::Frozen;
 use net_versions::Version;
 use pictures::{PictureFault, write_dot, write_svg};
@@ -37,55 +35,27 @@ fn draw(
     write_dot(alloc, net, about)
 }
 
-/// A picture behind the name of its file, in one line.
-fn write_line(alloc: Global, file: &str, picture: &str) -> Result<String, AllocError>
-    ensures { IfOk result (λ text. string_bytes text ≡ picture_line file.now picture.now) }
+/// The picture for a file, as an answer.
+fn told(alloc: Global, file: &str, picture: String) -> Result<Answer, AllocError>
+    ensures { IfOk result (λ answer. answer ≡ Answer.Net (NetAnswer.Picture file.now (string_bytes picture))) }
 {
-    let mut text = String::from_str(alloc, "\x0bpicture ")?;
-    put_swapped(&mut text, file, Swap::IntoLine)?;
-    text.push(' ')?;
-    put_swapped(&mut text, picture, Swap::IntoLine)?;
-    Ok(text)
+    let file = Text::from_string(String::from_str(alloc, file)?);
+    Ok(Answer::Net(NetAnswer::Picture(file, Text::from_string(picture))))
 }
 
-/// The answer to `picture FILE` and `picture FILE X`: a picture of a version's network, about a destination if one is named, in a
-/// line without a line feed: the byte 11 begins it, and stands for each line feed of the picture. It is refused 26 NoPlan if the
-/// destination has no plan, and fails if memory is refused.
+/// The answer to `picture FILE` and `picture FILE X`: a picture of a version's network, about a destination if one is named, for that
+/// file. It is refused 26 NoPlan if the destination has no plan, and fails if memory is refused.
 pub fn answer_picture(
     alloc: Global,
     version: &Version,
     file: &str,
     about: Option<PointCode>,
-) -> Result<String, AllocError>
-    ensures text { IfOk result (λ text. string_bytes text ≡ picture_told file.now version.now.network about) }
-    ensures plain { IfOk result (λ text. line_count (string_bytes text) ≡ 0) }
+) -> Result<Answer, AllocError>
+    ensures { IfOk result (λ answer. answer ≡ picture_told file.now version.now.network about) }
 {
     match draw(alloc, file, version.net(), about) {
-        Ok(picture) => write_line(alloc, file, picture.as_str()),
-        Err(PictureFault::NoPlan) => write_no_plan(alloc),
+        Ok(picture) => told(alloc, file, picture),
+        Err(PictureFault::NoPlan) => Ok(Answer::Refused(Reason::NoPlan)),
         Err(PictureFault::OutOfMemory) => Err(AllocError),
     }
 }
-
-/// The file and the picture of an answer to `picture`, without the byte at its front. `None` if they aren't there. It fails if memory
-/// is refused.
-pub fn read_picture(alloc: Global, line: &str) -> Result<Option<(&str, String)>, AllocError>
-    ensures { IfOk result (λ read. option_map (λ r. (r.0.now, string_bytes r.1)) read ≡ picture_in line.now) }
-{
-    let Some((_, rest)) = line.split_once(' ') else {
-        return Ok(None);
-    };
-    let Some((file, picture)) = rest.split_once(' ') else {
-        return Ok(None);
-    };
-    let mut text = String::new(alloc);
-    put_swapped(&mut text, picture, Swap::OutOfLine)?;
-    Ok(Some((file, text)))
-}
-
-/// The law: what is read of an answer to `picture` is its file and its picture, if the file has neither a space nor a line feed, and the
-/// picture no byte 11.
-pub fn picture_law()
-    ensures { (file picture : List ℕ) → has_none 32 file ≡ true → has_none 10 file ≡ true → has_none 11 picture ≡ true
-        → picture_in (drop 1 (picture_line file picture)) ≡ Some (file, picture) }
-{}

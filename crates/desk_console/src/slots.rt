@@ -1,14 +1,12 @@
 //! The slots, and the commands that use them.
 
-ghost use Rattle.std.specs.Prelude.{◌≡◌, ◌<◌, IfOk, None, Ok, Some, length, slice_index_or, slice_set, string_bytes};
-ghost use Rattle.answers.specs.Replies.{job_text};
-ghost use Rattle.answers.specs.Text.{line_count};
+ghost use Rattle.std.specs.Prelude.{◌≡◌, ◌<◌, IfOk, None, Some, length, slice_index_or, slice_set};
 ghost use Rattle.desk_console.specs.Console.{slot_of};
 ghost use Rattle.desk_console.specs.Does.{AbandonsOf, GivesFrom, TakesTo};
 
 use crate::console::Console;
 use crate::obeying::has_memory;
-use answers::{write_abandoned, write_bad_line, write_given, write_job, write_refused};
+use answers::{Answer, Reason, answer_abandoned, answer_given, answer_job};
 use std::alloc::{AllocError, Global};
 use work_units::{Job, Settled, settle};
 
@@ -39,22 +37,11 @@ fn result_of(alloc: Global, job: Job) -> Result<Settled, AllocError>
     }
 }
 
-/// What the taking of a job answers, and the result of the job.
-fn done(alloc: Global, job: Job) -> Result<(String, Settled), AllocError>
-    ensures text { IfOk result (λ r. string_bytes r.0 ≡ job_text (Ok job)) }
-    ensures plain { IfOk result (λ r. line_count (string_bytes r.0) ≡ 0) }
-    ensures settled { IfOk result (λ r. r.1 ≡ job) }
-{
-    let text = write_job(alloc, &job)?;
-    Ok((text, result_of(alloc, job)?))
-}
-
 impl Console {
     /// Takes a job, does it, and keeps its result in a slot.
-    pub(crate) fn take(&mut self, alloc: Global, slot: u8) -> Result<String, AllocError>
+    pub(crate) fn take(&mut self, alloc: Global, slot: u8) -> Result<Answer, AllocError>
         requires { slot < 32 }
-        ensures call { IfOk result (λ text. TakesTo slot self.old (string_bytes text) self.new) }
-        ensures plain { IfOk result (λ text. line_count (string_bytes text) ≡ 0) }
+        ensures { IfOk result (λ answer. TakesTo slot self.old answer self.new) }
     {
         let reply = self.desk.take();
         if !has_memory(&reply) {
@@ -62,46 +49,45 @@ impl Console {
         }
         match reply {
             Ok(job) => {
-                let (text, settled) = done(alloc, job)?;
+                let answer = answer_job(&job);
+                let settled = result_of(alloc, job)?;
                 put_in(&mut self.slots, usize::from(slot), settled);
-                Ok(text)
+                Ok(answer)
             }
-            Err(refusal) => write_refused(alloc, refusal),
+            Err(refusal) => Ok(Answer::Refused(Reason::Desk(refusal))),
         }
     }
 
     /// Gives the result in a slot.
     #[tactic(auto, using(crate::proofs::SlotLemmas::left_empty, crate::proofs::SlotLemmas::put_back))]
-    pub(crate) fn give(&mut self, alloc: Global, slot: u8) -> Result<String, AllocError>
+    pub(crate) fn give(&mut self, slot: u8) -> Answer
         requires { slot < 32 }
-        ensures call { IfOk result (λ text. GivesFrom slot (slot_of self.old slot) self.old (string_bytes text) self.new) }
-        ensures plain { IfOk result (λ text. line_count (string_bytes text) ≡ 0) }
+        ensures { GivesFrom slot (slot_of self.old slot) self.old result self.new }
     {
         let position = usize::from(slot);
         let Some(settled) = take_out(&mut self.slots, position) else {
-            return write_bad_line(alloc);
+            return Answer::Refused(Reason::BadLine);
         };
         match self.desk.give(settled) {
-            Ok(()) => write_given(alloc, &Ok(())),
+            Ok(()) => answer_given(&Ok(())),
             Err((settled, refusal)) => {
                 put_in(&mut self.slots, position, settled);
-                write_refused(alloc, refusal)
+                Answer::Refused(Reason::Desk(refusal))
             }
         }
     }
 
     /// Abandons the destination of the result in a slot.
-    pub(crate) fn abandon(&mut self, alloc: Global, slot: u8) -> Result<String, AllocError>
+    pub(crate) fn abandon(&mut self, slot: u8) -> Answer
         requires { slot < 32 }
-        ensures call { IfOk result (λ text. AbandonsOf (slot_of self.old slot) self.old (string_bytes text) self.new) }
-        ensures plain { IfOk result (λ text. line_count (string_bytes text) ≡ 0) }
+        ensures { AbandonsOf (slot_of self.old slot) self.old result self.new }
     {
         match &self.slots[usize::from(slot)] {
             Some(settled) => {
                 let reply = self.desk.abandon(settled.version(), settled.dest());
-                write_abandoned(alloc, reply)
+                answer_abandoned(reply)
             }
-            None => write_bad_line(alloc),
+            None => Answer::Refused(Reason::BadLine),
         }
     }
 }

@@ -1,15 +1,15 @@
 //! What is kept to tell what a publication changed.
 
-ghost use Rattle.std.specs.Prelude.{◌≡◌, ◌≤◌, ◌++◌, ◌∷◌, IfOk, string_bytes};
+ghost use Rattle.std.specs.Prelude.{◌≡◌, IfOk};
 ghost use Rattle.std.specs.Arc.{arc_value};
-ghost use Rattle.answers.specs.Text.{line_count};
-ghost use Rattle.desk_console.specs.Watch.{changes_told, is_replaced as replaced, reply_watched, unwatched, watched};
+ghost use Rattle.desk_console.specs.Watch.{changes_told, is_replaced as replaced, notice as the_notice, unwatched, watched};
 
-use answers::answer_changes;
+use answers::{Answer, answer_changes, changes_of};
 use net_versions::Version;
 use std::alloc::{AllocError, Global};
 use std::marker::Model;
 use std::sync::Arc;
+use what_if::Changes;
 
 /// The version before the published one, if there is one, and whether what a publication changes is told behind its reply.
 /// Contracts see that version's network.
@@ -37,15 +37,6 @@ fn is_replaced(old: &Version, new: &Version) -> bool
     new.number() != old.number()
 }
 
-/// Adds changes on a line of their own, behind `*`.
-fn add_line(mut reply: String, changes: &str) -> Result<String, AllocError>
-    ensures { IfOk result (λ text. string_bytes text ≡ string_bytes reply ++ 10 ∷ 42 ∷ changes.now) }
-{
-    reply.push_str("\n*")?;
-    reply.push_str(changes)?;
-    Ok(reply)
-}
-
 impl Watch {
     /// Nothing was published yet, and nothing is told behind replies.
     pub fn new() -> Watch
@@ -64,11 +55,9 @@ impl Watch {
         self.is_on = is_on;
     }
 
-    /// `changes P` of the published version, and what changed from the version before, without a line feed. It fails if memory is
-    /// refused.
-    pub fn tell(&self, alloc: Global, version: &Version) -> Result<String, AllocError>
-        ensures text { IfOk result (λ text. string_bytes text ≡ changes_told self.now version.now) }
-        ensures plain { IfOk result (λ text. line_count (string_bytes text) ≡ 0) }
+    /// What changed from the version before to the published one. It fails if memory is refused.
+    pub fn tell(&self, alloc: Global, version: &Version) -> Result<Answer, AllocError>
+        ensures { IfOk result (λ answer. answer ≡ changes_told self.now version.now) }
     {
         answer_changes(alloc, self.before.as_deref(), version)
     }
@@ -85,24 +74,21 @@ impl Watch {
         is_other
     }
 
-    /// Keeps the version that a command found published, if it leaves another, and gives its reply, with the changes on a line of
-    /// their own if they are watched. It fails if memory is refused.
-    pub fn reply(
+    /// Keeps the version that a command found published, if it leaves another, and gives what is told behind its reply: what
+    /// changed, if that is watched. It fails if memory is refused.
+    pub fn notice(
         &mut self,
         alloc: Global,
         old: Arc<Version>,
         new: &Version,
-        reply: String,
-    ) -> Result<String, AllocError>
-        requires { line_count (string_bytes reply) ≡ 0 }
+    ) -> Result<Option<Changes>, AllocError>
         ensures kept { self.new ≡ watched self.old (arc_value old) new.now }
-        ensures text { IfOk result (λ text. string_bytes text ≡ reply_watched self.old (arc_value old) new.now (string_bytes reply)) }
-        ensures lines { IfOk result (λ text. line_count (string_bytes text) ≤ 1) }
+        ensures notice { IfOk result (λ changes. changes ≡ the_notice self.old (arc_value old) new.now) }
     {
         let is_other = self.keep(old, new);
-        if self.is_on && is_other {
-            return add_line(reply, self.tell(alloc, new)?.as_str());
+        if !(self.is_on && is_other) {
+            return Ok(None);
         }
-        Ok(reply)
+        Ok(Some(changes_of(alloc, self.before.as_deref(), new)?))
     }
 }

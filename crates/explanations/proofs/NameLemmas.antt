@@ -1,36 +1,21 @@
 -- Titles stand in the texts that are printed, and letters find causes.
 use Rattle.std.proofs.Common.{◌≡◌, ◌++◌, ◌∷◌, [], true, codes, refl, sym, append_assoc}
-use Rattle.std.specs.Fmt.{decimal}
 use Rattle.answers.specs.Refusals.{refusal_name, refusal_values, cause_letter}
 use Rattle.plan_rows.specs.declared.causes.Cause.{Cause}
 use Rattle.plan_rows.specs.declared.causes.Cause.TheVariants as cause
-use Rattle.answers.specs.DeskRefusals.{desk_refusal_text, target_text}
+use Rattle.answers.specs.Answers.{reason_name, reason_text, reason_values}
+use Rattle.answers.specs.declared.answer.Reason.{Reason}
 use Rattle.sessions.specs.Faults.{key_text, place_text, load_text, fault_text}
-use Rattle.work_units.specs.declared.replies.Refusal.{Refusal}
-use Rattle.work_units.specs.declared.replies.Refusal.TheVariants as desk
 use Rattle.net_text.specs.declared.faults.LoadFault.{LoadFault}
 use Rattle.net_text.specs.declared.faults.LoadFault.TheVariants as load
 use Rattle.sessions.specs.declared.faults.Fault.{Fault}
 use Rattle.sessions.specs.declared.faults.Fault.TheVariants as fault
-use Rattle.explanations.specs.Names.{cause_title, desk_name, load_name, fault_name}
+use Rattle.explanations.specs.Names.{cause_title, load_name, fault_name}
 use Rattle.explanations.specs.Titles.{BeginsWith, StandsIn, is_found_by}
 
--- what is printed of a refusal of the desk begins with its title
-pub desk_begins : (refusal : Refusal) → BeginsWith (desk_refusal_text refusal) (desk_name refusal)
-desk_begins desk.OutOfMemory = ([], refl)
-desk_begins (desk.Edit refusal) = (refusal_values refusal, refl)
-desk_begins (desk.Gap next) = (32 ∷ decimal next, refl)
-desk_begins (desk.Old last) = (32 ∷ decimal last, refl)
-desk_begins desk.Clash = ([], refl)
-desk_begins desk.BacklogFull = ([], refl)
-desk_begins (desk.NotReady left) = (32 ∷ decimal left, refl)
-desk_begins desk.Nothing = ([], refl)
-desk_begins desk.Busy = ([], refl)
-desk_begins (desk.Stale target) = (32 ∷ target_text target, refl)
-desk_begins desk.Unasked = ([], refl)
-desk_begins desk.Differs = ([], refl)
-desk_begins desk.EndOfNumbers = ([], refl)
-desk_begins desk.NotOpen = ([], refl)
+-- what is printed of why a line is refused begins with its title
+pub reason_begins : (why : Reason) → BeginsWith (reason_text why) (codes "refused " ++ reason_name why)
+reason_begins why = (reason_values why, sym (append_assoc (codes "refused ") (reason_name why) (reason_values why)))
 
 -- in what is printed of a fault of a network text stands its title
 pub load_stands : (fault : LoadFault) → StandsIn (load_text fault) (load_name fault)

@@ -1,4 +1,4 @@
--- The title of what each refusal, fault, cause and complaint is told by. Those of an event are in the crate answers (`refusal_name`).
+-- The title of what each fault, cause and complaint is told by. Those of refusals are in the crate answers (`refusal_name`, `desk_name`, `reason_name`).
 use Rattle.std.specs.Prelude.{ℕ, List, ◌∷◌, ◌++◌, codes}
 use Rattle.answers.specs.Refusals.{refusal_name, cause_letter}
 use Rattle.answers.specs.Audits.{clause_letter}
@@ -6,29 +6,10 @@ use Rattle.plan_rows.specs.declared.causes.Cause.{Cause}
 use Rattle.plan_rows.specs.declared.causes.Cause.TheVariants as cause
 use Rattle.transfer_state.specs.declared.complaints.Clause.{Clause}
 use Rattle.transfer_state.specs.declared.complaints.Clause.TheVariants as clause
-use Rattle.work_units.specs.declared.replies.Refusal.{Refusal}
-use Rattle.work_units.specs.declared.replies.Refusal.TheVariants as desk
 use Rattle.net_text.specs.declared.faults.LoadFault.{LoadFault}
 use Rattle.net_text.specs.declared.faults.LoadFault.TheVariants as load
 use Rattle.sessions.specs.declared.faults.Fault.{Fault}
 use Rattle.sessions.specs.declared.faults.Fault.TheVariants as fault
-
--- of a refusal of the desk, the number and the name
-abbrev pub desk_name : Refusal → List ℕ
-desk_name desk.OutOfMemory = codes "1 OutOfMemory"
-desk_name (desk.Edit refusal) = refusal_name refusal
-desk_name (desk.Gap next) = codes "40 Gap"
-desk_name (desk.Old last) = codes "41 Old"
-desk_name desk.Clash = codes "42 Clash"
-desk_name desk.BacklogFull = codes "43 BacklogFull"
-desk_name (desk.NotReady left) = codes "44 NotReady"
-desk_name desk.Nothing = codes "45 Nothing"
-desk_name desk.Busy = codes "46 Busy"
-desk_name (desk.Stale target) = codes "47 Stale"
-desk_name desk.Unasked = codes "48 Unasked"
-desk_name desk.Differs = codes "49 Differs"
-desk_name desk.EndOfNumbers = codes "51 EndOfNumbers"
-desk_name desk.NotOpen = codes "52 NotOpen"
 
 -- of a fault of a network text, the number and the name; of an entry that is refused, those of the refusal
 abbrev pub load_name : LoadFault → List ℕ

@@ -1,7 +1,7 @@
 //! What the refusals of the desk mean.
 
 ghost use Rattle.std.specs.Prelude.{◌≡◌, true};
-ghost use Rattle.explanations.specs.Names.{desk_name};
+ghost use Rattle.answers.specs.DeskRefusals.{desk_name};
 ghost use Rattle.explanations.specs.Titles.{is_listed};
 
 use crate::edits::explain_edit;

@@ -3,7 +3,7 @@
 //!
 //! 1. An explanation has a title, which is what is printed: `27 BadRow`; of a cause or a complaint its letter and its name:
 //!    `a IsDest`, `b route`; of the limits a name alone. It says what the values behind the title are, what it means and what to do.
-//! 2. Each refusal of an event and of the desk, each fault, cause and complaint has one, under the title that is printed of it.
+//! 2. Each refusal of an event, of the desk and of a line, each fault, cause and complaint has one, under the title that is printed of it.
 //! 3. The list has each number once, in the order of docs/SCRIPT.md.
 //! 4. A word finds the explanation whose title, number or name it is, and no other has that number or name. A letter alone finds the
 //!    cause of that letter.
@@ -29,5 +29,6 @@ pub use desk::explain_desk;
 pub use edits::explain_edit;
 pub use explanation::{Explanation, write_explanation, write_titles};
 pub use faults::{explain_fault, explain_load};
-pub use laws::{letters_law, names_law, plain_law, titles_law};
+pub use laws::{letters_law, names_law, titles_law};
+pub use lines::explain_reason;
 pub use list::{explanations, find};

@@ -1,6 +1,14 @@
-//! What is told of a line and of a question without an enum of refusals, and what is told nowhere else.
+//! What is told of a line that is refused, and what is told nowhere else.
 
+ghost use Rattle.std.specs.Prelude.{◌≡◌, true};
+ghost use Rattle.answers.specs.Answers.{reason_name};
+ghost use Rattle.explanations.specs.Titles.{is_listed};
+
+use crate::desk::explain_desk;
+use crate::edits::{NO_PLAN, explain_edit};
 use crate::explanation::Explanation;
+use crate::faults::WRITE;
+use answers::Reason;
 
 pub(crate) const NO_ROW: Explanation = Explanation {
     title: "29 NoRow",
@@ -33,3 +41,18 @@ pub(crate) const LIMITS: Explanation = Explanation {
     meaning: "There are up to 1,024 points; link set ids 0 to 4,095; 1 to 16 links in a set, with codes 0 to 15; one link set between two points; ranks 1 to 255, and four classes of one or two vias; 65,536 accepted events that are not yet published; 131,072 bytes in a script line and 134,217,728 in a network text.",
     action: "Stay within them.",
 };
+
+/// What is told of why a line is refused.
+pub fn explain_reason(why: &Reason) -> &'static Explanation
+    ensures title { result.now.title.now ≡ reason_name why.now }
+    ensures listed { is_listed result.now.title.now ≡ true }
+{
+    match why {
+        Reason::Desk(refusal) => explain_desk(refusal),
+        Reason::Event(refused) => explain_edit(&refused.refusal),
+        Reason::NoPlan => &NO_PLAN,
+        Reason::NoRow => &NO_ROW,
+        Reason::BadLine => &BAD_LINE,
+        Reason::Write => &WRITE,
+    }
+}

@@ -1,4 +1,3 @@
-pub mod MemberLemmas
-pub mod ToldLemmas
-pub mod ReadingLemmas
-pub mod StreamLemmas
+mod MemberLemmas
+mod ReadingLemmas
+pub mod TitleLemmas

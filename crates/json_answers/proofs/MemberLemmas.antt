@@ -1,16 +1,12 @@
 -- What is written of members and items, token by token.
-use Rattle.std.proofs.Common.{Bor, ◌≡◌, ◌<◌, ◌==◌, ℕ, false, List, [], ◌∷◌, ◌++◌, map, length, Result, Ok, Err, OnOk, sym, ap, refl, ◌∙◌, append_assoc, append-nil, arith, Vec, Global, IfOk}
-use Rattle.std.specs.List.{list_any}
+use Rattle.std.proofs.Common.{◌≡◌, ℕ, List, [], ◌∷◌, ◌++◌, Result, Ok, Err, OnOk, sym, ap, subst, refl, ◌∙◌, append_assoc, Vec, Global, IfOk}
 use Rattle.json.specs.Json.{Json, array}
 use Rattle.json.specs.Token as token
 use Rattle.json.specs.Print.{print}
 use Rattle.json.specs.Tree.{json_tokens, items_tokens, members_tokens}
 use Rattle.json.specs.Value.{items_of}
 use Rattle.json.specs.Written.{Written, Writes}
-use Rattle.json_answers.specs.declared.members.Part.{Part}
 use Rattle.json_answers.specs.Members.{Member, Adds, object_members, object_with, member_tokens, item_tokens}
-use Rattle.json_answers.specs.Words.{parted}
-use Rattle.json_answers.specs.Lists.{item_of, changes, is_used}
 
 -- an object is its members and the end
 pub whole_object : (ms : List Member) → members_tokens (object_members ms) ≡ member_tokens ms ++ token.end_object ∷ []
@@ -41,19 +37,20 @@ module _ {E : Type 0} where
   }
   adds_more (Err e) a b c s t u is first second = tt
 
-  -- what is left to write, and was written last
-  pub adds_last : (r : Result (Unit {0}) E) (a b c : Written) (t u : List token.Token) → b.tokens ++ (t ++ []) ≡ a.tokens ++ u → b.before ≡ a.before → OnOk r (Adds b c t) → OnOk r (Adds a c u)
-  adds_last (Ok v) a b c t u is same last = record {
-    tokens = last.tokens ∙ ap (λ ts. b.tokens ++ ts) (sym (append-nil t)) ∙ is;
-    before = last.before ∙ same;
-  }
-  adds_last (Err e) a b c t u is same last = tt
-
 pub adds_then : (a b c : Written) (s t : List token.Token) → Adds a b s → Adds b c t → Adds a c (s ++ t)
 adds_then a b c s t first second = record {
   tokens = second.tokens ∙ ap (λ ts. ts ++ t) first.tokens ∙ append_assoc a.tokens s t;
   before = second.before ∙ first.before;
 }
+
+-- members, and then more
+pub adds_both : (a b c : Written) (ms ns : List Member) → Adds a b (member_tokens ms) → Adds b c (member_tokens ns) → Adds a c (member_tokens (ms ++ ns))
+adds_both a b c ms ns first second =
+    subst (Adds a c) (sym (members_then ms ns)) (adds_then a b c (member_tokens ms) (member_tokens ns) first second)
+
+pub adds_members : {E : Type 0} (r : Result (Unit {0}) E) (a b c : Written) (ms ns : List Member) → Adds a b (member_tokens ms) → OnOk r (Adds b c (member_tokens ns))
+    → OnOk r (Adds a c (member_tokens (ms ++ ns)))
+adds_members r a b c ms ns first second = adds_more r a b c (member_tokens ms) (member_tokens ns) _ (sym (members_then ms ns)) first second
 
 module _ {E : Type 0} (r : Result (Unit {0}) E) (a b c d : Written) where
   -- an object is written by its start, its members and its end
@@ -69,22 +66,6 @@ module _ {E : Type 0} (r : Result (Unit {0}) E) (a b c d : Written) where
   array_written items first inner last =
       adds_more r a c d (token.begin_array ∷ item_tokens items) (token.end_array ∷ []) _
       (ap (λ ts. token.begin_array ∷ ts) (sym (whole_array items))) (adds_then a b c (token.begin_array ∷ []) (item_tokens items) first inner) last
-
--- a word with parts is an object
-pub item_with_parts : (parts : List Part) (word : List ℕ) → (length parts == 0) ≡ false
-    → item_of (map (λ (p : Part). (p.name.now, p.end)) parts) word ≡ object_with (parted (map (λ (p : Part). (p.name.now, p.end)) parts) word)
-item_with_parts [] word some = absurd (cc)
-item_with_parts (p ∷ parts) word some = refl
-
--- fewer than two words are no change
-pub no_change : (ws : List (Bor (List ℕ))) → length ws < 2 → changes (map (λ w. w.now) ws) ≡ []
-no_change [] few = refl
-no_change (w ∷ []) few = refl
-no_change (w ∷ v ∷ ws) few = absurd (omega arith)
-
-pub any_nows : (ws : List (Bor (List ℕ))) → list_any (λ (w : Bor (List ℕ)). is_used w.now) ws ≡ list_any is_used (map (λ w. w.now) ws)
-any_nows [] = refl
-any_nows (w ∷ ws) = rw (any_nows ws) refl
 
 -- a line after what a buffer holds, by what its writer has written
 pub line_written : {E : Type 0} (r : Result (Vec ℕ Global) E) (w : Written) (out : List ℕ) (ts : List token.Token) → w.before ≡ out → w.tokens ≡ ts

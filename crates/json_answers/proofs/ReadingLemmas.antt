@@ -1,227 +1,206 @@
--- The text of an answer's object reads as that object: its numbers are numbers, and it isn't deep.
-use Rattle.std.proofs.Common.{◌≡◌, ℕ, suc, ◌≤◌, ◌==◌, Bool, true, false, not, if◌then◌else◌, List, [], ◌∷◌, ◌++◌, map, filter, length, drop, Option, Some, None, codes, bytes_eq, refl, arith}
-use Rattle.std.specs.List.{AllByRecursion, before_first, after_first}
-use Rattle.std.specs.Option.{option_map_or}
-use Rattle.json.specs.Json.{Json, null, boolean, number, string, array, document}
-use Rattle.json.specs.Tree.{depth, items_depth, members_depth, HasNumbers, ItemsHaveNumbers, MembersHaveNumbers}
+-- The text of an answer's object reads as that object: it isn't deep.
+use Rattle.std.proofs.Common.{◌≡◌, ◌∙◌, ℕ, suc, ◌≤◌, ◌==◌, Bool, true, false, if◌then◌else◌, List, [], ◌∷◌, ◌++◌, map, flat_map, Option, Some, None, option_and_then, codes, sym, ap, append-nil, arith}
+use Rattle.std.specs.List.{AllByRecursion}
+use Rattle.json.specs.Json.{Json, array, value, if_last, max_depth, document}
+use Rattle.json.specs.Lex.{tokens}
+use Rattle.json.specs.Tree.{json_tokens, depth, items_depth, members_depth}
 use Rattle.json.specs.Value.{items_of}
-use Rattle.json.specs.Word.{after_number}
-use Rattle.json.proofs.Printed.Trees.{document-print}
-use Rattle.script_words.specs.Commands.{pieces_at}
-use Rattle.tokens.specs.Words.{words_of}
-use Rattle.json_answers.specs.declared.parts.Separator.{Separator}
+use Rattle.json.proofs.Printed.Trees.{value-json_tokens}
+use Rattle.profile.specs.declared.hops.Hop.{Hop}
+use Rattle.profile.specs.declared.hops.Trace.{Trace}
+use Rattle.profile.specs.declared.tables.LinkRef.{LinkRef}
+use Rattle.route_choice.specs.declared.choices.Choice.{Choice}
+use Rattle.route_choice.specs.declared.choices.Far.{Far}
+use Rattle.what_if.specs.declared.changes.Change.{Change}
+use Rattle.what_if.specs.declared.mending.SetLink.{SetLink}
+use Rattle.answers.specs.declared.answer.Answer.{Answer}
+use Rattle.answers.specs.declared.answer.Answer.TheVariants as answer
+use Rattle.answers.specs.declared.answer.NetAnswer.{NetAnswer}
+use Rattle.answers.specs.declared.answer.NetAnswer.TheVariants as net
+use Rattle.answers.specs.declared.answer.Publication.{Publication}
+use Rattle.answers.specs.declared.answer.Publication.TheVariants as publication
+use Rattle.answers.specs.declared.answer.Reason.{Reason}
+use Rattle.answers.specs.declared.answer.Reason.TheVariants as reason
+use Rattle.answers.specs.declared.answer.Reply.{Reply}
+use Rattle.answers.specs.declared.answer.Reply.TheVariants as reply
+use Rattle.answers.specs.declared.answer.RowAnswer.{RowAnswer}
+use Rattle.answers.specs.declared.answer.RowAnswer.TheVariants as row
+use Rattle.answers.specs.declared.ways.Offer.{Offer}
+use Rattle.answers.specs.declared.ways.Offer.TheVariants as offer
+use Rattle.answers.specs.declared.ways.Way.{Way}
+use Rattle.net_data.specs.declared.events.Refusal.{Refusal}
+use Rattle.net_data.specs.declared.events.Refusal.TheVariants as edit
+use Rattle.work_units.specs.declared.replies.Refusal.{Refusal as DeskRefusal}
+use Rattle.work_units.specs.declared.replies.Refusal.TheVariants as desk
 use Rattle.json_answers.specs.Members.{Member, object_members, object_with}
-use Rattle.json_answers.specs.Words.{is_empty, is_number, value_of, member_if, first_value, named, separator_byte, parted}
-use Rattle.json_answers.specs.Lists.{item_of, is_alone, listed, row_parts, status_parts, change, changes, is_used, used_in, down, reason_members, reason, way, ways}
-use Rattle.json_answers.specs.Objects.{link_parts, message_parts, mend_parts, hop_parts, place_in, value_names, refused, reply_names, audit_names, list_answer, row_answer, status_answer, why_answer, trace_answer, with_changes, version_answer, told, members_of, object_of, object_text}
+use Rattle.json_answers.specs.Values.{list_member}
+use Rattle.json_answers.specs.Refusals.{desk_values, edit_values, number_if, reason_values}
+use Rattle.json_answers.specs.Objects.{answer_members, answer_object, change_members, choice_members, hop_members, link_items, link_members, links_value, marked_value, mend_member, mend_members, message_members, net_values, octet_value, octets_value, offer_members, publication_members, reply_members, row_values, status_value, trace_members, unused_members, used_members, via_items, way_members}
 
--- each number in it is a number, and it is no deeper than this
-record IsReadable (n : ℕ) (j : Json) : Type 0 where
-  numbers : HasNumbers j
-  deep : depth j ≤ n
+-- no value of these members is deeper than this
+abbrev AreShallow : ℕ → List Member → Type 0
+AreShallow n ms = AllByRecursion (λ (m : Member). depth m.1 ≤ n) ms
 
-abbrev AreReadable : ℕ → List Member → Type 0
-AreReadable n ms = AllByRecursion (λ (m : Member). IsReadable n m.1) ms
+-- a text, a number, a boolean and null have no depth
+flat : (n : ℕ) → 0 ≤ n
+flat n = omega arith
 
-deeper : (n m : ℕ) (j : Json) → n ≤ m → IsReadable n j → IsReadable m j
-deeper n m j le h = let d = h.deep in record { numbers = h.numbers; deep = omega arith }
+both : {A : Type 0} (P : A → Type 0) (a b : List A) → AllByRecursion P a → AllByRecursion P b → AllByRecursion P (a ++ b)
+both P [] b p q = q
+both P (x ∷ a) b p q = (p.0, both P a b p.1 q)
 
-all_deeper : (n m : ℕ) (ms : List Member) → n ≤ m → AreReadable n ms → AreReadable m ms
-all_deeper n m [] le h = tt
-all_deeper n m (f ∷ ms) le h = (deeper n m f.1 le h.0, all_deeper n m ms le h.1)
+either : {A : Type 0} (P : A → Type 0) (c : Bool) (a b : A) → P a → P b → P (if c then a else b)
+either P true a b p q = p
+either P false a b p q = q
 
-both_readable : (n : ℕ) (a b : List Member) → AreReadable n a → AreReadable n b → AreReadable n (a ++ b)
-both_readable n [] b p q = q
-both_readable n (f ∷ a) b p q = (p.0, both_readable n a b p.1 q)
-
-either_readable : (n : ℕ) (c : Bool) (a b : List Member) → AreReadable n a → AreReadable n b → AreReadable n (if c then a else b)
-either_readable n true a b p q = p
-either_readable n false a b p q = q
-
-either_value : (n : ℕ) (c : Bool) (a b : Json) → IsReadable n a → IsReadable n b → IsReadable n (if c then a else b)
-either_value n true a b p q = p
-either_value n false a b p q = q
-
--- ---- objects and arrays
-
-object_readable : (n : ℕ) (ms : List Member) → AreReadable n ms → IsReadable (suc n) (object_with ms)
-object_readable n ms h = let r = inner ms h in let d = r.1 in record { numbers = r.0; deep = omega arith }
+object_shallow : (n : ℕ) (ms : List Member) → AreShallow n ms → depth (object_with ms) ≤ suc n
+object_shallow n ms h = let d = inner ms h in omega arith
   where
-    inner : (ms : List Member) → AreReadable n ms → MembersHaveNumbers (object_members ms) × (members_depth (object_members ms) ≤ n)
-    inner [] h = (tt, omega arith)
-    inner (f ∷ ms) h = let more = inner ms h.1 in let d = more.1 in let e = h.0.deep in ((h.0.numbers, more.0), omega arith)
+    inner : (ms : List Member) → AreShallow n ms → members_depth (object_members ms) ≤ n
+    inner [] h = omega arith
+    inner (m ∷ ms) h = let d = h.0 in let more = inner ms h.1 in omega arith
 
-array_readable : (n : ℕ) (items : List Json) → AllByRecursion (IsReadable n) items → IsReadable (suc n) (array (items_of items))
-array_readable n items h = let r = inner items h in let d = r.1 in record { numbers = r.0; deep = omega arith }
+array_shallow : (n : ℕ) (items : List Json) → AllByRecursion (λ j. depth j ≤ n) items → depth (array (items_of items)) ≤ suc n
+array_shallow n items h = let d = inner items h in omega arith
   where
-    inner : (items : List Json) → AllByRecursion (IsReadable n) items → ItemsHaveNumbers (items_of items) × (items_depth (items_of items) ≤ n)
-    inner [] h = (tt, omega arith)
-    inner (j ∷ items) h = let more = inner items h.1 in let d = more.1 in let e = h.0.deep in ((h.0.numbers, more.0), omega arith)
+    inner : (items : List Json) → AllByRecursion (λ j. depth j ≤ n) items → items_depth (items_of items) ≤ n
+    inner [] h = omega arith
+    inner (j ∷ items) h = let d = h.0 in let more = inner items h.1 in omega arith
 
-map_readable : {A : Type 0} (n : ℕ) (f : A → Json) → ((x : A) → IsReadable n (f x)) → (xs : List A) → AllByRecursion (IsReadable n) (map f xs)
-map_readable n f each [] = tt
-map_readable n f each (x ∷ xs) = (each x, map_readable n f each xs)
-
--- ---- words
-
-string_readable : (s : List ℕ) → IsReadable 0 (string s)
-string_readable s = record { numbers = tt; deep = omega arith }
-
-null_readable : IsReadable 0 null
-null_readable = record { numbers = tt; deep = omega arith }
-
-boolean_readable : (b : Bool) → IsReadable 0 (boolean b)
-boolean_readable b = record { numbers = tt; deep = omega arith }
-
-number_by : (o : Option (List ℕ)) → option_map_or is_empty o false ≡ true → o ≡ Some []
-number_by None h = absurd (cc)
-number_by (Some []) h = refl
-number_by (Some (b ∷ rest)) h = absurd (cc)
-
-value_readable : (w : List ℕ) → IsReadable 0 (value_of w)
-value_readable w = go (bytes_eq w (codes "none")) (is_number w) refl
+mapped : {A : Type 0} (n : ℕ) (f : A → Json) → ((x : A) → depth (f x) ≤ n) → (xs : List A) → depth (array (items_of (map f xs))) ≤ suc n
+mapped {A} n f each xs = array_shallow n (map f xs) (inner xs)
   where
-    go : (none is : Bool) → is_number w ≡ is → IsReadable 0 (if none then null else if is then number w else string w)
-    go true is e = null_readable
-    go false true e = record { numbers = number_by (after_number w) e; deep = omega arith }
-    go false false e = string_readable w
+    inner : (xs : List A) → AllByRecursion (λ j. depth j ≤ n) (map f xs)
+    inner [] = tt
+    inner (x ∷ xs) = (each x, inner xs)
 
-if_readable : (name : List ℕ) (v : Json) → IsReadable 0 v → AreReadable 0 (member_if name v)
-if_readable name v h = either_readable 0 (length name == 0) [] ((name, v) ∷ []) tt (h, tt)
+flat_mapped : {A : Type 0} (n : ℕ) (f : A → List Json) → ((x : A) → AllByRecursion (λ j. depth j ≤ n) (f x)) → (xs : List A) → depth (array (items_of (flat_map f xs))) ≤ suc n
+flat_mapped {A} n f each xs = array_shallow n (flat_map f xs) (inner xs)
+  where
+    inner : (xs : List A) → AllByRecursion (λ j. depth j ≤ n) (flat_map f xs)
+    inner [] = tt
+    inner (x ∷ xs) = both (λ j. depth j ≤ n) (f x) (flat_map f xs) (each x) (inner xs)
 
-first_readable : (words : List (List ℕ)) → IsReadable 0 (first_value words)
-first_readable [] = null_readable
-first_readable (w ∷ words) = value_readable w
+-- a list of objects, none of which has a value that is deeper than 1
+listed : {A : Type 0} (f : A → List Member) → ((x : A) → AreShallow 1 (f x)) → (xs : List A) → depth (array (items_of (map (λ x. object_with (f x)) xs))) ≤ 3
+listed f each xs = mapped 2 (λ x. object_with (f x)) (λ x. object_shallow 1 (f x) (each x)) xs
 
-named_readable : (names words : List (List ℕ)) → AreReadable 0 (named names words)
-named_readable [] words = tt
-named_readable (name ∷ names) words =
-    both_readable 0 (member_if name (first_value words)) (named names (drop 1 words)) (if_readable name (first_value words) (first_readable words)) (named_readable names (drop 1 words))
+-- ---- what is listed
 
-parted_readable : (parts : List (List ℕ × Separator)) (w : List ℕ) → AreReadable 0 (parted parts w)
-parted_readable [] w = tt
-parted_readable (p ∷ parts) w =
-    (value_readable (before_first (λ b. b == separator_byte p.1) w), parted_readable parts (after_first (λ b. b == separator_byte p.1) w))
+status_shallow : (o : Option Far) → depth (status_value o) ≤ 1
+status_shallow None = flat 1
+status_shallow (Some far) = flat 1
 
--- ---- lists
+change_shallow : (change : Change) → AreShallow 1 (change_members change)
+change_shallow change = (flat 1, (flat 1, (status_shallow change.before, (status_shallow change.after, tt))))
 
-item_readable : (parts : List (List ℕ × Separator)) (w : List ℕ) → IsReadable 1 (item_of parts w)
-item_readable [] w = deeper 0 1 (string w) (omega arith) (string_readable w)
-item_readable (p ∷ parts) w = object_readable 0 (parted (p ∷ parts) w) (parted_readable (p ∷ parts) w)
+changes_shallow : (changes : List Change) → depth (list_member (codes "changes") change_members changes).1 ≤ 3
+changes_shallow changes = listed change_members change_shallow changes
 
-listed_readable : (parts : List (List ℕ × Separator)) (words : List (List ℕ)) → IsReadable 2 (listed parts words)
-listed_readable parts words =
-    either_value 2 (is_alone (codes "none") words) _ _ (deeper 0 2 null (omega arith) null_readable)
-    (either_value 2 (is_alone (codes "ok") words) _ _ (array_readable 1 [] tt) (array_readable 1 (map (item_of parts) words) (map_readable 1 (item_of parts) (item_readable parts) words)))
+link_shallow : (o : Option LinkRef) → AllByRecursion (λ j. depth j ≤ 2) (link_items o)
+link_shallow None = tt
+link_shallow (Some link) = (object_shallow 1 (link_members link) (flat 1, (flat 1, tt)), tt)
 
-changes_readable : (words : List (List ℕ)) → AllByRecursion (IsReadable 1) (changes words)
-changes_readable [] = tt
-changes_readable (w ∷ []) = tt
-changes_readable (row ∷ statuses ∷ words) =
-    (object_readable 0 (change row statuses) (both_readable 0 (parted row_parts row) (parted status_parts statuses) (parted_readable row_parts row) (parted_readable status_parts statuses)), changes_readable words)
+via_shallow : (o : Option ℕ) → AllByRecursion (λ j. depth j ≤ 2) (via_items o)
+via_shallow None = tt
+via_shallow (Some code) = (flat 2, tt)
 
-names_readable : (names words : List (List ℕ)) (ms : List Member) → AreReadable 1 ms → AreReadable 1 (named names words ++ ms)
-names_readable names words ms h = both_readable 1 (named names words) ms (all_deeper 0 1 (named names words) (omega arith) (named_readable names words)) h
+offer_shallow : (o : Offer) → AreShallow 1 (offer_members o)
+offer_shallow (offer.Far far) = (flat 1, tt)
+offer_shallow (offer.Down id links) = (flat 1, (flat 1, (mapped 0 marked_value (λ link. flat 0) links, tt)))
+offer_shallow offer.Unjoined = tt
 
-down_readable : (words : List (List ℕ)) → AreReadable 1 (down words)
-down_readable words =
-    let links = map string (filter (λ w. not (is_used w)) (drop 1 words)) in
-    names_readable (codes "set" ∷ []) words ((codes "links", array (items_of links)) ∷ []) (array_readable 0 links (map_readable 0 string string_readable (filter (λ w. not (is_used w)) (drop 1 words))), tt)
-
-kind_readable : (kind : List ℕ) (rest : List (List ℕ)) → AreReadable 1 (reason_members kind rest)
-kind_readable kind rest =
-    either_readable 1 (bytes_eq kind (codes "far")) _ _ (all_deeper 0 1 (named (codes "reason" ∷ []) rest) (omega arith) (named_readable (codes "reason" ∷ []) rest))
-    (deeper 0 1 (string kind) (omega arith) (string_readable kind), either_readable 1 (bytes_eq kind (codes "down")) (down rest) [] (down_readable rest) tt)
-
-reason_readable : (words : List (List ℕ)) → AreReadable 1 (reason words)
-reason_readable [] = tt
-reason_readable (kind ∷ rest) = both_readable 1 (reason_members kind rest) (used_in rest) (kind_readable kind rest) (deeper 0 1 _ (omega arith) (boolean_readable _), tt)
-
-five_readable : IsReadable 1 (number (codes "5"))
-unfolding after_number
-five_readable = record { numbers = refl; deep = omega arith }
-
-way_readable : (words : List (List ℕ)) → AreReadable 1 (way words)
-way_readable [] = tt
-way_readable (kind ∷ rest) =
-    either_readable 1 (bytes_eq kind (codes "mate")) _ _ (five_readable, names_readable (codes "via" ∷ []) rest (reason (drop 1 rest)) (reason_readable (drop 1 rest)))
-    (names_readable (codes "class" ∷ codes "via" ∷ []) rest (reason (drop 2 rest)) (reason_readable (drop 2 rest)))
-
-ways_readable : (words : List (List ℕ)) → AllByRecursion (IsReadable 2) (ways words)
-ways_readable [] = tt
-ways_readable (stop ∷ words) = map_readable 2 (λ piece. object_with (way piece)) (λ piece. object_readable 1 (way piece) (way_readable piece)) (pieces_at words)
+way_shallow : (way : Way) → AreShallow 1 (way_members way)
+way_shallow way = (flat 1, (flat 1, both (λ (m : Member). depth m.1 ≤ 1) (offer_members way.offer) _ (offer_shallow way.offer) (flat 1, tt)))
 
 -- ---- answers
 
-up : (ms : List Member) → AreReadable 0 ms → AreReadable 3 ms
-up ms h = all_deeper 0 3 ms (omega arith) h
+reply_shallow : (r : Reply) → AreShallow 3 (reply_members r)
+reply_shallow (reply.Taken n) = (flat 3, (flat 3, tt))
+reply_shallow (reply.Again n) = (flat 3, (flat 3, tt))
+reply_shallow (reply.Opened opened) = (flat 3, (flat 3, (flat 3, tt)))
+reply_shallow (reply.Job version dest) = (flat 3, (flat 3, (flat 3, tt)))
+reply_shallow reply.Given = (flat 3, tt)
+reply_shallow reply.Abandoned = (flat 3, tt)
+reply_shallow (reply.Version n accepted) = (flat 3, (flat 3, (flat 3, tt)))
+reply_shallow (reply.Watch is_on) = (flat 3, (flat 3, tt))
 
-names_up : (names words : List (List ℕ)) → AreReadable 3 (named names words)
-names_up names words = up (named names words) (named_readable names words)
+publication_shallow : (p : Publication) → AreShallow 3 (publication_members p)
+publication_shallow (publication.Published n changes) = (flat 3, (flat 3, tt))
+publication_shallow (publication.Synced n changes) = (flat 3, (flat 3, tt))
+publication_shallow (publication.Changes n changes) = (flat 3, (flat 3, (changes_shallow changes, tt)))
 
-list_up : (parts : List (List ℕ × Separator)) (words : List (List ℕ)) → IsReadable 3 (listed parts words)
-list_up parts words = deeper 2 3 (listed parts words) (omega arith) (listed_readable parts words)
+links_shallow : (class : ℕ) (links : List (Option LinkRef)) → depth (links_value class links) ≤ 3
+links_shallow class links = either (λ j. depth j ≤ 3) (class == 0) _ _ (flat 3) (flat_mapped 2 link_items link_shallow links)
 
-with_list : (names words : List (List ℕ)) (name : List ℕ) (list : Json) → IsReadable 3 list → AreReadable 3 (named names words ++ (name, list) ∷ [])
-with_list names words name list h = both_readable 3 (named names words) ((name, list) ∷ []) (names_up names words) (h, tt)
+octets_shallow : (o : Option (List ℕ)) → depth (octets_value o) ≤ 3
+octets_shallow None = flat 3
+octets_shallow (Some octets) = mapped 2 octet_value (λ octet. flat 2) octets
 
-list_readable : (line word : List ℕ) (rest : List (List ℕ)) → AreReadable 3 (list_answer line word rest)
-list_readable line word rest =
-    either_readable 3 (bytes_eq word (codes "sls")) _ _ (list_up link_parts rest, tt)
-    (either_readable 3 (bytes_eq word (codes "messages")) _ _ (list_up message_parts rest, tt)
-    (either_readable 3 (bytes_eq word (codes "mend")) _ _ (list_up mend_parts rest, tt)
-    (either_readable 3 (bytes_eq word (codes "picture")) _ _ (deeper 0 3 _ (omega arith) (string_readable _), tt) (deeper 0 3 _ (omega arith) (string_readable _), tt))))
+mend_shallow : (o : Option (List SetLink)) → depth (mend_member o).1 ≤ 3
+mend_shallow None = flat 3
+mend_shallow (Some links) = listed mend_members (λ l. (flat 1, (flat 1, tt))) links
 
-row_readable : (line word : List ℕ) (rest : List (List ℕ)) → AreReadable 3 (row_answer line word rest)
-row_readable line word rest =
-    either_readable 3 (bytes_eq word (codes "status")) (status_answer rest) _
-    (with_list (codes "status" ∷ [] ∷ codes "class" ∷ [] ∷ []) rest (codes "by") (listed [] (drop 4 rest)) (list_up [] (drop 4 rest)))
-    (either_readable 3 (bytes_eq word (codes "why")) (why_answer rest) _
-    (with_list (codes "status" ∷ []) rest (codes "ways") (array (items_of (ways (drop 1 rest)))) (array_readable 2 (ways (drop 1 rest)) (ways_readable (drop 1 rest))))
-    (either_readable 3 (bytes_eq word (codes "octets")) _ _ (list_up [] rest, tt) (list_readable line word rest)))
+choice_shallow : (c : Choice) → AreShallow 3 (choice_members c)
+choice_shallow c =
+    either (AreShallow 3) (c.class == 0) unused_members (used_members c) (flat 3, (flat 3, (omega arith, tt))) (flat 3, (flat 3, (flat_mapped 2 via_items via_shallow c.members, tt)))
 
-changes_up : (name : List ℕ) (words : List (List ℕ)) → AreReadable 3 (with_changes name words)
-changes_up name words =
-    with_list (name ∷ []) words (codes "changes") (array (items_of (changes (drop 1 words))))
-    (deeper 2 3 (array (items_of (changes (drop 1 words)))) (omega arith) (array_readable 1 (changes (drop 1 words)) (changes_readable (drop 1 words))))
+row_shallow : (r : RowAnswer) → AreShallow 3 (row_values r)
+row_shallow (row.Status choice) = choice_shallow choice
+row_shallow (row.Links class links) = (links_shallow class links, tt)
+row_shallow (row.Messages messages) = (listed message_members (λ m. (flat 1, (flat 1, tt))) messages, tt)
+row_shallow (row.Octets octets) = (octets_shallow octets, tt)
+row_shallow (row.Why far ways) = (flat 3, (listed way_members way_shallow ways, tt))
+row_shallow (row.Mend links) = (mend_shallow links, tt)
 
-version_readable : (line word : List ℕ) (rest : List (List ℕ)) → AreReadable 3 (version_answer line word rest)
-version_readable line word rest =
-    either_readable 3 (bytes_eq word (codes "trace")) (trace_answer rest) _
-    (with_list (codes "result" ∷ []) rest (codes "hops") (listed hop_parts (drop 1 rest)) (list_up hop_parts (drop 1 rest)))
-    (either_readable 3 (bytes_eq word (codes "whatif")) (with_changes (codes "result") rest) _ (changes_up (codes "result") rest)
-    (either_readable 3 (bytes_eq word (codes "changes")) (with_changes (codes "published") rest) _ (changes_up (codes "published") rest)
-    (either_readable 3 (bytes_eq word (codes "audit")) _ _ (names_up (audit_names rest) rest) (row_readable line word rest))))
+hops_shallow : (hops : List Hop) → depth (list_member (codes "hops") hop_members hops).1 ≤ 3
+hops_shallow hops = listed hop_members (λ hop. (flat 1, (flat 1, (flat 1, tt)))) hops
 
-told_readable : (line word : List ℕ) (rest : List (List ℕ)) → AreReadable 3 (told line word rest)
-unfolding told
-told_readable line word rest = go (reply_names word)
-  where
-    go : (names : Option (List (List ℕ))) → AreReadable 3 (option_map_or (λ names. named names rest) names (version_answer line word rest))
-    go None = version_readable line word rest
-    go (Some names) = names_up names rest
+trace_shallow : (t : Trace) → AreShallow 3 (trace_members t)
+trace_shallow (Trace.Reached hops) = (flat 3, (hops_shallow hops, tt))
+trace_shallow Trace.Stopped = (flat 3, (hops_shallow [], tt))
 
-place_readable : (words : List (List ℕ)) → AreReadable 3 (place_in words)
-place_readable [] = tt
-place_readable (at ∷ []) = tt
-place_readable (at ∷ place ∷ []) = (deeper 0 3 _ (omega arith) (value_readable place), tt)
-place_readable (at ∷ place ∷ other ∷ words) = tt
+net_shallow : (n : NetAnswer) → AreShallow 3 (net_values n)
+net_shallow (net.Trace trace) = trace_shallow trace
+net_shallow (net.WhatIf report) = (flat 3, (changes_shallow report.changes, tt))
+net_shallow (net.Right count) = (flat 3, (flat 3, tt))
+net_shallow (net.Wrong dest complaint) = (flat 3, (flat 3, (flat 3, (flat 3, tt))))
+net_shallow (net.Picture file picture) = (flat 3, tt)
+net_shallow (net.Drawn file) = (flat 3, tt)
 
-refused_readable : (words : List (List ℕ)) → AreReadable 3 (refused words)
-refused_readable [] = tt
-refused_readable (n ∷ []) = tt
-refused_readable (n ∷ name ∷ values) = (
-  deeper 0 3 _ (omega arith) (value_readable n),
-  (deeper 0 3 _ (omega arith) (string_readable name), both_readable 3 _ _ (names_up (value_names name) values) (place_readable (drop (length (value_names name)) values))),
-)
+edit_shallow : (r : Refusal) → AreShallow 3 (edit_values r)
+edit_shallow (edit.Joined id) = (flat 3, tt)
+edit_shallow (edit.BadRow point why) = (flat 3, (flat 3, tt))
+edit_shallow r = tt
 
-members_readable : (line : List ℕ) (words : List (List ℕ)) → AreReadable 3 (members_of line words)
-members_readable line [] = tt
-members_readable line (word ∷ rest) =
-    either_readable 3 (bytes_eq word (codes "refused")) _ _ (refused_readable rest) (deeper 0 3 _ (omega arith) (string_readable word), told_readable line word rest)
+number_shallow : (o : Option ℕ) → depth (number_if o) ≤ 3
+number_shallow None = flat 3
+number_shallow (Some n) = flat 3
 
-pub object_reads : (line : List ℕ) → document (object_text line) ≡ Some (object_of line)
-object_reads line =
-    let whole = object_readable 3 (members_of line (words_of line)) (members_readable line (words_of line)) in
-    let deep = whole.deep in
-    document-print (object_of line) whole.numbers (omega arith)
+desk_shallow : (r : DeskRefusal) → AreShallow 3 (desk_values r)
+desk_shallow (desk.Edit refusal) = edit_shallow refusal
+desk_shallow (desk.Gap next) = (flat 3, tt)
+desk_shallow (desk.Old last) = (flat 3, tt)
+desk_shallow (desk.NotReady left) = (flat 3, tt)
+desk_shallow (desk.Stale target) = (number_shallow target, tt)
+desk_shallow r = tt
+
+reason_shallow : (why : Reason) → AreShallow 3 (reason_values why)
+reason_shallow (reason.Desk refusal) = desk_shallow refusal
+reason_shallow (reason.Event refused) = both (λ (m : Member). depth m.1 ≤ 3) (edit_values refused.refusal) _ (edit_shallow refused.refusal) (flat 3, tt)
+reason_shallow why = tt
+
+answer_shallow : (a : Answer) → AreShallow 3 (answer_members a)
+answer_shallow (answer.Reply r) = reply_shallow r
+answer_shallow (answer.Publication p) = publication_shallow p
+answer_shallow (answer.Row r) = (flat 3, row_shallow r)
+answer_shallow (answer.Net n) = (flat 3, net_shallow n)
+answer_shallow (answer.Help text) = (flat 3, (flat 3, tt))
+answer_shallow (answer.Refused why) = (flat 3, (flat 3, reason_shallow why))
+
+-- what reads back as the tokens of an answer's object reads as that object
+pub answer_reads : (a : Answer) (text : List ℕ) → tokens text ≡ json_tokens (answer_object a) → document text ≡ Some (answer_object a)
+answer_reads a text lexed =
+    let deep = object_shallow 3 (answer_members a) (answer_shallow a) in
+    ap (option_and_then (λ p. if_last p.0 p.1))
+    (ap (value max_depth) (lexed ∙ sym (append-nil (json_tokens (answer_object a)))) ∙ value-json_tokens (answer_object a) max_depth [] (omega arith))

@@ -1,6 +1,7 @@
 pub mod Members
-pub mod Words
-pub mod Lists
+pub mod Values
+pub mod Refusals
 pub mod Objects
-pub mod Told
-pub mod Streams
+pub mod Form
+pub mod Checks
+pub mod Filing

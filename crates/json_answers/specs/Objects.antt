@@ -1,155 +1,232 @@
--- An answer as an object of JSON (own): its words under names, by the first of them. docs/JSON.md has an example of each.
-use Rattle.std.specs.Prelude.{ℕ, ◌==◌, ◌||◌, Bool, false, if◌then◌else◌, List, [], ◌∷◌, ◌++◌, length, drop, Option, Some, None, codes}
-use Rattle.std.specs.List.{after_first}
-use Rattle.std.specs.Option.{option_map_or}
-use Rattle.std.specs.Str.{bytes_eq}
-use Rattle.json.specs.Json.{Json, string, array}
-use Rattle.json.specs.Print.{print}
-use Rattle.json.specs.Tree.{json_tokens}
+-- An answer as an object of JSON (own), by its values. docs/JSON.md has an example of each.
+use Rattle.std.specs.Prelude.{ℕ, ◌==◌, ◌/◌, ◌%◌, true, if◌then◌else◌, List, [], ◌∷◌, ◌++◌, Option, Some, None, map, codes}
+use Rattle.std.specs.List.{after_first, flat_map}
+use Rattle.std.specs.Fmt.{digit_glyph}
+use Rattle.json.specs.Json.{Json, null, boolean, string, array}
 use Rattle.json.specs.Value.{items_of}
-use Rattle.tokens.specs.Words.{words_of}
-use Rattle.json_answers.specs.declared.parts.Separator.{Separator}
-use Rattle.json_answers.specs.declared.parts.Separator.TheVariants.{Colon, Angle, Space}
+use Rattle.point_codes.specs.Codes.{code_text}
+use Rattle.net_items.specs.declared.links.Link.{Link}
+use Rattle.profile.specs.declared.hops.Hop.{Hop}
+use Rattle.profile.specs.declared.hops.Trace.{Trace}
+use Rattle.profile.specs.declared.tables.LinkRef.{LinkRef}
+use Rattle.profile.specs.declared.tables.Message.{Message}
+use Rattle.route_choice.specs.declared.choices.Choice.{Choice}
+use Rattle.route_choice.specs.declared.choices.Far.{Far}
+use Rattle.route_choice.specs.declared.choices.Far.TheVariants.{Allowed, Restricted, Prohibited}
+use Rattle.transfer_state.specs.declared.complaints.Complaint.{Complaint}
+use Rattle.tokens.specs.Marked.{marked_text}
+use Rattle.tokens.specs.declared.marked.Format.TheVariants.{Two}
+use Rattle.what_if.specs.declared.changes.Change.{Change}
+use Rattle.what_if.specs.declared.mending.SetLink.{SetLink}
+use Rattle.what_if.specs.declared.reports.Report.{Report}
+use Rattle.answers.specs.Audits.{clause_letter}
+use Rattle.answers.specs.Messages.{message_kind_text}
+use Rattle.answers.specs.Status.{far_text}
+use Rattle.answers.specs.declared.answer.Answer.{Answer}
+use Rattle.answers.specs.declared.answer.Answer.TheVariants as answer
+use Rattle.answers.specs.declared.answer.NetAnswer.{NetAnswer}
+use Rattle.answers.specs.declared.answer.NetAnswer.TheVariants as net
+use Rattle.answers.specs.declared.answer.Publication.{Publication}
+use Rattle.answers.specs.declared.answer.Publication.TheVariants as publication
+use Rattle.answers.specs.declared.answer.Reply.{Reply}
+use Rattle.answers.specs.declared.answer.Reply.TheVariants as reply
+use Rattle.answers.specs.declared.answer.RowAnswer.{RowAnswer}
+use Rattle.answers.specs.declared.answer.RowAnswer.TheVariants as row
+use Rattle.answers.specs.declared.ways.Offer.{Offer}
+use Rattle.answers.specs.declared.ways.Offer.TheVariants as offer
+use Rattle.answers.specs.declared.ways.Way.{Way}
 use Rattle.json_answers.specs.Members.{Member, object_with}
-use Rattle.json_answers.specs.Words.{value_of, named}
-use Rattle.json_answers.specs.Lists.{listed, changes, ways}
+use Rattle.json_answers.specs.Refusals.{reason_members}
+use Rattle.json_answers.specs.Values.{code_member, list_member, members_text, number_member, numbered_members, text_member, word_member}
 
--- the names of the values of a desk's refusal, by its name
-abbrev pub desk_value_names : List ℕ → List (List ℕ)
-desk_value_names name =
-    if bytes_eq name (codes "Gap") then codes "next" ∷ []
-    else if bytes_eq name (codes "Old") then codes "last" ∷ []
-    else if bytes_eq name (codes "NotReady") then codes "left" ∷ []
-    else if bytes_eq name (codes "Stale") then codes "target" ∷ []
-    else []
+-- what the desk replies
+abbrev pub reply_members : Reply → List Member
+reply_members (reply.Taken n) = numbered_members (codes "taken") (codes "number") n
+reply_members (reply.Again n) = numbered_members (codes "again") (codes "number") n
+reply_members (reply.Opened opened) = word_member (codes "opened") ∷ number_member (codes "target") opened.target ∷ number_member (codes "waiting") opened.waiting ∷ []
+reply_members (reply.Job version dest) = word_member (codes "job") ∷ number_member (codes "version") version ∷ code_member (codes "destination") dest ∷ []
+reply_members reply.Given = word_member (codes "given") ∷ []
+reply_members reply.Abandoned = word_member (codes "abandoned") ∷ []
+reply_members (reply.Version n accepted) = word_member (codes "version") ∷ number_member (codes "published") n ∷ number_member (codes "accepted") accepted ∷ []
+reply_members (reply.Watch is_on) = word_member (codes "watch") ∷ text_member (codes "text") (if is_on then codes "on" else codes "off") ∷ []
 
--- the names of a refusal's values, by its name
-abbrev pub value_names : List ℕ → List (List ℕ)
-value_names name =
-    if bytes_eq name (codes "Joined") then codes "set" ∷ []
-    else if bytes_eq name (codes "BadRow") then codes "point" ∷ codes "cause" ∷ []
-    else desk_value_names name
+-- a status, null if there is no row
+abbrev pub status_value : Option Far → Json
+status_value None = null
+status_value (Some far) = string (far_text far)
 
--- ` at PLACE` behind the values, in a what-if
-abbrev pub place_in : List (List ℕ) → List Member
-place_in (at ∷ place ∷ []) = (codes "at", value_of place) ∷ []
-place_in words = []
+-- a change: the point, the destination, and the status before and after
+abbrev pub change_members : Change → List Member
+change_members change =
+    code_member (codes "point") change.point ∷ code_member (codes "destination") change.dest ∷ (codes "before", status_value change.before) ∷ (codes "after", status_value change.after) ∷ []
 
--- `refused NUMBER NAME VALUES`, and ` at PLACE` in a what-if
-abbrev pub refused : List (List ℕ) → List Member
-refused (number ∷ name ∷ values) =
-    (codes "refused", value_of number) ∷ ((codes "name", string name) ∷ (named (value_names name) values ++ place_in (drop (length (value_names name)) values)))
-refused words = []
+-- changes, and the number of the version that they lead to, behind a word
+abbrev pub told_changes : List ℕ → ℕ → List Change → List Member
+told_changes word n changes = word_member word ∷ number_member (codes "published") n ∷ list_member (codes "changes") change_members changes ∷ []
 
--- the names of what a check of a file tells behind its word
-abbrev pub check_names : List ℕ → Option (List (List ℕ))
-check_names word =
-    if bytes_eq word (codes "ok") then Some (codes "plans" ∷ [])
-    else if bytes_eq word (codes "bad") then Some (codes "destination" ∷ codes "point" ∷ codes "complaint" ∷ [])
-    else None
+-- what was published; what that changed is an object of its own
+abbrev pub publication_members : Publication → List Member
+publication_members (publication.Published n changes) = numbered_members (codes "published") (codes "version") n
+publication_members (publication.Synced n changes) = numbered_members (codes "synced") (codes "version") n
+publication_members (publication.Changes n changes) = told_changes (codes "changes") n changes
 
--- the names of what the desk tells of a target and its jobs behind the word
-abbrev pub job_names : List ℕ → Option (List (List ℕ))
-job_names word =
-    if bytes_eq word (codes "opened") then Some (codes "target" ∷ [] ∷ codes "waiting" ∷ [])
-    else if bytes_eq word (codes "job") then Some (codes "version" ∷ codes "destination" ∷ [])
-    else if bytes_eq word (codes "given") || bytes_eq word (codes "abandoned") then Some []
-    else check_names word
+-- a point, none at a place without one
+abbrev pub via_items : Option ℕ → List Json
+via_items None = []
+via_items (Some code) = string (code_text code) ∷ []
 
--- the names of what a reply tells behind its word: words one for one, of which the unnamed aren't told
-abbrev pub reply_names : List ℕ → Option (List (List ℕ))
-reply_names word =
-    if bytes_eq word (codes "taken") || bytes_eq word (codes "again") then Some (codes "number" ∷ [])
-    else if bytes_eq word (codes "synced") || bytes_eq word (codes "published") then Some (codes "version" ∷ [])
-    else if bytes_eq word (codes "version") then Some (codes "published" ∷ [] ∷ codes "accepted" ∷ [])
-    else job_names word
+-- no class is used
+abbrev pub unused_members : List Member
+unused_members = text_member (codes "status") (codes "prohibited") ∷ (codes "class", null) ∷ (codes "by", array (items_of [])) ∷ []
 
-abbrev pub is_ok : List (List ℕ) → Bool
-is_ok [] = false
-is_ok (word ∷ words) = bytes_eq word (codes "ok")
+-- a class is used: the status, the class and its vias
+abbrev pub used_members : Choice → List Member
+used_members c = text_member (codes "status") (far_text c.status) ∷ number_member (codes "class") c.class ∷ (codes "by", array (items_of (flat_map via_items c.members))) ∷ []
 
--- the names of what an audit tells
-abbrev pub audit_names : List (List ℕ) → List (List ℕ)
-audit_names words =
-    if is_ok words then codes "result" ∷ codes "plans" ∷ []
-    else codes "result" ∷ codes "destination" ∷ codes "point" ∷ codes "complaint" ∷ []
+-- what a row uses
+abbrev pub choice_members : Choice → List Member
+choice_members c = if c.class == 0 then unused_members else used_members c
 
--- `ID:SLC`
-abbrev pub link_parts : List (List ℕ × Separator)
-link_parts = (codes "set", Colon) ∷ (codes "link", Space) ∷ []
+-- a link, by its set and its signalling link code
+abbrev pub link_members : LinkRef → List Member
+link_members link = number_member (codes "set") link.id ∷ number_member (codes "link") link.slc ∷ []
 
--- `TFA>CODE`
-abbrev pub message_parts : List (List ℕ × Separator)
-message_parts = (codes "message", Angle) ∷ (codes "to", Space) ∷ []
+-- the link of a signalling link selection, none if there is none
+abbrev pub link_items : Option LinkRef → List Json
+link_items None = []
+link_items (Some link) = object_with (link_members link) ∷ []
 
--- `ID:MARKED`
-abbrev pub mend_parts : List (List ℕ × Separator)
-mend_parts = (codes "set", Colon) ∷ (codes "marked", Space) ∷ []
+-- the link of each signalling link selection, null for class 0
+abbrev pub links_value : ℕ → List (Option LinkRef) → Json
+links_value class links = if class == 0 then null else array (items_of (flat_map link_items links))
 
--- `ID:SLC>CODE`
-abbrev pub hop_parts : List (List ℕ × Separator)
-hop_parts = (codes "set", Colon) ∷ (codes "link", Angle) ∷ (codes "to", Space) ∷ []
+-- a message: its kind and its receiver
+abbrev pub message_members : Message → List Member
+message_members m = text_member (codes "message") (message_kind_text m.kind) ∷ code_member (codes "to") m.to ∷ []
 
--- `STATUS class N by CODE CODE`
-abbrev pub status_answer : List (List ℕ) → List Member
-status_answer words = named (codes "status" ∷ [] ∷ codes "class" ∷ [] ∷ []) words ++ (codes "by", listed [] (drop 4 words)) ∷ []
+-- an octet in two hexadecimal digits
+abbrev pub octet_value : ℕ → Json
+octet_value octet = string (digit_glyph true (octet / 16) ∷ digit_glyph true (octet % 16) ∷ [])
 
--- `STATUS ; WAY ; WAY ..`
-abbrev pub why_answer : List (List ℕ) → List Member
-why_answer words = named (codes "status" ∷ []) words ++ (codes "ways", array (items_of (ways (drop 1 words)))) ∷ []
+-- the octets of a message, null if there is none
+abbrev pub octets_value : Option (List ℕ) → Json
+octets_value None = null
+octets_value (Some octets) = array (items_of (map octet_value octets))
 
--- `reached ID:SLC>CODE ..` or `stopped`
-abbrev pub trace_answer : List (List ℕ) → List Member
-trace_answer words =
-    named (codes "result" ∷ []) words ++ (codes "hops", listed hop_parts (drop 1 words)) ∷ []
+-- a link that has to be restored: its set, and the link with its marks
+abbrev pub mend_members : SetLink → List Member
+mend_members l = number_member (codes "set") l.id ∷ text_member (codes "marked") (marked_text Two l.link) ∷ []
 
--- `WORD CHANGE ..`: a word under a name, and the changes
-abbrev pub with_changes : List ℕ → List (List ℕ) → List Member
-with_changes name words = named (name ∷ []) words ++ (codes "changes", array (items_of (changes (drop 1 words)))) ∷ []
+-- the links that have to be restored, null if no restoring does it
+abbrev pub mend_member : Option (List SetLink) → Member
+mend_member None = (codes "links", null)
+mend_member (Some links) = list_member (codes "links") mend_members links
 
--- what an answer that lists words with parts tells, the file of `picture FILE`, and of any other answer its text behind the word
-abbrev pub list_answer : List ℕ → List ℕ → List (List ℕ) → List Member
-list_answer line word rest =
-    if bytes_eq word (codes "sls") then (codes "links", listed link_parts rest) ∷ []
-    else if bytes_eq word (codes "messages") then (codes "messages", listed message_parts rest) ∷ []
-    else if bytes_eq word (codes "mend") then (codes "links", listed mend_parts rest) ∷ []
-    else if bytes_eq word (codes "picture") then (codes "file", string (after_first (λ b. b == 32) line)) ∷ []
-    else (codes "text", string (after_first (λ b. b == 32) line)) ∷ []
+-- the reason of a way over a point that an available set reaches
+abbrev pub far_reason : Far → List ℕ
+far_reason Allowed = codes "ok"
+far_reason Restricted = codes "restricted"
+far_reason Prohibited = codes "prohibited"
 
--- what the answer to a question about a row tells
-abbrev pub row_answer : List ℕ → List ℕ → List (List ℕ) → List Member
-row_answer line word rest =
-    if bytes_eq word (codes "status") then status_answer rest
-    else if bytes_eq word (codes "why") then why_answer rest
-    else if bytes_eq word (codes "octets") then (codes "octets", listed [] rest) ∷ []
-    else list_answer line word rest
+-- a link with its marks
+abbrev pub marked_value : Link → Json
+marked_value link = string (marked_text Two link)
 
--- what an answer from the whole version tells
-abbrev pub version_answer : List ℕ → List ℕ → List (List ℕ) → List Member
-version_answer line word rest =
-    if bytes_eq word (codes "trace") then trace_answer rest
-    else if bytes_eq word (codes "whatif") then with_changes (codes "result") rest
-    else if bytes_eq word (codes "changes") then with_changes (codes "published") rest
-    else if bytes_eq word (codes "audit") then named (audit_names rest) rest
-    else row_answer line word rest
+-- the reason of a way: the status of the via, or the set that isn't available, with each of its links
+abbrev pub offer_members : Offer → List Member
+offer_members (offer.Far far) = text_member (codes "reason") (far_reason far) ∷ []
+offer_members (offer.Down id links) =
+    text_member (codes "reason") (codes "down") ∷ number_member (codes "set") id ∷ (codes "links", array (items_of (map marked_value links))) ∷ []
+offer_members offer.Unjoined = []
 
--- what an answer with this word tells behind it
-unfoldable pub told : List ℕ → List ℕ → List (List ℕ) → List Member
-told line word rest = option_map_or (λ names. named names rest) (reply_names word) (version_answer line word rest)
+-- a way of a row: its class, the via, the reason, and whether it is used
+abbrev pub way_members : Way → List Member
+way_members way = number_member (codes "class") way.class ∷ code_member (codes "via") way.over ∷ (offer_members way.offer ++ (codes "used", boolean way.used) ∷ [])
 
--- the members of an answer's object, by the words of its line: a refusal has its number, any other its word
-abbrev pub members_of : List ℕ → List (List ℕ) → List Member
-members_of line [] = []
-members_of line (word ∷ rest) = if bytes_eq word (codes "refused") then refused rest else (codes "word", string word) ∷ told line word rest
+-- the word of what is told of a row
+abbrev pub row_word : RowAnswer → List ℕ
+row_word (row.Status choice) = codes "status"
+row_word (row.Links class links) = codes "sls"
+row_word (row.Messages messages) = codes "messages"
+row_word (row.Octets octets) = codes "octets"
+row_word (row.Why far ways) = codes "why"
+row_word (row.Mend links) = codes "mend"
 
--- the text of the object with these members
-abbrev pub members_text : List Member → List ℕ
-members_text ms = print (json_tokens (object_with ms))
+-- what is told behind it
+abbrev pub row_values : RowAnswer → List Member
+row_values (row.Status choice) = choice_members choice
+row_values (row.Links class links) = (codes "links", links_value class links) ∷ []
+row_values (row.Messages messages) = list_member (codes "messages") message_members messages ∷ []
+row_values (row.Octets octets) = (codes "octets", octets_value octets) ∷ []
+row_values (row.Why far ways) = text_member (codes "status") (far_text far) ∷ list_member (codes "ways") way_members ways ∷ []
+row_values (row.Mend links) = mend_member links ∷ []
+
+-- what is told of a row
+abbrev pub row_members : RowAnswer → List Member
+row_members r = word_member (row_word r) ∷ row_values r
+
+-- a hop: its link, and the point that it reaches
+abbrev pub hop_members : Hop → List Member
+hop_members hop = link_members hop.link ++ code_member (codes "to") hop.to ∷ []
+
+-- whether a trace reaches the destination, and its hops
+abbrev pub traced_members : List ℕ → List Hop → List Member
+traced_members end hops = text_member (codes "result") end ∷ list_member (codes "hops") hop_members hops ∷ []
+
+-- where a signalling link selection leads: no hops if it is nowhere
+abbrev pub trace_members : Trace → List Member
+trace_members (Trace.Reached hops) = traced_members (codes "reached") hops
+trace_members Trace.Stopped = traced_members (codes "stopped") []
+
+-- what events would change
+abbrev pub report_members : Report → List Member
+report_members report =
+    text_member (codes "result") (if report.denied then codes "denied" else codes "granted") ∷ list_member (codes "changes") change_members report.changes ∷ []
+
+-- a wrong table: its destination, and the point and the letter of the first complaint
+abbrev pub complaint_members : ℕ → Complaint → List Member
+complaint_members dest complaint =
+    code_member (codes "destination") dest ∷ code_member (codes "point") complaint.point ∷ text_member (codes "complaint") (clause_letter complaint.clause) ∷ []
+
+-- the word of what is told of the whole network
+abbrev pub net_word : NetAnswer → List ℕ
+net_word (net.Trace trace) = codes "trace"
+net_word (net.WhatIf report) = codes "whatif"
+net_word (net.Right count) = codes "audit"
+net_word (net.Wrong dest complaint) = codes "audit"
+net_word (net.Picture file picture) = codes "picture"
+net_word (net.Drawn file) = codes "picture"
+
+-- what is told behind it
+abbrev pub net_values : NetAnswer → List Member
+net_values (net.Trace trace) = trace_members trace
+net_values (net.WhatIf report) = report_members report
+net_values (net.Right count) = text_member (codes "result") (codes "ok") ∷ number_member (codes "plans") count ∷ []
+net_values (net.Wrong dest complaint) = text_member (codes "result") (codes "bad") ∷ complaint_members dest complaint
+net_values (net.Picture file picture) = text_member (codes "file") file ∷ []
+net_values (net.Drawn file) = text_member (codes "file") file ∷ []
+
+-- what is told of the whole network
+abbrev pub net_members : NetAnswer → List Member
+net_members n = word_member (net_word n) ∷ net_values n
+
+-- what `help` tells, without the word itself
+abbrev pub help_members : List ℕ → List Member
+help_members text = word_member (codes "help") ∷ text_member (codes "text") (after_first (λ b. b == 32) text) ∷ []
+
+-- the members of an answer's object
+abbrev pub answer_members : Answer → List Member
+answer_members (answer.Reply r) = reply_members r
+answer_members (answer.Publication p) = publication_members p
+answer_members (answer.Row r) = row_members r
+answer_members (answer.Net n) = net_members n
+answer_members (answer.Help text) = help_members text
+answer_members (answer.Refused why) = reason_members why
 
 -- the object of an answer
-abbrev pub object_of : List ℕ → Json
-object_of line = object_with (members_of line (words_of line))
+abbrev pub answer_object : Answer → Json
+answer_object a = object_with (answer_members a)
 
 -- its text
-abbrev pub object_text : List ℕ → List ℕ
-object_text line = members_text (members_of line (words_of line))
+abbrev pub object_text : Answer → List ℕ
+object_text a = members_text (answer_members a)

@@ -1,28 +1,34 @@
 //! Answers as objects of JSON (all own).
 //!
-//! 1. Each answer is one object on a line of its own, with `word`, the answer's first word, and what follows under names; a refusal
-//!    has `refused`, its number, and `name` instead. Numbers are numbers, `none` is null, and any other word is a text.
-//! 2. What an answer lists is an array: of texts, or of objects if its words have parts between separators, as `ID:SLC`.
-//! 3. The answer of `help`, and one whose word has no names here, has all that follows its word under `text`.
-//! 4. The laws say of each answer what its object tells, by the values that are answered, and that the object's text reads as it.
+//! 1. Each answer is one object on a line of its own, made of the values of the answer. It has `word`, which tells what it is, and the
+//!    values under names; a refusal has `refused`, its number, and `name` instead, and then its values.
+//! 2. Numbers are numbers, codes and words are texts, and null stands where there is nothing. What an answer lists is an array: of
+//!    objects, or of texts.
+//! 3. What a publication changed, if that is told, is an object of its own behind that of the publication: the notice.
+//! 4. An answer is printed in a form: in text, or as objects.
+//! 5. The text of an answer's object reads as that object.
+//! 6. A check of a file, and an explanation, are objects too.
+//! 7. Who tells the answers to a script in a form may have a clerk put its pictures into files, and see each answer before it is told.
 //!
-//! 5. Answers that are written in pieces are cut at line feeds. A line that is told behind a reply has the object of the answer to
-//!    `changes`, without its mark `*`.
-//!
-//! Stands on `answers`, `sessions`, `tokens`, `script_words`, `json`. A change here also changes specs/ (Lists, Members, Objects, Streams,
-//! Told, Words), proofs/ and must-fail/.
+//! Stands on `answers`, `tokens`, `json`. A change here also changes specs/ (Checks, Filing, Form, Members, Objects, Refusals, Values), proofs/ and
+//! must-fail/.
 #![tactic(auto)]
 
-pub mod laws;
-mod lists;
+pub mod checks;
+pub mod filing;
+pub mod form;
 mod members;
+mod nets;
 pub mod objects;
-pub mod parts;
-pub mod streams;
+mod refusals;
+mod replies;
+mod rows;
+pub mod texts;
+mod told;
 mod ways;
 
-pub use laws::{
-    fixed_law, object_law, plain_law, refusals_law, replies_law, rows_law, versions_law, why_law,
-};
-pub use objects::{write_object, write_texts};
-pub use streams::Front;
+pub use checks::{write_right, write_wrong};
+pub use filing::{Clerk, Filing};
+pub use form::Form;
+pub use objects::write_object;
+pub use texts::write_texts;

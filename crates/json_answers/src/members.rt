@@ -1,104 +1,105 @@
-//! Members of an object, written from words.
+//! Members of an object, by the values that they tell.
 
-ghost use Rattle.std.specs.Prelude.{◌≡◌, ◌∷◌, [], OnOk, map, drop};
-ghost use Rattle.json.specs.Json.{string};
-ghost use Rattle.json.specs.Tree.{json_tokens};
+ghost use Rattle.std.specs.Prelude.{◌≡◌, ◌==◌, ◌∷◌, [], OnOk, codes};
+ghost use Rattle.std.specs.List.{after_first, before_first};
+ghost use Rattle.json.specs.Json.{null, number};
+ghost use Rattle.json.specs.Print.{IsNumber};
 ghost use Rattle.json_answers.specs.Members.{Adds, member_tokens};
-ghost use Rattle.json_answers.specs.Words.{is_number as is_number_text, value_of, member_if, first_value, named, parted};
+ghost use Rattle.json_answers.specs.Values.{code_member, number_member, numbered_members, text_member, word_member};
 
-use crate::parts::{Separator, cut};
 use json::Writer;
-use std::alloc::AllocError;
+use point_codes::PointCode;
+use std::alloc::{AllocError, Global};
 
-/// Whether a word is a number of JSON.
-fn is_number(word: &str) -> bool
-    ensures { result ≡ is_number_text word.now }
+/// What comes before the first space of a text; all if there is none.
+pub fn before_space(text: &str) -> &str
+    ensures { result.now ≡ before_first (λ b. b == 32) text.entry.now }
 {
-    json::is_number(word)
+    match text.split_once(' ') {
+        Some((front, _)) => front,
+        None => text,
+    }
 }
 
-/// Writes a word as a value: null for `none`, a number, or a text.
-pub fn put_value(writer: &mut Writer, word: &str) -> Result<(), AllocError>
-    ensures { OnOk result (Adds writer.old writer.new (json_tokens (value_of word.now))) }
+/// What comes after the first space of a text; nothing if there is none.
+pub fn after_space(text: &str) -> &str
+    ensures { result.now ≡ after_first (λ b. b == 32) text.entry.now }
 {
-    if word == "none" {
-        return writer.null();
+    match text.split_once(' ') {
+        Some((_, rest)) => rest,
+        None => "",
     }
-    if is_number(word) {
-        return writer.number(word);
-    }
-    writer.string(word)
-}
-
-/// Writes a member whose value is a word.
-pub fn put_member(writer: &mut Writer, name: &str, word: &str) -> Result<(), AllocError>
-    ensures { OnOk result (Adds writer.old writer.new (member_tokens ((name.now, value_of word.now) ∷ []))) }
-{
-    writer.key(name)?;
-    put_value(writer, word)
 }
 
 /// Writes a member whose value is a text.
 pub fn put_text(writer: &mut Writer, name: &str, text: &str) -> Result<(), AllocError>
-    ensures { OnOk result (Adds writer.old writer.new (member_tokens ((name.now, string text.now) ∷ []))) }
+    ensures { OnOk result (Adds writer.old writer.new (member_tokens (text_member name.now text.now ∷ []))) }
 {
     writer.key(name)?;
     writer.string(text)
 }
 
-/// Writes a member whose value is a word, if it has a name.
-fn put_if(writer: &mut Writer, name: &str, word: &str) -> Result<(), AllocError>
-    ensures { OnOk result (Adds writer.old writer.new (member_tokens (member_if name.now (value_of word.now)))) }
+/// Writes a member whose value is a number.
+pub fn put_number(writer: &mut Writer, name: &str, number: u64) -> Result<(), AllocError>
+    ensures { OnOk result (Adds writer.old writer.new (member_tokens (number_member name.now number ∷ []))) }
 {
-    if name.is_empty() {
-        return Ok(());
-    }
-    put_member(writer, name, word)
+    writer.key(name)?;
+    writer.u64(number)
 }
 
-/// The first word, or `none` if there is no word.
-fn first_word<'a>(words: &[&'a str]) -> &'a str
-    ensures { value_of result.now ≡ first_value (map (λ w. w.now) words.now) }
+/// Writes a member whose value is a number that stands in text.
+pub fn put_digits(writer: &mut Writer, name: &str, digits: &str) -> Result<(), AllocError>
+    requires { IsNumber digits.now }
+    ensures { OnOk result (Adds writer.old writer.new (member_tokens ((name.now, number digits.now) ∷ []))) }
 {
-    match words {
-        [word, ..] => *word,
-        [] => "none",
-    }
+    writer.key(name)?;
+    writer.number(digits)
 }
 
-/// The words behind the first ones.
-pub fn after<'a, 'b>(words: &'a [&'b str], count: usize) -> &'a [&'b str]
-    ensures { map (λ w. w.now) result.now ≡ drop count (map (λ w. w.now) words.entry.now) }
+/// Writes the id of a set.
+pub fn put_set(writer: &mut Writer, id: u16) -> Result<(), AllocError>
+    ensures { OnOk result (Adds writer.old writer.new (member_tokens (number_member (codes "set") id ∷ []))) }
 {
-    &words[count.min(words.len())..]
+    put_number(writer, "set", u64::from(id))
 }
 
-/// Writes words under their names: a word whose name is empty isn't told, and a name without a word is null.
-pub fn put_named(writer: &mut Writer, names: &[&str], words: &[&str]) -> Result<(), AllocError>
-    ensures { OnOk result (Adds writer.old writer.new (member_tokens (named (map (λ n. n.now) names.now) (map (λ w. w.now) words.now)))) }
+/// Writes a member whose value is a code.
+pub fn put_code(
+    alloc: Global,
+    writer: &mut Writer,
+    name: &str,
+    code: PointCode,
+) -> Result<(), AllocError>
+    ensures { OnOk result (Adds writer.old writer.new (member_tokens (code_member name.now code ∷ []))) }
 {
-    let [name, more @ ..] = names else {
-        return Ok(());
-    };
-    put_if(writer, *name, first_word(words))?;
-    put_named(writer, more, after(words, 1))
+    let text = format!(in alloc; "{code}")?;
+    put_text(writer, name, text.as_str())
 }
 
-/// A part of a word: its name, and the separator that ends it.
-#[derive(Clone, Copy)]
-pub struct Part {
-    pub name: &'static str,
-    pub end: Separator,
+/// Writes a member whose value is null.
+pub fn put_null(writer: &mut Writer, name: &str) -> Result<(), AllocError>
+    ensures { OnOk result (Adds writer.old writer.new (member_tokens ((name.now, null) ∷ []))) }
+{
+    writer.key(name)?;
+    writer.null()
 }
 
-/// Writes a word in parts.
-pub fn put_parted(writer: &mut Writer, parts: &[Part], word: &str) -> Result<(), AllocError>
-    ensures { OnOk result (Adds writer.old writer.new (member_tokens (parted (map (λ p. (p.name.now, p.end)) parts.now) word.now))) }
+/// Writes the word of an answer.
+pub fn put_word(writer: &mut Writer, word: &str) -> Result<(), AllocError>
+    ensures { OnOk result (Adds writer.old writer.new (member_tokens (word_member word.now ∷ []))) }
 {
-    let [part, more @ ..] = parts else {
-        return Ok(());
-    };
-    let (front, rest) = cut(word, part.end);
-    put_member(writer, part.name, front)?;
-    put_parted(writer, more, rest)
+    put_text(writer, "word", word)
+}
+
+/// Writes the word of an answer, and a number.
+pub fn put_numbered(
+    writer: &mut Writer,
+    word: &str,
+    name: &str,
+    number: u64,
+) -> Result<(), AllocError>
+    ensures { OnOk result (Adds writer.old writer.new (member_tokens (numbered_members word.now name.now number))) }
+{
+    put_word(writer, word)?;
+    put_number(writer, name, number)
 }

@@ -16,6 +16,7 @@ mod questions;
 mod samples;
 mod scripts;
 mod tables;
+mod telling;
 
 use std::io;
 use std::sync::Wait;
@@ -79,6 +80,8 @@ fn tell_texts<R: Threads + Wait + Sync>(rt: &HostRuntime, threads: &R) -> io::Re
     tell(rt, "what_ifs", what_ifs)?;
     let texts = scripts::texts(alloc).or_else(|| scripts::texts(alloc));
     tell(rt, "texts", texts)?;
+    let told = telling::told(alloc).or_else(|| telling::told(alloc));
+    tell(rt, "told", told)?;
     let scripts = scripts::scripts(threads, alloc).or_else(|| scripts::scripts(threads, alloc));
     tell(rt, "scripts", scripts)
 }

@@ -13,6 +13,7 @@ use route_state::scripts::{
 };
 use route_state::tables::Table;
 use route_state::texts::{load, read_code, read_id, read_kind, read_row, read_slc, save};
+use route_state::told::Form;
 use std::alloc::Global;
 use std::sync::Wait;
 use std::thread::Threads;
@@ -81,7 +82,7 @@ fn runs_in_line(alloc: Global) -> Option<bool> {
     let net = worked(alloc)?;
     let mut reader = SCRIPT.as_bytes();
     let mut written: Vec<u8> = Vec::new(alloc);
-    let end = run_script(alloc, &mut reader, &mut written, net);
+    let end = run_script(alloc, &Form::Text, &mut reader, &mut written, net);
     is_answered(&end, written.as_slice())
 }
 
@@ -90,7 +91,7 @@ fn runs_behind_text(alloc: Global) -> Option<bool> {
     let text = format!(in alloc; "{WORKED}%%\n{SCRIPT}").ok()?;
     let mut reader = text.as_bytes();
     let mut written: Vec<u8> = Vec::new(alloc);
-    let end = run_input(alloc, &mut reader, &mut written);
+    let end = run_input(alloc, &Form::Text, &mut reader, &mut written);
     is_answered(&end, written.as_slice())
 }
 
@@ -98,7 +99,16 @@ fn runs_behind_text(alloc: Global) -> Option<bool> {
 fn runs_beside<R: Threads + Wait + Sync>(rt: &R, alloc: Global) -> Option<bool> {
     let written: Vec<u8> = Vec::new(alloc);
     let net = worked(alloc)?;
-    let end = run_beside(rt, alloc, 2, &Plain, SCRIPT.as_bytes(), written, net);
+    let end = run_beside(
+        rt,
+        alloc,
+        2,
+        &Plain,
+        &Form::Text,
+        SCRIPT.as_bytes(),
+        written,
+        net,
+    );
     is_answered(&end.end, end.writer.as_slice())
 }
 
@@ -106,17 +116,18 @@ fn runs_beside<R: Threads + Wait + Sync>(rt: &R, alloc: Global) -> Option<bool> 
 fn runs_text_beside<R: Threads + Wait + Sync>(rt: &R, alloc: Global) -> Option<bool> {
     let text = format!(in alloc; "{WORKED}%%\n{SCRIPT}").ok()?;
     let written: Vec<u8> = Vec::new(alloc);
-    let end = run_input_beside(rt, alloc, 2, &Plain, text.as_bytes(), written);
+    let end = run_input_beside(rt, alloc, 2, &Plain, &Form::Text, text.as_bytes(), written);
     is_answered(&end.end, end.writer.as_slice())
 }
 
 /// A session over the script.
-fn new_session(alloc: Global) -> Option<Vec<Channel<&'static [u8], Vec<u8>>>>
+fn new_session(alloc: Global) -> Option<Vec<Channel<&'static [u8], Vec<u8>, Form>>>
     ensures { IfSome result (λ channels. vec_len channels ≡ 1) }
 {
     let channel = Channel {
         reader: SCRIPT.as_bytes(),
         writer: Vec::new(alloc),
+        telling: Form::Text,
         posts: true,
         collector: 0,
     };
@@ -141,7 +152,7 @@ fn seats<R: Threads + Wait + Sync>(
     rt: &R,
     alloc: Global,
     net: Net,
-    channels: Vec<Channel<&'static [u8], Vec<u8>>>,
+    channels: Vec<Channel<&'static [u8], Vec<u8>, Form>>,
 ) -> Option<bool>
     requires { vec_len channels ≡ 1 }
 {
@@ -178,7 +189,7 @@ fn are_right<R: Threads + Sync>(
 ) -> Option<bool> {
     let wrong = check_tables(rt, alloc, net, tables).ok()?;
     let given = check_given(rt, alloc, net, tables).ok()?;
-    Some(tables.len() == 1 && wrong.is_none() && given.right)
+    Some(tables.len() == 1 && wrong.is_none() && given.wrong.is_none())
 }
 
 /// All tables of a network, checked.
@@ -190,7 +201,8 @@ fn checks_tables<R: Threads + Sync>(rt: &R, alloc: Global, net: &Frozen) -> Opti
 /// The same at once.
 fn checks_net<R: Threads + Sync>(rt: &R, alloc: Global, net: &Frozen) -> Option<bool> {
     let end = check_net(rt, alloc, net).ok()?;
-    Some(end.right && end.text.as_str() == "ok 1")
+    let said = end.write(alloc).ok()?;
+    Some(end.wrong.is_none() && said.as_str() == "ok 1")
 }
 
 /// All tables of the worked network, in both ways.

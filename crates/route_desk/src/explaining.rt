@@ -1,5 +1,5 @@
-//! A run whose refused lines are explained: what is read and what is answered passes through here, and each refused line gets a sentence
-//! on standard error.
+//! A run whose refused lines are explained: what is read of its network text is noted, and once answers were written it is said on standard
+//! error why lines were refused.
 
 use crate::notes::Notes;
 use crate::saying::say;
@@ -39,45 +39,42 @@ impl<'a, R: io::Read> io::Read for NotedReader<'a, R> {
     }
 }
 
-/// A writer of which it is noted what was answered, if there are notes.
+/// A writer of answers, behind which it is said why lines were refused, if there are notes.
 #[derive(Drop)]
-pub struct NotedWriter<'a, W: io::Write> {
+pub struct ExplainingWriter<'a, W: io::Write> {
     rt: &'a HostRuntime,
     notes: Option<&'a RefCell<Notes>>,
     writer: W,
 }
 
-impl<'a, W: io::Write> NotedWriter<'a, W> {
-    /// A writer, with the notes that it keeps.
+impl<'a, W: io::Write> ExplainingWriter<'a, W> {
+    /// A writer, with the notes of its script.
     pub fn new(
         rt: &'a HostRuntime,
         notes: Option<&'a RefCell<Notes>>,
         writer: W,
-    ) -> NotedWriter<'a, W> {
-        NotedWriter { rt, notes, writer }
+    ) -> ExplainingWriter<'a, W> {
+        ExplainingWriter { rt, notes, writer }
     }
 }
 
-/// Notes what was written, and tells what there is to say of it.
-fn note_written(rt: &HostRuntime, notes: &RefCell<Notes>, bytes: &[u8]) {
+/// Says what there is to say.
+fn say_noted(rt: &HostRuntime, notes: &RefCell<Notes>) {
     let Ok(mut notes) = notes.try_borrow_mut() else {
         return;
     };
-    let notes = &mut *notes;
-    for byte in bytes {
-        if let Some(sentence) = notes.write(*byte) {
-            say(rt, &[sentence.as_str()]);
-        }
+    for sentence in notes.take_unsaid().as_str().lines() {
+        say(rt, &[sentence]);
     }
 }
 
-impl<'a, W: io::Write> io::Write for NotedWriter<'a, W> {
+impl<'a, W: io::Write> io::Write for ExplainingWriter<'a, W> {
     ghost contents = { λ p. W.contents p.writer };
 
     fn write(&mut self, buf: &[u8]) -> io::Result<usize> {
         let written = self.writer.write(buf);
-        if let (Some(notes), Ok(count)) = (self.notes, &written) {
-            note_written(self.rt, notes, &buf[..*count]);
+        if let (Some(notes), Ok(_)) = (self.notes, &written) {
+            say_noted(self.rt, notes);
         }
         written
     }

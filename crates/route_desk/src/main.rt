@@ -40,8 +40,8 @@
 //! Stands on `net_saving`, `net_sheets`, `pictures`, `console`, `beside`, `serving`, `explanations`, `json_answers`, `command_line`, `clap`. Nothing else changes with it.
 #![tactic(auto)]
 
+mod clerks;
 mod drawing;
-mod drawn;
 mod endings;
 mod explaining;
 mod files;
@@ -51,7 +51,6 @@ mod keys;
 mod loading;
 mod missing;
 mod notes;
-mod objects;
 mod orders;
 mod places;
 mod reasons;
@@ -73,15 +72,17 @@ mod standing;
 mod streams;
 mod targets;
 mod terminal;
+mod tried;
 
 ghost use Rattle.std.specs.Prelude.{◌≤◌};
 ghost use Rattle.command_line.specs.Words.{IsWithin};
 
 use clap::Error;
+use clerks::Pictures;
 use command_line::{Order, WordFault, read_words};
 use console::Fault;
-use drawn::Pictures;
 use endings::{Saving, finish};
+use json_answers::Form;
 use orders::{check, draw, explain, export, import};
 use reports::{report, tell_bytes};
 use runs::{Manner, play_file, run_net};
@@ -172,6 +173,14 @@ fn pictures_of(no_files: bool) -> Pictures {
     Pictures::Written
 }
 
+/// The form of the answers, by whether they are to be objects of JSON.
+fn form_of(json: bool) -> Form {
+    if json {
+        return Form::Objects;
+    }
+    Form::Text
+}
+
 /// Does what the words of the command line ask for; a check, workers and sessions take threads.
 fn obey(
     rt: &HostRuntime,
@@ -191,7 +200,7 @@ fn obey(
         } => {
             let manner = Manner {
                 explained,
-                json,
+                form: form_of(json),
                 strict,
             };
             run(rt, threads, net, workers, save, manner)
@@ -206,7 +215,7 @@ fn obey(
         } => {
             let manner = Manner {
                 explained,
-                json,
+                form: form_of(json),
                 strict,
             };
             play(rt, net, steps, save, manner)
@@ -222,7 +231,7 @@ fn obey(
         } => {
             let manner = SeatManner {
                 explained,
-                json,
+                form: form_of(json),
                 pictures: pictures_of(no_files),
             };
             serve_seats(rt, threads, net, seats, workers, save, manner)

@@ -5,10 +5,11 @@ use crate::loading::load_file;
 use crate::reports::{report, tell, tell_bytes};
 use crate::saying::say;
 use crate::sheets::{FolderFault, describe, explain_folder, read_folder, write_folder};
+use answers::{Reason, reason_title};
 use console::{CheckEnd, Fault, check_net};
 use excerpts::Frozen;
 use explanations::{Explanation, explanations, find, write_explanation, write_titles};
-use json_answers::{write_object, write_texts};
+use json_answers::{write_right, write_texts, write_wrong};
 use net_data::Net;
 use net_saving::save;
 use std::alloc::{AllocError, Global};
@@ -31,14 +32,21 @@ fn check_tables(
     }
 }
 
-/// A line with a text, as an object of JSON if that is wanted.
-fn line_of(alloc: Global, text: &str, json: bool) -> Result<Vec<u8>, AllocError> {
-    let mut line = Vec::new(alloc);
-    if json {
-        return write_object(alloc, line, text);
+/// What a check found, as an object of JSON on a line.
+fn object_of(alloc: Global, end: &CheckEnd) -> Result<String, AllocError> {
+    match end.wrong {
+        None => write_right(alloc, end.count),
+        Some(wrong) => write_wrong(alloc, wrong.dest, wrong.complaint),
     }
-    line.extend_from_slice(text.as_bytes())?;
-    line.push(b'\n')?;
+}
+
+/// What a check found, on a line.
+fn line_of(alloc: Global, end: &CheckEnd, json: bool) -> Result<String, AllocError> {
+    if json {
+        return object_of(alloc, end);
+    }
+    let mut line = end.write(alloc)?;
+    line.push('\n')?;
     Ok(line)
 }
 
@@ -49,8 +57,8 @@ fn report_check(
     explained: bool,
     json: bool,
 ) -> io::Result<ExitCode> {
-    let told = tell_bytes(rt, line_of(rt.alloc(), end.text.as_str(), json), explained)?;
-    if end.right {
+    let told = tell(rt, line_of(rt.alloc(), end, json), explained)?;
+    if end.wrong.is_none() {
         return Ok(told);
     }
     Ok(ExitCode::from(1))
@@ -123,7 +131,8 @@ fn report_no_plan(rt: &HostRuntime, about: &str, explained: bool) -> io::Result<
             ],
         );
     }
-    eprintln!(rt; "route_desk: 26 NoPlan")?;
+    let title = reason_title(&Reason::NoPlan);
+    eprintln!(rt; "route_desk: {title}")?;
     Ok(ExitCode::from(1))
 }
 

@@ -4,8 +4,8 @@ use crate::keys::{KeyForm, Keys, entry_at, entry_without_text, form_of, name_of,
 use crate::places::{Place, place_at, place_of};
 use crate::saying::say;
 use crate::sentences::front_of;
-use console::{Fault, write_fault};
-use explanations::{explain_cause, explain_edit, find};
+use console::Fault;
+use explanations::{explain_cause, explain_edit};
 use net_data::Refusal;
 use net_text::{Key, LoadFault};
 use plan_rows::Cause;
@@ -248,19 +248,7 @@ pub fn explain_file(rt: &HostRuntime, name: &str, error: &io::Error) {
     }
 }
 
-/// The number of a fault in its text: `62` of `62 BadLine sets 4`, and `27` of `plans 1: 27 BadRow 2-1-1 a`.
-fn number_in(text: &str) -> &str {
-    let fault = match text.split_once(": ") {
-        Some((_, refusal)) => refusal,
-        None => text,
-    };
-    fault.split_ascii_whitespace().next().unwrap_or("")
-}
-
 /// Says what a fault of a run means.
 pub fn explain_fault(rt: &HostRuntime, fault: Fault) {
-    if let Ok(text) = write_fault(rt.alloc(), fault) {
-        let meaning = find(number_in(text.as_str())).map_or("", |explained| explained.meaning);
-        say(rt, &[meaning]);
-    }
+    say(rt, &[explanations::explain_fault(&fault).meaning]);
 }

@@ -3,15 +3,16 @@
 
 ghost use Rattle.std.specs.Prelude.{◌≤◌};
 
-use crate::drawn::{PictureWriter, Pictures};
-use crate::explaining::{NotedReader, NotedWriter};
+use crate::clerks::ScriptClerk;
+use crate::explaining::{ExplainingWriter, NotedReader};
 use crate::loading::{explain_input, load_file, open_file};
 use crate::notes::Notes;
-use crate::objects::{ObjectWriter, place_if};
-use crate::streams::{CountingWriter, Seen, SeenReader, SeenWriter};
+use crate::streams::{Seen, SeenReader, SeenWriter};
 use crate::terminal::{Prompting, greet, is_terminal};
+use answers::Telling;
 use beside::{run_beside, run_input_beside};
 use console::{Fault, ScriptEnd, run_input, run_script};
+use json_answers::{Filing, Form};
 use net_data::Net;
 use std::alloc::Global;
 use std::cell::RefCell;
@@ -26,8 +27,8 @@ use worker_pool::Plain;
 pub struct Manner {
     /// Whether each refused line and a fault is explained on standard error.
     pub explained: bool,
-    /// Whether each answer is an object of JSON.
-    pub json: bool,
+    /// The form of the answers.
+    pub form: Form,
     /// Whether nothing is saved, and the run doesn't end with 0, if a line was refused.
     pub strict: bool,
 }
@@ -65,44 +66,61 @@ fn input_notes(alloc: Global, explained: bool) -> Option<RefCell<Notes>> {
     None
 }
 
-/// Standard output, with what is done to the answers on their way there: pictures go to their files, the rest is noted, refusals are
-/// counted, and it is made objects of JSON if that is wanted.
-type Answers<'a> = PictureWriter<
-    'a,
-    Option<&'a RefCell<Notes>>,
-    NotedWriter<'a, CountingWriter<'a, ObjectWriter<'a, SeenWriter<'a, Printer<'a, HostRuntime>>>>>,
->;
+/// Standard output, of which it is seen why it fails, and behind which refused lines are explained if that is wanted.
+type Output<'a> = ExplainingWriter<'a, SeenWriter<'a, Printer<'a, HostRuntime>>>;
 
-/// The writer of a run's answers, with the notes that it keeps, and where it tells what is seen of it.
-fn answers_to<'a>(
+/// Standard output for the answers of a run, with the notes of its script, and where it tells what is seen of it.
+fn output_of<'a>(
+    rt: &'a HostRuntime,
+    notes: Option<&'a RefCell<Notes>>,
+    seen: &'a Seen,
+) -> Output<'a> {
+    ExplainingWriter::new(rt, notes, SeenWriter::new(seen, io::writer(rt)))
+}
+
+/// Who tells the answers of a run, with the notes of its script, and where it tells what is seen of it.
+fn telling_of<'a>(
     rt: &'a HostRuntime,
     notes: Option<&'a RefCell<Notes>>,
     seen: &'a Seen,
     manner: Manner,
-) -> Answers<'a> {
-    let output = SeenWriter::new(seen, io::writer(rt));
-    let place = place_if(manner.json, &seen.is_out_of_memory);
-    let objects = ObjectWriter::new(rt.alloc(), place, output);
-    let counted = CountingWriter::new(manner.strict.then_some(seen), objects);
-    let noted = NotedWriter::new(rt, notes, counted);
-    PictureWriter::new(rt, Pictures::Written, &seen.is_out_of_memory, notes, noted)
+) -> Filing<ScriptClerk<'a>> {
+    Filing {
+        form: manner.form,
+        clerk: ScriptClerk {
+            rt,
+            counted: manner.strict.then_some(seen),
+            notes,
+        },
+    }
 }
 
 /// Runs the script of a reader from a network, in line or beside that many workers.
-fn run_over<R: io::Read + Drop, W: io::Write + Drop>(
+fn run_over<T: Telling, R: io::Read + Drop, W: io::Write + Drop>(
     rt: &HostRuntime,
     threads: &(impl Threads + Wait + Sync),
     net: Net,
     workers: u32,
+    telling: &T,
     mut reader: R,
     mut writer: W,
 ) -> ScriptEnd
     requires { workers ≤ 32 }
 {
     if workers == 0 {
-        return run_script(rt.alloc(), &mut reader, &mut writer, net);
+        return run_script(rt.alloc(), telling, &mut reader, &mut writer, net);
     }
-    run_beside(threads, rt.alloc(), workers, &Plain, reader, writer, net).end
+    run_beside(
+        threads,
+        rt.alloc(),
+        workers,
+        &Plain,
+        telling,
+        reader,
+        writer,
+        net,
+    )
+    .end
 }
 
 /// Runs the script on standard input from a network, in line or beside that many workers.
@@ -123,26 +141,37 @@ fn run_from(
     let notes = script_notes(alloc, &net, manner.explained);
     let seen = Seen::new();
     let input = SeenReader::new(&seen, Prompting::new(rt, rt.reader(), wanted));
-    let reader = NotedReader::new(notes.as_ref(), input);
-    let writer = answers_to(rt, notes.as_ref(), &seen, manner);
-    let end = run_over(rt, threads, net, workers, reader, writer);
+    let reader = input;
+    let writer = output_of(rt, notes.as_ref(), &seen);
+    let telling = telling_of(rt, notes.as_ref(), &seen, manner);
+    let end = run_over(rt, threads, net, workers, &telling, reader, writer);
     Ended::new(end, seen)
 }
 
 /// Runs the network text and the script of an input, in line or beside that many workers.
-fn run_input_from<R: io::Read + Drop, W: io::Write + Drop>(
+fn run_input_from<T: Telling, R: io::Read + Drop, W: io::Write + Drop>(
     rt: &HostRuntime,
     threads: &(impl Threads + Wait + Sync),
     workers: u32,
+    telling: &T,
     mut reader: R,
     mut writer: W,
 ) -> ScriptEnd
     requires { workers ≤ 32 }
 {
     if workers == 0 {
-        return run_input(rt.alloc(), &mut reader, &mut writer);
+        return run_input(rt.alloc(), telling, &mut reader, &mut writer);
     }
-    run_input_beside(threads, rt.alloc(), workers, &Plain, reader, writer).end
+    run_input_beside(
+        threads,
+        rt.alloc(),
+        workers,
+        &Plain,
+        telling,
+        reader,
+        writer,
+    )
+    .end
 }
 
 /// Runs the network text and the script on standard input, in line or beside that many workers.
@@ -157,8 +186,9 @@ fn run_whole(
     let notes = input_notes(rt.alloc(), manner.explained);
     let seen = Seen::new();
     let reader = NotedReader::new(notes.as_ref(), SeenReader::new(&seen, rt.reader()));
-    let writer = answers_to(rt, notes.as_ref(), &seen, manner);
-    let end = run_input_from(rt, threads, workers, reader, writer);
+    let writer = output_of(rt, notes.as_ref(), &seen);
+    let telling = telling_of(rt, notes.as_ref(), &seen, manner);
+    let end = run_input_from(rt, threads, workers, &telling, reader, writer);
     if let (Some(notes), Some(Fault::Load(fault))) = (&notes, end.fault) {
         explain_input(rt, notes, Fault::Load(fault));
     }
@@ -174,9 +204,10 @@ fn play_seen<R: io::Read + Drop>(
     manner: Manner,
 ) -> ScriptEnd {
     let notes = script_notes(rt.alloc(), &net, manner.explained);
-    let mut reader = NotedReader::new(notes.as_ref(), script);
-    let mut writer = answers_to(rt, notes.as_ref(), seen, manner);
-    run_script(rt.alloc(), &mut reader, &mut writer, net)
+    let mut reader = script;
+    let mut writer = output_of(rt, notes.as_ref(), seen);
+    let telling = telling_of(rt, notes.as_ref(), seen, manner);
+    run_script(rt.alloc(), &telling, &mut reader, &mut writer, net)
 }
 
 /// Runs the script of a reader from a network, in line.

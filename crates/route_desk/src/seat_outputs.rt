@@ -1,10 +1,13 @@
-//! Where the answers of a seat go, and who is told why a picture isn't written.
+//! Where the answers of a seat go, and who files its pictures.
 
-use crate::drawn::Told;
+use crate::clerks::{Pictures, put_picture};
 use crate::reasons::write_reason;
 use crate::saying::say;
 use crate::seat_files::OutputKind;
 use crate::seat_text::SeatEntry;
+use answers::{Answer, Asked};
+use json_answers::Clerk;
+use std::alloc::{AllocError, Global};
 use std::fs::{File, OpenOptions};
 use std::io;
 use std::io::{ErrorKind, Printer, Write};
@@ -72,17 +75,39 @@ impl<'a> io::Write for SeatOutput<'a> {
     }
 }
 
-/// A seat whose pictures that aren't written are told on standard error, if that is wanted.
+/// Who files the pictures of a seat, and says why one isn't written, if that is wanted.
 #[derive(Drop)]
-pub struct SeatTold<'a> {
-    /// The name of the seat, none if nothing is told.
+pub struct SeatClerk<'a> {
+    pub rt: &'a HostRuntime,
+    /// What is done with pictures.
+    pub pictures: Pictures,
+    /// The name of the seat, none if nothing is said.
     pub seat: Option<&'a str>,
 }
 
-impl<'a> Told for SeatTold<'a> {
-    fn tell(&self, rt: &HostRuntime, file: &str, error: &io::Error) {
-        if let (Some(seat), Ok(reason)) = (self.seat, write_reason(rt.alloc(), file, error)) {
-            say(rt, &[seat, ": ", reason.as_str()]);
+impl<'a> SeatClerk<'a> {
+    /// Says why a picture isn't written to its file.
+    fn tell(&self, file: &str, error: &io::Error) {
+        if let (Some(seat), Ok(reason)) = (self.seat, write_reason(self.rt.alloc(), file, error)) {
+            say(self.rt, &[seat, ": ", reason.as_str()]);
         }
     }
+}
+
+impl<'a> Clerk for SeatClerk<'a> {
+    fn put(
+        &self,
+        _alloc: Global,
+        _asked: Asked<'_>,
+        file: &str,
+        picture: &str,
+    ) -> Result<bool, AllocError> {
+        let Some(error) = put_picture(self.rt, self.pictures, file, picture)? else {
+            return Ok(true);
+        };
+        self.tell(file, &error);
+        Ok(false)
+    }
+
+    fn see(&self, _alloc: Global, _asked: Asked<'_>, _answer: &Answer) {}
 }

@@ -3,6 +3,7 @@
 use crate::keys::Keys;
 use crate::reasons::is_unknown;
 use crate::seat_faults::{Flaw, MOST_SEATS, SeatsFault, doubled_of, fault_at};
+use json_answers::Form;
 use std::alloc::Global;
 use toml::{Table, Value};
 
@@ -17,8 +18,8 @@ pub struct SeatEntry {
     pub input: String,
     /// Where its answers go: a file, or `-`.
     pub output: String,
-    /// Whether its answers are objects of JSON, none if it isn't told.
-    pub json: Option<bool>,
+    /// The form of its answers, none if it isn't told.
+    pub form: Option<Form>,
     /// Whether it may post.
     pub posts: bool,
     /// The collector that posts its plain events.
@@ -71,14 +72,14 @@ fn name_of(alloc: Global, table: &Table) -> Result<String, Flaw> {
     Ok(name)
 }
 
-/// Whether the answers of a seat are objects of JSON, none if it isn't told.
-fn json_of(alloc: Global, table: &Table) -> Result<Option<bool>, Flaw> {
+/// The form of the answers of a seat, none if it isn't told.
+fn form_of(alloc: Global, table: &Table) -> Result<Option<Form>, Flaw> {
     let Some(form) = text_at(alloc, table, "answers")? else {
         return Ok(None);
     };
     match form.as_str() {
-        "text" => Ok(Some(false)),
-        "json" => Ok(Some(true)),
+        "text" => Ok(Some(Form::Text)),
+        "json" => Ok(Some(Form::Objects)),
         _ => Err(Flaw::Value("answers")),
     }
 }
@@ -113,7 +114,7 @@ fn read_entry(alloc: Global, table: &Table) -> Result<SeatEntry, Flaw> {
         name: name_of(alloc, table)?,
         input: text_of(alloc, table, "in")?,
         output: text_of(alloc, table, "out")?,
-        json: json_of(alloc, table)?,
+        form: form_of(alloc, table)?,
         posts: flag_at(table, "posts")?.unwrap_or(true),
         collector: collector_of(table)?,
         reopen: flag_at(table, "reopen")?,

@@ -2,20 +2,20 @@
 
 ghost use Rattle.std.specs.Prelude.{◌≤◌};
 
-use crate::drawn::{PictureWriter, Pictures};
+use crate::clerks::Pictures;
 use crate::endings::{Saving, save_net};
 use crate::loading::load_file;
-use crate::objects::{ObjectWriter, place_if};
 use crate::reasons::explain_file;
 use crate::reports::report;
 use crate::seat_ends::SeatEnds;
 use crate::seat_files::{InputKind, OutputKind, hold_closed, inputs_of, outputs_of};
 use crate::seat_inputs::SeatInput;
-use crate::seat_outputs::{SeatOutput, SeatTold};
+use crate::seat_outputs::{SeatClerk, SeatOutput};
 use crate::seat_reports::{SeatsText, refuse_desk, refuse_streams, refuse_text};
 use crate::seat_text::{SeatEntry, read_seats};
 use crate::streams::{Seen, SeenReader, SeenWriter};
 use console::Fault;
+use json_answers::{Filing, Form};
 use net_data::Net;
 use serving::{Channel, DeskEnd, Farewell, run_seats};
 use std::alloc::{AllocError, Global};
@@ -31,8 +31,8 @@ use worker_pool::Plain;
 pub struct SeatManner {
     /// Whether a fault is explained on standard error.
     pub explained: bool,
-    /// Whether each answer is an object of JSON, if a seat doesn't say it otherwise.
-    pub json: bool,
+    /// The form of the answers, if a seat doesn't say it otherwise.
+    pub form: Form,
     /// What is done with pictures.
     pub pictures: Pictures,
 }
@@ -40,12 +40,11 @@ pub struct SeatManner {
 /// The lines of a seat, of which it is seen why they can't be read.
 type Lines<'a> = SeenReader<'a, SeatInput<'a>>;
 
-/// The answers of a seat: pictures go to their files, the rest is made objects of JSON if that is wanted.
-type Answers<'a> = PictureWriter<
-    'a,
-    SeatTold<'a>,
-    ObjectWriter<'a, SeenWriter<'a, SeatOutput<'a>>>,
->;
+/// Where the answers of a seat go, of which it is seen why they can't be written.
+type Output<'a> = SeenWriter<'a, SeatOutput<'a>>;
+
+/// The session of a seat.
+type SeatChannel<'a> = Channel<Lines<'a>, Output<'a>, Filing<SeatClerk<'a>>>;
 
 /// The lines of a seat.
 fn lines_of<'a>(
@@ -57,21 +56,30 @@ fn lines_of<'a>(
     SeenReader::new(seen, SeatInput::new(rt, entry, kind))
 }
 
-/// The answers of a seat.
-fn answers_of<'a>(
+/// Where the answers of a seat go.
+fn output_of<'a>(
     rt: &'a HostRuntime,
     entry: &'a SeatEntry,
     kind: OutputKind,
     seen: &'a Seen,
+) -> Output<'a> {
+    SeenWriter::new(seen, SeatOutput::new(rt, entry, kind))
+}
+
+/// Who tells the answers of a seat.
+fn telling_of<'a>(
+    rt: &'a HostRuntime,
+    entry: &'a SeatEntry,
     manner: SeatManner,
-) -> Answers<'a> {
-    let output = SeenWriter::new(seen, SeatOutput::new(rt, entry, kind));
-    let json = entry.json.unwrap_or(manner.json);
-    let objects = ObjectWriter::new(rt.alloc(), place_if(json, &seen.is_out_of_memory), output);
-    let told = SeatTold {
-        seat: manner.explained.then_some(entry.name.as_str()),
-    };
-    PictureWriter::new(rt, manner.pictures, &seen.is_out_of_memory, told, objects)
+) -> Filing<SeatClerk<'a>> {
+    Filing {
+        form: entry.form.unwrap_or(manner.form),
+        clerk: SeatClerk {
+            rt,
+            pictures: manner.pictures,
+            seat: manner.explained.then_some(entry.name.as_str()),
+        },
+    }
 }
 
 /// The sessions of all seats.
@@ -82,7 +90,7 @@ fn channels_of<'a>(
     outputs: Vec<OutputKind>,
     seen: &'a [Seen],
     manner: SeatManner,
-) -> Result<Vec<Channel<Lines<'a>, Answers<'a>>>, AllocError> {
+) -> Result<Vec<SeatChannel<'a>>, AllocError> {
     let mut channels = Vec::with_capacity(rt.alloc(), entries.len())?;
     let mut outputs = outputs.into_iter();
     for (place, entry) in entries.iter().enumerate() {
@@ -95,7 +103,8 @@ fn channels_of<'a>(
         };
         let channel = Channel {
             reader: lines_of(rt, entry, *input, seen),
-            writer: answers_of(rt, entry, output, seen, manner),
+            writer: output_of(rt, entry, output, seen),
+            telling: telling_of(rt, entry, manner),
             posts: entry.posts,
             collector: entry.collector,
         };
@@ -153,8 +162,8 @@ fn run_channels<'a>(
     farewell: &(impl Farewell + Sync),
     net: Net,
     workers: u32,
-    channels: Result<Vec<Channel<Lines<'a>, Answers<'a>>>, AllocError>,
-) -> Result<DeskEnd<Lines<'a>, Answers<'a>>, Fault>
+    channels: Result<Vec<SeatChannel<'a>>, AllocError>,
+) -> Result<DeskEnd<Lines<'a>, Output<'a>>, Fault>
     requires { workers ≤ 32 }
 {
     let Ok(channels) = channels else {

@@ -1,11 +1,11 @@
 //! The sentence for a line that was refused.
 
 use crate::missing::put_missing_row;
-use crate::notes::LINE_LIMIT;
 use crate::saying::write_bytes;
 use crate::standing::put_standing;
-use answers::answer_other;
-use explanations::find;
+use crate::tried::write_tried;
+use answers::{Answer, Asked, Reason, answer_other};
+use explanations::explain_reason;
 use net_data::{Event, Net};
 use point_codes::PointCode;
 use script_words::{Command, read_line};
@@ -120,13 +120,7 @@ fn write_expected(alloc: Global, form: &str, line: &str) -> Result<String, Alloc
     format!(in alloc; "the form is {form}")
 }
 
-/// The text that `help` has for a word.
-fn help_on(alloc: Global, word: &str) -> Result<String, AllocError> {
-    let question = format!(in alloc; "help {word}")?;
-    answer_other(alloc, question.as_bytes())
-}
-
-/// What was expected of a line by the text that `help` has for its first word.
+/// What was expected of a line by the text that `help` has for its first word: the form of its commands, and an example.
 fn write_by_help(alloc: Global, told: &str, word: &str, line: &str) -> Result<String, AllocError> {
     let form = told
         .strip_prefix("help ")
@@ -141,6 +135,15 @@ fn write_by_help(alloc: Global, told: &str, word: &str, line: &str) -> Result<St
     }
 }
 
+/// What was expected of a line that begins with a word.
+fn write_by_word(alloc: Global, word: &str, line: &str) -> Result<String, AllocError> {
+    let question = format!(in alloc; "help {word}")?;
+    match answer_other(alloc, question.as_bytes())? {
+        Answer::Help(told) => write_by_help(alloc, told.as_str(), front_of(word), line),
+        _ => write_by_help(alloc, "", front_of(word), line),
+    }
+}
+
 /// Why a line is no command.
 fn write_no_command(alloc: Global, line: &str) -> Result<String, AllocError> {
     if line.starts_with(BYTE_ORDER_MARK) {
@@ -150,8 +153,7 @@ fn write_no_command(alloc: Global, line: &str) -> Result<String, AllocError> {
         );
     }
     let word = line.split_ascii_whitespace().next().unwrap_or("");
-    let told = help_on(alloc, word)?;
-    write_by_help(alloc, told.as_str(), front_of(word), line)
+    write_by_word(alloc, word, line)
 }
 
 /// Why a command is answered `62 BadLine`.
@@ -166,9 +168,6 @@ fn not_now(command: &Command) -> &'static str {
 
 /// Why a line is answered `62 BadLine`.
 fn write_bad_line(alloc: Global, line: &str) -> Result<String, AllocError> {
-    if line.len() > LINE_LIMIT {
-        return String::from_str(alloc, "the line has more than 131,072 bytes");
-    }
     match read_line(alloc, line.as_bytes())? {
         Some(command) => String::from_str(alloc, not_now(&command)),
         None => write_no_command(alloc, line),
@@ -215,18 +214,26 @@ fn asked_in(command: &Command) -> Option<(PointCode, PointCode)> {
     }
 }
 
-/// What stands in a network against a command, in text; empty if that can't be told.
-fn write_about(alloc: Global, net: &Net, command: &Command) -> Result<String, AllocError> {
+/// What stands in a network against a command that is refused, in text; empty if that can't be told.
+fn write_about(
+    alloc: Global,
+    net: &Net,
+    command: &Command,
+    why: Reason,
+) -> Result<String, AllocError> {
+    if let (Command::WhatIf(events), Reason::Event(refused)) = (command, why) {
+        return write_tried(alloc, net, events.as_slice(), &refused);
+    }
     match asked_in(command) {
         Some((point, dest)) => write_missing(alloc, net, point, dest),
         None => write_standing(alloc, net, event_in(command)),
     }
 }
 
-/// What stands in a network against the line, in text; empty if that can't be told.
-fn write_against(alloc: Global, net: &Net, line: &str) -> Result<String, AllocError> {
+/// What stands in a network against a refused line, in text; empty if that can't be told.
+fn write_against(alloc: Global, net: &Net, line: &str, why: Reason) -> Result<String, AllocError> {
     match read_line(alloc, line.as_bytes())? {
-        Some(command) => write_about(alloc, net, &command),
+        Some(command) => write_about(alloc, net, &command, why),
         None => Ok(String::new(alloc)),
     }
 }
@@ -235,32 +242,29 @@ fn write_against(alloc: Global, net: &Net, line: &str) -> Result<String, AllocEr
 fn write_refused(
     alloc: Global,
     line: &str,
-    title: &str,
+    why: Reason,
     net: Option<&Net>,
 ) -> Result<String, AllocError> {
     if let Some(net) = net {
-        let standing = write_against(alloc, net, line)?;
+        let standing = write_against(alloc, net, line, why)?;
         if !standing.is_empty() {
             return Ok(standing);
         }
     }
-    match find(title) {
-        Some(explanation) => String::from_str(alloc, explanation.meaning),
-        None => Ok(String::new(alloc)),
-    }
+    String::from_str(alloc, explain_reason(&why).meaning)
 }
 
-/// What is wrong with a refused line, by the number of its refusal.
+/// What is wrong with a refused line, by why it is refused.
 fn write_reason(
     alloc: Global,
     line: &str,
-    title: &str,
+    why: Reason,
     net: Option<&Net>,
 ) -> Result<String, AllocError> {
-    if title == "62" {
+    if let Reason::BadLine = why {
         return write_bad_line(alloc, line);
     }
-    write_refused(alloc, line, title, net)
+    write_refused(alloc, line, why, net)
 }
 
 /// The sentence for the line of a number.
@@ -268,15 +272,15 @@ pub fn write_sentence(alloc: Global, number: u64, reason: &str) -> Result<String
     format!(in alloc; "line {number}: {reason}")
 }
 
-/// What is wrong with a refused line of bytes, by the number of its refusal.
+/// What is wrong with a refused line of bytes, by why it is refused.
 fn write_reason_of(
     alloc: Global,
     line: &[u8],
-    title: &str,
+    why: Reason,
     net: Option<&Net>,
 ) -> Result<String, AllocError> {
     match str::from_utf8(line) {
-        Ok(line) => write_reason(alloc, line, title, net),
+        Ok(line) => write_reason(alloc, line, why, net),
         Err(_) => {
             let shown = write_bytes(alloc, line)?;
             let shown = front_of(shown.as_str());
@@ -285,21 +289,16 @@ fn write_reason_of(
     }
 }
 
-/// The sentence for a line by its answer, if that is a refusal.
+/// The sentence for a refused line, by why it is refused.
 pub fn sentence_of(
     alloc: Global,
-    number: u64,
-    line: &[u8],
-    answer: &[u8],
+    asked: Asked<'_>,
+    why: Reason,
     net: Option<&Net>,
-) -> Result<Option<String>, AllocError> {
-    let Some(refusal) = str::from_utf8(answer)
-        .unwrap_or("")
-        .strip_prefix("refused ")
-    else {
-        return Ok(None);
+) -> Result<String, AllocError> {
+    let reason = match asked.line {
+        Some(line) => write_reason_of(alloc, line, why, net)?,
+        None => String::from_str(alloc, "the line has more than 131,072 bytes")?,
     };
-    let title = refusal.split_ascii_whitespace().next().unwrap_or("");
-    let reason = write_reason_of(alloc, line, title, net)?;
-    Ok(Some(write_sentence(alloc, number, reason.as_str())?))
+    write_sentence(alloc, asked.number, reason.as_str())
 }

@@ -5,13 +5,10 @@ use std::io;
 use std::io::ErrorKind;
 use std::sync::atomic::{AtomicBool, AtomicI32, AtomicU64, Ordering};
 
-/// What begins the answer to a refused line.
-const REFUSED: &[u8] = b"refused ";
-
 /// What is seen of a run by its reader and its writers. They may be in another thread.
 #[derive(Drop)]
 pub struct Seen {
-    /// Whether memory was refused for an object of JSON, a picture, a file's name or what a reader holds back.
+    /// Whether memory was refused for a file's name or for what a reader holds back.
     pub is_out_of_memory: AtomicBool,
     /// The system's number of what was wrong with the input, 0 if it isn't known.
     input: AtomicI32,
@@ -30,6 +27,13 @@ impl Seen {
             output: AtomicI32::new(0),
             refused: AtomicU64::new(0),
         }
+    }
+
+    /// Counts a refused line.
+    pub fn count_refusal(&self) {
+        let so_far = self.refused();
+        self.refused
+            .store(so_far.saturating_add(1), Ordering::SeqCst);
     }
 
     /// How many lines were refused, 0 if that isn't counted.
@@ -79,7 +83,7 @@ impl Seen {
         fault
     }
 
-    /// The end of a run: if memory for an object or a picture was refused, that was its fault.
+    /// The end of a run: if memory for what it reads or writes was refused, that was its fault.
     pub fn end_of(&self, mut end: ScriptEnd) -> ScriptEnd {
         end.fault = self.fault_of(end.fault);
         end
@@ -130,68 +134,6 @@ impl<'a, W: io::Write> io::Write for SeenWriter<'a, W> {
     fn write(&mut self, buf: &[u8]) -> io::Result<usize> {
         let written = self.writer.write(buf);
         self.seen.note(&written, &self.seen.output);
-        written
-    }
-
-    fn flush(&mut self) -> io::Result<()> {
-        self.writer.flush()
-    }
-}
-
-/// A writer of answers, of which the refusals are counted if that is wanted.
-#[derive(Drop)]
-pub struct CountingWriter<'a, W: io::Write> {
-    /// Where they are counted, none if they aren't.
-    seen: Option<&'a Seen>,
-    /// How many bytes of the line that is being written begin as a refusal does, none if its begin is another.
-    begun: Option<usize>,
-    writer: W,
-}
-
-/// How far a line begins as a refusal does, none if it begins otherwise, after one more byte.
-fn begun_after(begun: Option<usize>, byte: u8) -> Option<usize> {
-    if byte == b'\n' {
-        return Some(0);
-    }
-    let at = begun?;
-    if REFUSED.get(at) == Some(&byte) {
-        return Some(at.saturating_add(1));
-    }
-    None
-}
-
-impl<'a, W: io::Write> CountingWriter<'a, W> {
-    /// A writer, and where the refusals are counted if that is wanted.
-    pub fn new(seen: Option<&'a Seen>, writer: W) -> CountingWriter<'a, W> {
-        CountingWriter {
-            seen,
-            begun: Some(0),
-            writer,
-        }
-    }
-}
-
-/// Counts the refusals that begin in bytes; how far the last line begins as one, as `begun` tells it of the line before them.
-fn count_refusals(seen: &Seen, mut begun: Option<usize>, bytes: &[u8]) -> Option<usize> {
-    for byte in bytes {
-        begun = begun_after(begun, *byte);
-        if begun == Some(REFUSED.len()) {
-            let so_far = seen.refused.load(Ordering::SeqCst);
-            seen.refused
-                .store(so_far.saturating_add(1), Ordering::SeqCst);
-        }
-    }
-    begun
-}
-
-impl<'a, W: io::Write> io::Write for CountingWriter<'a, W> {
-    ghost contents = { λ p. W.contents p.writer };
-
-    fn write(&mut self, buf: &[u8]) -> io::Result<usize> {
-        let written = self.writer.write(buf);
-        if let (Some(seen), Ok(count)) = (self.seen, &written) {
-            self.begun = count_refusals(seen, self.begun, &buf[..*count]);
-        }
         written
     }
 

@@ -20,6 +20,7 @@ pub mod sets;
 pub mod shares;
 pub mod tables;
 pub mod texts;
+pub mod told;
 pub mod touched;
 pub mod traces;
 pub mod what_ifs;

@@ -1,6 +1,5 @@
 -- What a line does to its seat, and to the one history.
 use Rattle.std.proofs.Common.{◌≡◌, ◌≢◌, ℕ, ◌+◌, Bool, true, false, List, [], ◌∷◌, ◌++◌, Option, Some, None, Result, Ok, Err, inl, inr, refl, sym, ap, ◌∙◌, subst, length, arith, length-append, append-nil, append_assoc}
-use Rattle.std.specs.Prelude.{if◌then◌else◌}
 use Rattle.std.specs.Option.{option_map_or}
 use mathlib.Core.List.{IsPrefix}
 use Rattle.net_data.specs.declared.events.Event.{Event}
@@ -8,7 +7,11 @@ use Rattle.net_data.specs.Network.{Network}
 use Rattle.net_versions.specs.Versions.{VersionValue}
 use Rattle.tokens.specs.Words.{words_of}
 use Rattle.answers.specs.Help.{other_answer}
-use Rattle.answers.specs.Replies.{posted_text}
+use Rattle.answers.specs.Replies.{posted_answer}
+use Rattle.answers.specs.declared.answer.Answer.{Answer}
+use Rattle.answers.specs.declared.answer.Answer.TheVariants as answer
+use Rattle.answers.specs.declared.answer.Reason.TheVariants as reason
+use Rattle.answers.specs.declared.answer.Reply.TheVariants as answered
 use Rattle.script_words.specs.Commands.{command_of}
 use Rattle.script_words.specs.declared.commands.Command.{Command}
 use Rattle.script_words.specs.declared.commands.Command.TheVariants as command
@@ -20,9 +23,9 @@ use Rattle.desk_core.specs.Steps.{Posts, last_of}
 use Rattle.desk_core.specs.Runs.{event_taken}
 use Rattle.desk_console.specs.Console.{ConsoleValue}
 use Rattle.desk_console.specs.Does.{Calls, Does, PostsAfter, PostsNext}
-use Rattle.desk_console.specs.Taken.{event_of, says_taken, taken_by}
+use Rattle.desk_console.specs.Taken.{event_of, taken_at}
 use Rattle.sessions.specs.Lines.{is_silent, is_too_long, trimmed}
-use Rattle.sessions.specs.Replies.{IsReply as IsAnswer, Replies}
+use Rattle.sessions.specs.Replies.{IsReply, Replies}
 use Rattle.seats.specs.Minutes.{SeatValue, sight}
 use Rattle.versions.specs.Working.{Comes, IsCall, IsHistory, IsWorkedOn, leaving, left_at}
 use Rattle.versions.specs.declared.state.DeskAndChain.{DeskAndChain}
@@ -31,9 +34,9 @@ use Rattle.histories.specs.Histories.{IsNth, IsOpened, authored_in, events_of, o
 use Rattle.histories.proofs.EventLemmas.{post_events}
 use Rattle.histories.proofs.ExplainLemmas.{come_own, did_own}
 use Rattle.histories.proofs.SeenLemmas.{nth_taken}
-use Rattle.beside.specs.Beside.{BesideValue, DoesAt, Leaves, at_console}
+use Rattle.desk_console.proofs.RunLemmas.{nothing_taken as answer_takes_none}
+use Rattle.beside.specs.Beside.{BesideValue, DoesAt, Leaves, Tells, at_console}
 use Rattle.beside.proofs.BesideLemmas.{prefix_then}
-use Rattle.beside.proofs.RightLemmas.{nothing_taken, taken_ended}
 use Rattle.serving.specs.Seated.{CommandsAs, ObeysAs}
 
 pub versions_same : (xs ys : List VersionValue) → ys ≡ xs → IsPrefix xs ys
@@ -61,11 +64,17 @@ history_still seats old there found left comes same =
 
 -- ---- what is accepted
 
--- the event of a post is accepted exactly if the answer says `taken`
-taken_is : (event : Event) (result : Result Posted Refusal) → event_taken event (reply.Post result) ≡ (if says_taken (posted_text result) then event ∷ [] else [])
-taken_is event (Ok (Taken number)) = refl
-taken_is event (Ok (Again number)) = refl
-taken_is event (Err refusal) = refl
+-- the event of a post is accepted exactly if it is answered `taken`
+taken_is : (event : Event) (line : List ℕ) (done : Command) (result : Result Posted Refusal) → command_of (words_of line) ≡ Some done → event_of done ≡ event ∷ []
+    → event_taken event (reply.Post result) ≡ taken_at line (Some (posted_answer result))
+taken_is event line done (Ok (Taken number)) here posts = sym (ap (λ (o : Option Command). option_map_or event_of o []) here ∙ posts)
+taken_is event line done (Ok (Again number)) here posts = refl
+taken_is event line done (Err refusal) here posts = refl
+
+-- a line whose command posts nothing is taken for nothing
+nothing_taken : (line : List ℕ) (told : Option Answer) → option_map_or event_of (command_of (words_of line)) [] ≡ [] → taken_at line told ≡ []
+nothing_taken line None none = refl
+nothing_taken line (Some a) none = answer_takes_none line a none
 
 no_length : (xs : List Event) → length xs ≡ 0 → xs ≡ []
 no_length [] e = refl
@@ -79,27 +88,27 @@ nothing_more xs ys same =
 not_none : (event : Event) → [] ≢ event ∷ []
 not_none event same = let count : length {A = Event} [] ≡ length (event ∷ []) = ap (length {A = Event}) same in absurd (omega arith)
 
--- an answer that says `taken` tells a number
-told_number : (event : Event) (result : Result Posted Refusal) → (if says_taken (posted_text result) then event ∷ [] else []) ≡ event ∷ [] → (number : ℕ) × (result ≡ Ok (Taken number))
-told_number event (Ok (Taken number)) same = (number, refl)
-told_number event (Ok (Again number)) same = absurd (not_none event same)
-told_number event (Err refusal) same = absurd (not_none event same)
+-- a post whose event is accepted tells a number
+told_number : (event one : Event) (result : Result Posted Refusal) → event_taken event (reply.Post result) ≡ one ∷ [] → (number : ℕ) × (result ≡ Ok (Taken number)) × (event ≡ one)
+told_number event one (Ok (Taken number)) same = (number, refl, cc (same))
+told_number event one (Ok (Again number)) same = absurd (not_none one same)
+told_number event one (Err refusal) same = absurd (not_none one same)
 
 -- ---- one line
 
--- what a line that is taken for these events does to its seat: of the one history just these came through it; the number that is told is that of the event; what it knew stays known
-pub record LineTold (b : BesideValue) (taken : List Event) (text : List ℕ) (new : BesideValue) : Type 0 where
+-- what a line does to its seat: of the one history just the events that it is taken for came through it; the number that is told is that of the event; what it knew stays known
+pub record LineTold (b : BesideValue) (line : List ℕ) (told : Option Answer) (new : BesideValue) : Type 0 where
   pub me : new.seat.me ≡ b.seat.me
   pub saw : IsPrefix b.seat.saw new.seat.saw
   pub history : IsHistory new.seat.saw
-  pub own : own_events b.seat.me new.seat.saw ≡ own_events b.seat.me b.seat.saw ++ taken
-  pub number : (event : Event) → taken ≡ event ∷ [] → (n : ℕ) × (text ≡ posted_text (Ok (Taken n))) × IsNth (authored_in new.seat.saw) n (record { by = b.seat.me; event = event })
+  pub own : own_events b.seat.me new.seat.saw ≡ own_events b.seat.me b.seat.saw ++ taken_at line told
+  pub number : (event : Event) → taken_at line told ≡ event ∷ [] → (n : ℕ) × (told ≡ Some (answer.Reply (answered.Taken n))) × IsNth (authored_in new.seat.saw) n (record { by = b.seat.me; event = event })
   pub seen : IsPrefix b.seen new.seen
 
-module _ (start : Network) (seats : ℕ) (b : BesideValue) (text : List ℕ) (new : BesideValue) (opened : IsOpened start b.seat.saw) (history : IsHistory b.seat.saw) where
+module _ (start : Network) (seats : ℕ) (b : BesideValue) (line : List ℕ) (told : Option Answer) (new : BesideValue) (opened : IsOpened start b.seat.saw) (history : IsHistory b.seat.saw) where
   -- the seat stays
-  still : (taken : List Event) → taken ≡ [] → new.seat ≡ b.seat → IsPrefix b.seen new.seen → LineTold b taken text new
-  still taken none same seen = record {
+  still : taken_at line told ≡ [] → new.seat ≡ b.seat → IsPrefix b.seen new.seen → LineTold b line told new
+  still none same seen = record {
     me = ap (λ (s : SeatValue DeskAndChain). s.me) same;
     saw = ([], append-nil b.seat.saw ∙ ap (λ (s : SeatValue DeskAndChain). s.saw) (sym same));
     history = subst (λ (s : SeatValue DeskAndChain). IsHistory s.saw) (sym same) history;
@@ -110,12 +119,12 @@ module _ (start : Network) (seats : ℕ) (b : BesideValue) (text : List ℕ) (ne
     seen = seen;
   }
 
-  same : (taken : List Event) → taken ≡ [] → new ≡ b → LineTold b taken text new
-  same taken none is = still taken none (ap (λ (x : BesideValue). x.seat) is) ([], append-nil b.seen ∙ ap (λ (x : BesideValue). x.seen) (sym is))
+  same : taken_at line told ≡ [] → new ≡ b → LineTold b line told new
+  same none is = still none (ap (λ (x : BesideValue). x.seat) is) ([], append-nil b.seen ∙ ap (λ (x : BesideValue). x.seen) (sym is))
 
   -- the seat comes, and leaves the hub as it found it
-  visits : (there : SeatValue DeskAndChain) (found : DeskAndChain) (taken : List Event) → taken ≡ [] → Comes seats b.seat found there → new.seat ≡ there → IsPrefix b.seen new.seen → LineTold b taken text new
-  visits there found taken none comes is seen = record {
+  visits : (there : SeatValue DeskAndChain) (found : DeskAndChain) → taken_at line told ≡ [] → Comes seats b.seat found there → new.seat ≡ there → IsPrefix b.seen new.seen → LineTold b line told new
+  visits there found none comes is seen = record {
     me = ap (λ (s : SeatValue DeskAndChain). s.me) (is ∙ comes.saw);
     saw = subst (λ (s : SeatValue DeskAndChain). IsPrefix b.seat.saw s.saw) (sym is) (saw_came seats b.seat there found comes);
     history = subst (λ (s : SeatValue DeskAndChain). IsHistory s.saw) (sym is) comes.history;
@@ -128,123 +137,124 @@ module _ (start : Network) (seats : ℕ) (b : BesideValue) (text : List ℕ) (ne
 
   -- the seat comes, and posts
   posts : (there : SeatValue DeskAndChain) (found left : DeskAndChain) (collector seq : ℕ) (event : Event) (result : Result Posted Refusal) → Comes seats b.seat found there → new.seat ≡ leaving there left
-      → Posts found.desk collector seq event result left.desk → left.shown ≡ found.shown → text ≡ posted_text result → IsPrefix b.seen new.seen → LineTold b (if says_taken text then event ∷ [] else []) text new
-  posts there found left collector seq event result comes is made shown said seen =
-      let taken : List Event = if says_taken text then event ∷ [] else [] in
-      let told : event_taken event (reply.Post result) ≡ taken = taken_is event result ∙ ap (λ (t : List ℕ). if says_taken t then event ∷ [] else []) (sym said) in
-      let all : events_of left ≡ events_of found ++ taken = post_events found left collector seq event result made shown ∙ ap (λ (l : List Event). events_of found ++ l) told in
+      → Posts found.desk collector seq event result left.desk → left.shown ≡ found.shown → told ≡ Some (posted_answer result) → event_taken event (reply.Post result) ≡ taken_at line told → IsPrefix b.seen new.seen
+      → LineTold b line told new
+  posts there found left collector seq event result comes is made shown said taken seen =
+      let all : events_of left ≡ events_of found ++ taken_at line told = post_events found left collector seq event result made shown ∙ ap (λ (l : List Event). events_of found ++ l) taken in
       record {
         me = ap (λ (s : SeatValue DeskAndChain). s.me) is ∙ ap (λ (s : SeatValue DeskAndChain). s.me) comes.saw;
         saw = prefix_then b.seat.saw there.saw new.seat.saw (saw_came seats b.seat there found comes) (saw_left there new.seat left is);
         history = subst IsHistory (sym (ap (λ (s : SeatValue DeskAndChain). s.saw) is)) (history_done seats b.seat there found left comes (by_post found left collector seq event result made shown));
-        own = did_own seats b.seat new.seat found left taken history (there, comes, is) all;
-        number = λ one same. numbered one same;
+        own = did_own seats b.seat new.seat found left (taken_at line told) history (there, comes, is) all;
+        number = λ one is_one. numbered one (told_number event one result (taken ∙ is_one));
         seen = seen;
       }
     where
       -- the event that is told is that of the post
-      one_is : (one : Event) (says : Bool) → (if says then event ∷ [] else []) ≡ one ∷ [] → event ≡ one
-      one_is one true same = cc (same)
-      one_is one false same = absurd (not_none one same)
+      numbered : (one : Event) → (n : ℕ) × (result ≡ Ok (Taken n)) × (event ≡ one) → (n : ℕ) × (told ≡ Some (answer.Reply (answered.Taken n))) × IsNth (authored_in new.seat.saw) n (record { by = b.seat.me; event = one })
+      numbered one is_told = (
+        is_told.0,
+        said ∙ ap (λ (r : Result Posted Refusal). Some (posted_answer r)) is_told.1,
+        subst (λ (e : Event). IsNth (authored_in new.seat.saw) is_told.0 (record { by = b.seat.me; event = e })) is_told.2
+            (nth_taken start seats b.seat new.seat found left collector seq event is_told.0 opened (there, comes, is)
+            (subst (λ (r : Result Posted Refusal). Posts found.desk collector seq event r left.desk) is_told.1 made) shown),
+      )
 
-      numbered : (one : Event) → (if says_taken text then event ∷ [] else []) ≡ one ∷ [] → (n : ℕ) × (text ≡ posted_text (Ok (Taken n))) × IsNth (authored_in new.seat.saw) n (record { by = b.seat.me; event = one })
-      numbered one same =
-          let is_one : event ≡ one = one_is one (says_taken text) same in
-          let says : (if says_taken (posted_text result) then event ∷ [] else []) ≡ event ∷ [] =
-          ap (λ (t : List ℕ). if says_taken t then event ∷ [] else []) (sym said) ∙ same ∙ ap (λ (e : Event). e ∷ []) (sym is_one) in
-          let tells = told_number event result says in (
-            tells.0,
-            said ∙ ap posted_text tells.1,
-            subst (λ (e : Event). IsNth (authored_in new.seat.saw) tells.0 (record { by = b.seat.me; event = e })) is_one
-                (nth_taken start seats b.seat new.seat found left collector seq event tells.0 opened (there, comes, is)
-                (subst (λ (r : Result Posted Refusal). Posts found.desk collector seq event r left.desk) tells.1 made) shown),
-          )
-
-  seen_told : (Done : ConsoleValue → List ℕ → ConsoleValue → Type 0) (found : DeskAndChain) → DoesAt seats Done b found text new → IsPrefix b.seen new.seen
-  seen_told Done found does = subst (IsPrefix b.seen) (sym does.told) does.finds.seen
+  seen_told : (Done : ConsoleValue → Answer → ConsoleValue → Type 0) (found : DeskAndChain) (a : Answer) → DoesAt seats Done b found a new → IsPrefix b.seen new.seen
+  seen_told Done found a does = subst (IsPrefix b.seen) (sym does.told) does.finds.seen
 
   -- something is done under the lock that leaves the desk as it is
-  looks_there : (Done : ConsoleValue → List ℕ → ConsoleValue → Type 0) (found : DeskAndChain) (taken : List Event) → taken ≡ [] → DoesAt seats Done b found text new → new.left ≡ found → LineTold b taken text new
-  looks_there Done found taken none does kept = go does.leaves
+  looks_there : (Done : ConsoleValue → Answer → ConsoleValue → Type 0) (found : DeskAndChain) (a : Answer) → taken_at line told ≡ [] → DoesAt seats Done b found a new → new.left ≡ found → LineTold b line told new
+  looks_there Done found a none does kept = go does.leaves
     where
-      go : Leaves does.finds.there found new → LineTold b taken text new
-      go (inl is) = visits does.finds.there found taken none does.finds.comes is.0 (seen_told Done found does)
+      go : Leaves does.finds.there found new → LineTold b line told new
+      go (inl is) = visits does.finds.there found none does.finds.comes is.0 (seen_told Done found a does)
       go (inr is) = record {
         me = ap (λ (s : SeatValue DeskAndChain). s.me) is ∙ ap (λ (s : SeatValue DeskAndChain). s.me) does.finds.comes.saw;
         saw = prefix_then b.seat.saw does.finds.there.saw new.seat.saw (saw_came seats b.seat does.finds.there found does.finds.comes) (saw_left does.finds.there new.seat new.left is);
         history = subst IsHistory (sym (ap (λ (s : SeatValue DeskAndChain). s.saw) is)) (history_still seats b.seat does.finds.there found new.left does.finds.comes kept);
-        own = did_own seats b.seat new.seat found new.left taken history (does.finds.there, does.finds.comes, is)
+        own = did_own seats b.seat new.seat found new.left (taken_at line told) history (does.finds.there, does.finds.comes, is)
             (ap events_of kept ∙ sym (append-nil (events_of found)) ∙ ap (λ (l : List Event). events_of found ++ l) (sym none));
         number = λ event one. absurd (not_none event (sym none ∙ one));
-        seen = seen_told Done found does;
+        seen = seen_told Done found a does;
       }
 
   -- a post under the lock
-  calls : (Done : ConsoleValue → List ℕ → ConsoleValue → Type 0) (found : DeskAndChain) (collector seq : ℕ) (event : Event) → DoesAt seats Done b found text new
-      → Calls (λ s. Posts s collector seq event) posted_text (at_console found.desk) text (at_console new.left.desk) → LineTold b (if says_taken text then event ∷ [] else []) text new
-  calls Done found collector seq event does done = go does.leaves
+  calls : (Done : ConsoleValue → Answer → ConsoleValue → Type 0) (found : DeskAndChain) (a : Answer) (asked : Command) (collector seq : ℕ) (event : Event) → command_of (words_of line) ≡ Some asked → event_of asked ≡ event ∷ []
+      → told ≡ Some a → DoesAt seats Done b found a new → Calls (λ s. Posts s collector seq event) posted_answer (at_console found.desk) a (at_console new.left.desk) → LineTold b line told new
+  calls Done found a asked collector seq event here is_post is_told does done = go does.leaves
     where
-      go : Leaves does.finds.there found new → LineTold b (if says_taken text then event ∷ [] else []) text new
+      said : told ≡ Some (posted_answer done.0)
+      said = is_told ∙ ap (λ (x : Answer). Some x) done.3
+
+      taken : event_taken event (reply.Post done.0) ≡ taken_at line told
+      taken = taken_is event line asked done.0 here is_post ∙ ap (taken_at line) (sym said)
+
+      go : Leaves does.finds.there found new → LineTold b line told new
       go (inl is) =
-          let none : (if says_taken text then event ∷ [] else []) ≡ [] =
-          nothing_more (events_of found) (if says_taken text then event ∷ [] else [])
-          (ap events_of (sym is.1) ∙ post_events found new.left collector seq event done.0 done.1 does.shown
-          ∙ ap (λ (l : List Event). events_of found ++ l) (taken_is event done.0 ∙ ap (λ (t : List ℕ). if says_taken t then event ∷ [] else []) (sym done.3))) in
-          visits does.finds.there found (if says_taken text then event ∷ [] else []) none does.finds.comes is.0 (seen_told Done found does)
-      go (inr is) = posts does.finds.there found new.left collector seq event done.0 does.finds.comes is done.1 does.shown done.3 (seen_told Done found does)
+          let none : taken_at line told ≡ [] =
+          nothing_more (events_of found) (taken_at line told)
+          (ap events_of (sym is.1) ∙ post_events found new.left collector seq event done.0 done.1 does.shown ∙ ap (λ (l : List Event). events_of found ++ l) taken) in
+          visits does.finds.there found none does.finds.comes is.0 (seen_told Done found a does)
+      go (inr is) = posts does.finds.there found new.left collector seq event done.0 does.finds.comes is done.1 does.shown said taken (seen_told Done found a does)
 
   left_same : (found : DeskAndChain) → new.left.shown ≡ found.shown → at_console new.left.desk ≡ at_console found.desk → new.left ≡ found
   left_same found shown is = λ i. record { desk = (is i).desk; shown = shown i }
 
   -- a collector's next post
-  nexts : (found : DeskAndChain) (collector : ℕ) (event : Event) → DoesAt seats (PostsNext collector event) b found text new → (full : Bool) → PostsAfter full collector event (at_console found.desk) text (at_console new.left.desk)
-      → LineTold b (if says_taken text then event ∷ [] else []) text new
-  nexts found collector event does true done =
-      looks_there (PostsNext collector event) found (if says_taken text then event ∷ [] else []) (ap (λ (t : List ℕ). if says_taken t then event ∷ [] else []) done.0) does (left_same found does.shown done.1)
-  nexts found collector event does false done = calls (PostsNext collector event) found collector ((last_of found.desk collector).seq + 1) event does done
+  nexts : (found : DeskAndChain) (a : Answer) (collector : ℕ) (event : Event) → command_of (words_of line) ≡ Some (command.Event event) → told ≡ Some a → DoesAt seats (PostsNext collector event) b found a new → (full : Bool)
+      → PostsAfter full collector event (at_console found.desk) a (at_console new.left.desk) → LineTold b line told new
+  nexts found a collector event here is_told does true done =
+      looks_there (PostsNext collector event) found a (ap (taken_at line) (is_told ∙ ap (λ (x : Answer). Some x) done.0)) does (left_same found does.shown done.1)
+  nexts found a collector event here is_told does false done =
+      calls (PostsNext collector event) found a (command.Event event) collector ((last_of found.desk collector).seq + 1) event here refl is_told does done
 
-  obeyed : (posts : Bool) (collector : ℕ) (other : List ℕ) (o : Option Command) → ObeysAs seats posts collector other o b text new → LineTold b (if says_taken text then option_map_or event_of o [] else []) text new
-  obeyed posts collector other None is = same _ (nothing_taken (says_taken text)) is.1
-  obeyed true collector other (Some (command.Event event)) is = nexts is.0 collector event is.1 _ is.1.done
-  obeyed false collector other (Some (command.Event event)) is = same _ (ap (λ (t : List ℕ). if says_taken t then event ∷ [] else []) is.0) is.1
-  obeyed true collector other (Some (command.Post by seq event)) is = calls (Does (command.Post by seq event)) is.0 by seq event is.1 is.1.done
-  obeyed false collector other (Some (command.Post by seq event)) is = same _ (ap (λ (t : List ℕ). if says_taken t then event ∷ [] else []) is.0) is.1
-  obeyed posts collector other (Some command.Open) is = same _ (nothing_taken (says_taken text)) is.1
-  obeyed posts collector other (Some (command.Take k)) is = same _ (nothing_taken (says_taken text)) is.1
-  obeyed posts collector other (Some (command.Give k)) is = same _ (nothing_taken (says_taken text)) is.1
-  obeyed posts collector other (Some (command.Abandon k)) is = same _ (nothing_taken (says_taken text)) is.1
-  obeyed posts collector other (Some command.Publish) is = same _ (nothing_taken (says_taken text)) is.1
-  obeyed posts collector other (Some command.Sync) is =
+  -- a line whose command posts nothing
+  posts_none : option_map_or event_of (command_of (words_of line)) [] ≡ [] → new ≡ b → LineTold b line told new
+  posts_none none is = same (nothing_taken line told none) is
+
+  -- a line that is answered from a look
+  looks : option_map_or event_of (command_of (words_of line)) [] ≡ [] → new.seat ≡ b.seat → IsPrefix b.seen new.seen → LineTold b line told new
+  looks none is seen = still (nothing_taken line told none) is seen
+
+  -- a line that is no command, or may not be done
+  refuses : (a other : Answer) → told ≡ Some a → taken_at line (Some other) ≡ [] → Tells other b a new → LineTold b line told new
+  refuses a other is_told none is = same (ap (taken_at line) (is_told ∙ ap (λ (x : Answer). Some x) is.0) ∙ none) is.1
+
+  obeyed : (a : Answer) → told ≡ Some a → (may : Bool) (collector : ℕ) (other : Answer) (o : Option Command) → command_of (words_of line) ≡ o → ObeysAs seats may collector other o b a new → LineTold b line told new
+  obeyed a is_told may collector other None here is = posts_none (rw here refl) is.1
+  obeyed a is_told true collector other (Some (command.Event event)) here is = nexts is.0 a collector event here is_told is.1 _ is.1.done
+  obeyed a is_told false collector other (Some (command.Event event)) here is = refuses a (answer.Refused reason.BadLine) is_told refl is
+  obeyed a is_told true collector other (Some (command.Post by seq event)) here is = calls (Does (command.Post by seq event)) is.0 a (command.Post by seq event) by seq event here refl is_told is.1 is.1.done
+  obeyed a is_told false collector other (Some (command.Post by seq event)) here is = refuses a (answer.Refused reason.BadLine) is_told refl is
+  obeyed a is_told may collector other (Some command.Open) here is = posts_none (rw here refl) is.1
+  obeyed a is_told may collector other (Some (command.Take k)) here is = posts_none (rw here refl) is.1
+  obeyed a is_told may collector other (Some (command.Give k)) here is = posts_none (rw here refl) is.1
+  obeyed a is_told may collector other (Some (command.Abandon k)) here is = posts_none (rw here refl) is.1
+  obeyed a is_told may collector other (Some command.Publish) here is = posts_none (rw here refl) is.1
+  obeyed a is_told may collector other (Some command.Sync) here is =
       let visit = is.visits.1 in
       let look = is.syncs.1 in
-      visits visit.0.there is.visits.0 _ (nothing_taken (says_taken text)) visit.0.comes (look.seat ∙ ap (λ (x : BesideValue). x.seat) visit.1)
+      visits visit.0.there is.visits.0 (nothing_taken line told (rw here refl)) visit.0.comes (look.seat ∙ ap (λ (x : BesideValue). x.seat) visit.1)
       (prefix_then b.seen is.there.seen new.seen (subst (IsPrefix b.seen) (sym (ap (λ (x : BesideValue). x.seen) visit.1)) visit.0.seen) look.seen)
-  obeyed posts collector other (Some command.Version) is = looks_there (Does command.Version) is.0 _ (nothing_taken (says_taken text)) is.1 (left_same is.0 is.1.shown is.1.done.1)
-  obeyed posts collector other (Some (command.About asked y x)) is = still _ (nothing_taken (says_taken text)) is.1.seat is.1.seen
-  obeyed posts collector other (Some (command.Trace y x s)) is = still _ (nothing_taken (says_taken text)) is.1.seat is.1.seen
-  obeyed posts collector other (Some (command.WhatIf events)) is = still _ (nothing_taken (says_taken text)) is.1.seat is.1.seen
-  obeyed posts collector other (Some command.Audit) is = still _ (nothing_taken (says_taken text)) is.1.seat is.1.seen
-  obeyed posts collector other (Some (command.Picture file about)) is = still _ (nothing_taken (says_taken text)) is.1.seat is.1.seen
-  obeyed posts collector other (Some command.Changes) is = same _ (nothing_taken (says_taken text)) is.1
-  obeyed posts collector other (Some (command.Watch is_on)) is =
-      still _ (nothing_taken (says_taken text)) (ap (λ (x : BesideValue). x.seat) is.1) (versions_same b.seen new.seen (ap (λ (x : BesideValue). x.seen) is.1))
+  obeyed a is_told may collector other (Some command.Version) here is =
+      looks_there (Does command.Version) is.0 a (nothing_taken line told (rw here refl)) is.1 (left_same is.0 is.1.shown is.1.done.1)
+  obeyed a is_told may collector other (Some (command.About asked y x)) here is = looks (rw here refl) is.1.seat is.1.seen
+  obeyed a is_told may collector other (Some (command.Trace y x s)) here is = looks (rw here refl) is.1.seat is.1.seen
+  obeyed a is_told may collector other (Some (command.WhatIf events)) here is = looks (rw here refl) is.1.seat is.1.seen
+  obeyed a is_told may collector other (Some command.Audit) here is = looks (rw here refl) is.1.seat is.1.seen
+  obeyed a is_told may collector other (Some (command.Picture file about)) here is = looks (rw here refl) is.1.seat is.1.seen
+  obeyed a is_told may collector other (Some command.Changes) here is = posts_none (rw here refl) is.1
+  obeyed a is_told may collector other (Some (command.Watch is_on)) here is =
+      looks (rw here refl) (ap (λ (x : BesideValue). x.seat) is.1) (versions_same b.seen new.seen (ap (λ (x : BesideValue). x.seen) is.1))
 
--- a line, by whoever has a seat; a line feed ends its answer
-pub line_told : (start : Network) (seats : ℕ) (posts : Bool) (collector : ℕ) (line : List ℕ) (b : BesideValue) (text : List ℕ) (new : BesideValue) → IsOpened start b.seat.saw → IsHistory b.seat.saw
-    → Replies (CommandsAs seats posts collector) line b text new → (front : List ℕ) × LineTold b (taken_by (trimmed line) text) front new × ((event : Event) → taken_by (trimmed line) text ≡ event ∷ [] → text ≡ front ++ 10 ∷ [])
-line_told start seats posts collector line b text new opened history = go (is_too_long (trimmed line)) (is_silent (trimmed line))
+-- a line, by whoever has a seat
+pub line_told : (start : Network) (seats : ℕ) (posts : Bool) (collector : ℕ) (line : List ℕ) (b : BesideValue) (told : Option Answer) (new : BesideValue) → IsOpened start b.seat.saw → IsHistory b.seat.saw
+    → Replies (CommandsAs seats posts collector) line b told new → LineTold b (trimmed line) told new
+line_told start seats posts collector line b told new opened history = go (is_too_long (trimmed line)) (is_silent (trimmed line))
   where
-    go : (long quiet : Bool) → IsAnswer (CommandsAs seats posts collector) long quiet (trimmed line) b text new
-        → (front : List ℕ) × LineTold b (taken_by (trimmed line) text) front new × ((event : Event) → taken_by (trimmed line) text ≡ event ∷ [] → text ≡ front ++ 10 ∷ [])
-    go true quiet is =
-        let none : taken_by (trimmed line) text ≡ [] = ap (taken_by (trimmed line)) is.0 in
-        ([], same start seats b [] new opened history (taken_by (trimmed line) text) none is.1, (λ event one. absurd (not_none event (sym none ∙ one))))
-    go false true is =
-        let none : taken_by (trimmed line) text ≡ [] = ap (taken_by (trimmed line)) is.0 in
-        ([], same start seats b [] new opened history (taken_by (trimmed line) text) none is.1, (λ event one. absurd (not_none event (sym none ∙ one))))
-    go false false is = (
-      is.0,
-      subst (λ (es : List Event). LineTold b es is.0 new) (taken_ended (trimmed line) is.0 ∙ ap (taken_by (trimmed line)) (sym is.2))
-          (obeyed start seats b is.0 new opened history posts collector (other_answer (words_of (trimmed line))) (command_of (words_of (trimmed line))) is.1),
-      (λ event one. is.2),
-    )
+    go : (long quiet : Bool) → IsReply (CommandsAs seats posts collector) long quiet (trimmed line) b told new → LineTold b (trimmed line) told new
+    go true quiet is = same start seats b (trimmed line) told new opened history (ap (taken_at (trimmed line)) is.0) is.1
+    go false true is = same start seats b (trimmed line) told new opened history (ap (taken_at (trimmed line)) is.0) is.1
+    go false false is =
+        obeyed start seats b (trimmed line) told new opened history is.0 is.2 posts collector (other_answer (words_of (trimmed line))) (command_of (words_of (trimmed line))) refl is.1

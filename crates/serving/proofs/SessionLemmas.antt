@@ -7,10 +7,11 @@ use Rattle.net_data.specs.Network.{Network}
 use Rattle.net_versions.specs.Versions.{VersionValue}
 use Rattle.desk_core.specs.declared.steps.Reply.TheVariants as reply
 use Rattle.desk_core.specs.Runs.{event_taken}
-use Rattle.desk_console.specs.Taken.{taken_by}
+use Rattle.answers.specs.declared.answer.Answer.{Answer}
+use Rattle.desk_console.specs.Taken.{taken_at}
 use Rattle.sessions.specs.Lines.{is_silent, is_too_long, lines_of, trimmed, whole_lines}
-use Rattle.sessions.specs.Replies.{Answered, IsReply as IsAnswer, Replies}
-use Rattle.sessions.specs.Run.{IsBegun, IsCutAt, IsEndAt}
+use Rattle.sessions.specs.Replies.{Answered, Answers, AreTexts, IsReply, Replies}
+use Rattle.sessions.specs.Run.{IsBegun, IsCutAt, IsEndAt, IsFrontOf}
 use Rattle.sessions.specs.declared.faults.Fault.{Fault}
 use Rattle.sessions.specs.declared.faults.Fault.TheVariants.{OutOfMemory, Read, Write, NoPlace, Load}
 use Rattle.seats.specs.Minutes.{OnlyOthersSince, SeatValue}
@@ -25,7 +26,7 @@ use Rattle.histories.proofs.ExplainLemmas.{authored_append, come_own, did_own, o
 use Rattle.histories.proofs.SeenLemmas.{ended, nth_later, opened_more, seen_in}
 use Rattle.beside.specs.Beside.{BesideValue, StartsBeside}
 use Rattle.beside.specs.Seats.{Came, CamePosting, Goes, posted_by}
-use Rattle.beside.specs.Right.{Moment, texts}
+use Rattle.beside.specs.Right.{Moment, told_in}
 use Rattle.serving.specs.Seated.{CommandsAs, CommandsSeated, KeepsRules, LosesSeated, SeatedValue}
 use Rattle.serving.specs.Served.{AreSeen, AreTold, AreWritten, IsLost, IsToldSession, lines_in, taken_in}
 use Rattle.serving.specs.Sittings.{Sits, fault_of}
@@ -49,35 +50,35 @@ record Grows (b new : BesideValue) : Type 0 where
 
 -- ---- lines that were answered
 
-record Made (seats : ℕ) (posts : Bool) (collector : ℕ) (b : BesideValue) (lines : List (List ℕ)) (text : List ℕ) (new : BesideValue) : Type 0 where
+record Made (seats : ℕ) (posts : Bool) (collector : ℕ) (b : BesideValue) (lines : List (List ℕ)) (told : List (Option Answer)) (new : BesideValue) : Type 0 where
   moments : List Moment
   asked : lines ≡ lines_in moments
-  told : text ≡ texts moments
+  are_told : told ≡ told_in moments
   grows : Grows b new
   own : own_events b.seat.me new.seat.saw ≡ own_events b.seat.me b.seat.saw ++ taken_in moments
   each : (all : List Authored) → IsPrefix (authored_in new.seat.saw) all → AreTold seats posts collector all b.seat.me b moments
   views : (shown : List VersionValue) → IsPrefix new.seen shown → AreSeen shown moments
 
 -- a line of a session, as one of who comes to the hub
-unseated : (seats : ℕ) (line : List ℕ) (s : SeatedValue) (text : List ℕ) (new : SeatedValue) → Replies (CommandsSeated seats) line s text new
-    → Replies (CommandsAs seats s.posts s.collector) line s.beside text new.beside × KeepsRules s new
-unseated seats line s text new = go (is_too_long (trimmed line)) (is_silent (trimmed line))
+unseated : (seats : ℕ) (line : List ℕ) (s : SeatedValue) (told : Option Answer) (new : SeatedValue) → Replies (CommandsSeated seats) line s told new
+    → Replies (CommandsAs seats s.posts s.collector) line s.beside told new.beside × KeepsRules s new
+unseated seats line s told new = go (is_too_long (trimmed line)) (is_silent (trimmed line))
   where
-    go : (long quiet : Bool) → IsAnswer (CommandsSeated seats) long quiet (trimmed line) s text new
-        → IsAnswer (CommandsAs seats s.posts s.collector) long quiet (trimmed line) s.beside text new.beside × KeepsRules s new
+    go : (long quiet : Bool) → IsReply (CommandsSeated seats) long quiet (trimmed line) s told new
+        → IsReply (CommandsAs seats s.posts s.collector) long quiet (trimmed line) s.beside told new.beside × KeepsRules s new
     go true quiet is = ((is.0, ap (λ (x : SeatedValue). x.beside) is.1), (ap (λ (x : SeatedValue). x.posts) is.1, ap (λ (x : SeatedValue). x.collector) is.1))
     go false true is = ((is.0, ap (λ (x : SeatedValue). x.beside) is.1), (ap (λ (x : SeatedValue). x.posts) is.1, ap (λ (x : SeatedValue). x.collector) is.1))
     go false false is = ((is.0, is.1.0, is.2), is.1.1)
 
 module _ (start : Network) (seats : ℕ) (posts : Bool) (collector : ℕ) where
-  made : (s : SeatedValue) (lines : List (List ℕ)) (text : List ℕ) (new : SeatedValue) → s.posts ≡ posts → s.collector ≡ collector → IsOpened start s.beside.seat.saw → IsHistory s.beside.seat.saw
-      → Answered (CommandsSeated seats) s lines text new → Made seats posts collector s.beside lines text new.beside
-  made s [] text new p c opened history is =
+  made : (s : SeatedValue) (lines : List (List ℕ)) (told : List (Option Answer)) (new : SeatedValue) → s.posts ≡ posts → s.collector ≡ collector → IsOpened start s.beside.seat.saw → IsHistory s.beside.seat.saw
+      → Answers (CommandsSeated seats) s lines told new → Made seats posts collector s.beside lines told new.beside
+  made s [] told new p c opened history is =
       let same : new.beside ≡ s.beside = ap (λ (x : SeatedValue). x.beside) is.1 in
       record {
         moments = [];
         asked = refl;
-        told = is.0;
+        are_told = is.0;
         grows = record {
           me = ap (λ (x : BesideValue). x.seat.me) same;
           saw = ([], append-nil s.beside.seat.saw ∙ ap (λ (x : BesideValue). x.seat.saw) (sym same));
@@ -88,46 +89,45 @@ module _ (start : Network) (seats : ℕ) (posts : Bool) (collector : ℕ) where
         each = λ all prefix. tt;
         views = λ shown prefix. tt;
       }
-  made s (line ∷ lines) text new p c opened history is =
-      let t : List ℕ = is.0 in
+  made s (line ∷ lines) told new p c opened history is =
+      let first : Option Answer = is.0 in
       let mid : SeatedValue = is.1 in
-      let reply = unseated seats line s t mid is.3 in
-      let asked : Replies (CommandsAs seats posts collector) line s.beside t mid.beside =
-      subst (λ (x : Bool × ℕ). Replies (CommandsAs seats x.0 x.1) line s.beside t mid.beside) (λ i. (p i, c i)) reply.0 in
-      let l = line_told start seats posts collector line s.beside t mid.beside opened history asked in
-      let told : LineTold s.beside (taken_by (trimmed line) t) l.0 mid.beside = l.1 in
+      let reply = unseated seats line s first mid is.3 in
+      let asked : Replies (CommandsAs seats posts collector) line s.beside first mid.beside =
+      subst (λ (x : Bool × ℕ). Replies (CommandsAs seats x.0 x.1) line s.beside first mid.beside) (λ i. (p i, c i)) reply.0 in
+      let l : LineTold s.beside (trimmed line) first mid.beside = line_told start seats posts collector line s.beside first mid.beside opened history asked in
       let rest : Made seats posts collector mid.beside lines is.2 new.beside =
-      made mid lines is.2 new (reply.1.0 ∙ p) (reply.1.1 ∙ c) (opened_later start s.beside.seat.saw mid.beside.seat.saw opened told.saw) told.history is.4 in
-      let m : Moment = record { line = line; text = t; after = mid.beside } in
+      made mid lines is.2 new (reply.1.0 ∙ p) (reply.1.1 ∙ c) (opened_later start s.beside.seat.saw mid.beside.seat.saw opened l.saw) l.history is.4 in
+      let m : Moment = record { line = line; told = first; after = mid.beside } in
       record {
         moments = m ∷ rest.moments;
         asked = ap (λ (ls : List (List ℕ)). line ∷ ls) rest.asked;
-        told = is.5 ∙ ap (λ (x : List ℕ). t ++ x) rest.told;
+        are_told = is.5 ∙ ap (λ (t : List (Option Answer)). first ∷ t) rest.are_told;
         grows = record {
-          me = rest.grows.me ∙ told.me;
-          saw = prefix_then s.beside.seat.saw mid.beside.seat.saw new.beside.seat.saw told.saw rest.grows.saw;
+          me = rest.grows.me ∙ l.me;
+          saw = prefix_then s.beside.seat.saw mid.beside.seat.saw new.beside.seat.saw l.saw rest.grows.saw;
           history = rest.grows.history;
-          seen = prefix_then s.beside.seen mid.beside.seen new.beside.seen told.seen rest.grows.seen;
+          seen = prefix_then s.beside.seen mid.beside.seen new.beside.seen l.seen rest.grows.seen;
         };
         own =
-            ap (λ n. own_events n new.beside.seat.saw) (sym told.me)
+            ap (λ n. own_events n new.beside.seat.saw) (sym l.me)
             ∙ rest.own
-            ∙ ap (λ (es : List Event). es ++ taken_in rest.moments) (ap (λ n. own_events n mid.beside.seat.saw) told.me ∙ told.own)
-            ∙ append_assoc (own_events s.beside.seat.me s.beside.seat.saw) (taken_by (trimmed line) t) (taken_in rest.moments);
+            ∙ ap (λ (es : List Event). es ++ taken_in rest.moments) (ap (λ n. own_events n mid.beside.seat.saw) l.me ∙ l.own)
+            ∙ append_assoc (own_events s.beside.seat.me s.beside.seat.saw) (taken_at (trimmed line) first) (taken_in rest.moments);
         each = λ all prefix. (
           record {
             replies = asked;
             number = λ event one.
-                let n = told.number event one in
+                let n = l.number event one in
                 record {
                   number = n.0;
-                  told = l.2 event one ∙ ap (λ (x : List ℕ). x ++ 10 ∷ []) n.1;
+                  is_taken = n.1;
                   nth = nth_later (authored_in mid.beside.seat.saw) all n.0 _
-                      (prefix_then (authored_in mid.beside.seat.saw) (authored_in new.beside.seat.saw) all (authored_grown mid.beside.seat.saw new.beside.seat.saw told.history rest.grows.saw) prefix) n.2;
+                      (prefix_then (authored_in mid.beside.seat.saw) (authored_in new.beside.seat.saw) all (authored_grown mid.beside.seat.saw new.beside.seat.saw l.history rest.grows.saw) prefix) n.2;
                 };
-            back = told.seen;
+            back = l.seen;
           },
-          subst (λ n. AreTold seats posts collector all n mid.beside rest.moments) told.me (rest.each all prefix),
+          subst (λ n. AreTold seats posts collector all n mid.beside rest.moments) l.me (rest.each all prefix),
         );
         views = λ shown prefix. (prefix_then mid.beside.seen new.beside.seen shown rest.grows.seen prefix, rest.views shown prefix);
       }
@@ -211,24 +211,26 @@ losing seats (line ∷ lines) s new history (inr lost) = goes_lost seats line li
 -- ---- a session
 
 -- how the lines of a session ended
-record Lines (seats : ℕ) (posts : Bool) (collector : ℕ) (ended : Option Fault) (left : Option (List ℕ)) (read written : List ℕ) (b after : BesideValue) : Type 0 where
+record Lines (Tells : Answer → List ℕ → Type 0) (seats : ℕ) (posts : Bool) (collector : ℕ) (ended : Option Fault) (left : Option (List ℕ)) (read written : List ℕ) (b after : BesideValue) : Type 0 where
   moments : List Moment
   lost : List Event
   grows : Grows b after
   own : own_events b.seat.me after.seat.saw ≡ own_events b.seat.me b.seat.saw ++ (taken_in moments ++ lost)
   each : (all : List Authored) → IsPrefix (authored_in after.seat.saw) all → AreTold seats posts collector all b.seat.me b moments
   views : (shown : List VersionValue) → IsPrefix after.seen shown → AreSeen shown moments
-  outcome : AreWritten ended left read written moments lost
+  outcome : AreWritten Tells ended left read written moments lost
 
-module _ (start : Network) (seats : ℕ) (posts : Bool) (collector : ℕ) (b : BesideValue) (opened : IsOpened start b.seat.saw) (history : IsHistory b.seat.saw) (left : Option (List ℕ)) (read written : List ℕ) (after : SeatedValue) where
+module _ (Tells : Answer → List ℕ → Type 0) (start : Network) (seats : ℕ) (posts : Bool) (collector : ℕ)
+    (b : BesideValue) (opened : IsOpened start b.seat.saw) (history : IsHistory b.seat.saw) (left : Option (List ℕ)) (read written : List ℕ) (after : SeatedValue) where
   abbrev first : SeatedValue
   first = record { beside = b; posts = posts; collector = collector }
 
   -- all lines were answered
-  whole_lines_told : (ended : Option Fault) (lines : List (List ℕ)) → Answered (CommandsSeated seats) first lines written after
-      → ((moments : List Moment) → lines ≡ lines_in moments → written ≡ texts moments → AreWritten ended left read written moments []) → Lines seats posts collector ended left read written b after.beside
+  whole_lines_told : (ended : Option Fault) (lines : List (List ℕ)) → Answered Tells (CommandsSeated seats) first lines written after
+      → ((moments : List Moment) → lines ≡ lines_in moments → AreTexts Tells (told_in moments) written → AreWritten Tells ended left read written moments [])
+      → Lines Tells seats posts collector ended left read written b after.beside
   whole_lines_told ended lines answered outcome =
-      let m : Made seats posts collector b lines written after.beside = made start seats posts collector first lines written after refl refl opened history answered in
+      let m : Made seats posts collector b lines answered.0 after.beside = made start seats posts collector first lines answered.0 after refl refl opened history answered.1 in
       record {
         moments = m.moments;
         lost = [];
@@ -236,15 +238,15 @@ module _ (start : Network) (seats : ℕ) (posts : Bool) (collector : ℕ) (b : B
         own = m.own ∙ ap (λ (es : List Event). own_events b.seat.me b.seat.saw ++ es) (sym (append-nil (taken_in m.moments)));
         each = m.each;
         views = m.views;
-        outcome = outcome m.moments m.asked m.told;
+        outcome = outcome m.moments m.asked (subst (λ (t : List (Option Answer)). AreTexts Tells t written) m.are_told answered.2);
       }
 
   -- the answers were cut off
-  cut_lines_told : (ended : Option Fault) → IsCutAt (CommandsSeated seats) (LosesSeated seats) first (lines_of read) written after
-      → ((moments : List Moment) (lost : List Event) (rest : List (List ℕ)) (more : List ℕ) → lines_of read ≡ lines_in moments ++ rest → texts moments ≡ written ++ more → IsLost rest lost
-      → AreWritten ended left read written moments lost) → Lines seats posts collector ended left read written b after.beside
+  cut_lines_told : (ended : Option Fault) → IsCutAt Tells (CommandsSeated seats) (LosesSeated seats) first (lines_of read) written after
+      → ((moments : List Moment) (lost : List Event) (rest : List (List ℕ)) → lines_of read ≡ lines_in moments ++ rest → IsFrontOf Tells (told_in moments) written → IsLost rest lost
+      → AreWritten Tells ended left read written moments lost) → Lines Tells seats posts collector ended left read written b after.beside
   cut_lines_told ended cut outcome =
-      let m : Made seats posts collector b cut.done cut.text cut.mid.beside = made start seats posts collector first cut.done cut.text cut.mid refl refl opened history cut.answered in
+      let m : Made seats posts collector b cut.done cut.told cut.mid.beside = made start seats posts collector first cut.done cut.told cut.mid refl refl opened history cut.answers in
       let l : Losing cut.left cut.mid.beside after.beside = losing seats cut.left cut.mid after m.grows.history cut.begun in
       record {
         moments = m.moments;
@@ -264,22 +266,24 @@ module _ (start : Network) (seats : ℕ) (posts : Bool) (collector : ℕ) (b : B
             m.each all (prefix_then (authored_in cut.mid.beside.seat.saw) (authored_in after.beside.seat.saw) all
             (authored_grown cut.mid.beside.seat.saw after.beside.seat.saw m.grows.history l.grows.saw) prefix);
         views = λ shown prefix. m.views shown (prefix_then cut.mid.beside.seen after.beside.seen shown l.grows.seen prefix);
-        outcome = outcome m.moments l.lost cut.left cut.front.0 (cut.whole ∙ ap (λ (ls : List (List ℕ)). ls ++ cut.left) m.asked) (sym m.told ∙ cut.front.1) l.is_lost;
+        outcome = outcome m.moments l.lost cut.left (cut.whole ∙ ap (λ (ls : List (List ℕ)). ls ++ cut.left) m.asked)
+            (subst (λ (t : List (Option Answer)). IsFrontOf Tells t written) m.are_told cut.front) l.is_lost;
       }
 
-  lines_told : (ended : Option Fault) → IsEndAt (CommandsSeated seats) (LosesSeated seats) (Unit {0}) ended first left read written after → Lines seats posts collector ended left read written b after.beside
+  lines_told : (ended : Option Fault) → IsEndAt Tells (CommandsSeated seats) (LosesSeated seats) (Unit {0}) ended first left read written after → Lines Tells seats posts collector ended left read written b after.beside
   lines_told None is = whole_lines_told None (lines_of read) is.1 (λ moments asked told. (is.0, asked, told, refl))
   lines_told (Some Read) is = whole_lines_told (Some Read) (whole_lines read) is (λ moments asked told. (asked, told, refl))
-  lines_told (Some Write) is = cut_lines_told (Some Write) is (λ moments lost rest more asked told none. (rest, more, asked, told, none))
-  lines_told (Some OutOfMemory) is = cut_lines_told (Some OutOfMemory) is (λ moments lost rest more asked told none. (rest, more, asked, told, none))
-  lines_told (Some NoPlace) is = cut_lines_told (Some NoPlace) is.1 (λ moments lost rest more asked told none. (rest, more, asked, told, none))
+  lines_told (Some Write) is = cut_lines_told (Some Write) is (λ moments lost rest asked told none. (rest, asked, told, none))
+  lines_told (Some OutOfMemory) is = cut_lines_told (Some OutOfMemory) is (λ moments lost rest asked told none. (rest, asked, told, none))
+  lines_told (Some NoPlace) is = cut_lines_told (Some NoPlace) is.1 (λ moments lost rest asked told none. (rest, asked, told, none))
   lines_told (Some (Load e)) is = absurd is
 
 -- from the first line to the last visit, once the hub has ended
-pub session_told : (start : Network) (seats : ℕ) (posts : Bool) (collector : ℕ) (b : BesideValue) (unread left held holds : Option (List ℕ)) (fault : Option Fault) (lines : ℕ) (seat : SeatValue DeskAndChain)
-    → StartsBeside start b → Sits seats posts collector b unread left held holds fault lines seat → (log : List (Sight DeskAndChain)) (state : DeskAndChain) → IsWholeHistory seats log state → OnlyOthersSince seat.me seat.saw log
-    → IsToldSession start seats posts collector (authored_in log) state.shown.chain b.seat.me unread left held holds fault lines × IsEnded start seats log state
-session_told start seats posts collector b unread left held holds fault lines seat opens sits log state whole since = (
+pub session_told : (Tells : Answer → List ℕ → Type 0) (start : Network) (seats : ℕ) (posts : Bool) (collector : ℕ) (b : BesideValue) (unread left held holds : Option (List ℕ)) (fault : Option Fault) (lines : ℕ)
+    (seat : SeatValue DeskAndChain) → StartsBeside start b → Sits Tells seats posts collector b unread left held holds fault lines seat
+    → (log : List (Sight DeskAndChain)) (state : DeskAndChain) → IsWholeHistory seats log state → OnlyOthersSince seat.me seat.saw log
+    → IsToldSession Tells start seats posts collector (authored_in log) state.shown.chain b.seat.me unread left held holds fault lines × IsEnded start seats log state
+session_told Tells start seats posts collector b unread left held holds fault lines seat opens sits log state whole since = (
   record {
     read = sits.ran.read;
     consumed = sits.ran.consumed;
@@ -309,8 +313,8 @@ session_told start seats posts collector b unread left held holds fault lines se
     after : BesideValue
     after = sits.after.beside
 
-    l : Lines seats posts collector sits.ended left sits.ran.read sits.ran.written b after
-    l = lines_told start seats posts collector b opened history left sits.ran.read sits.ran.written sits.after sits.ended sits.ran.outcome
+    l : Lines Tells seats posts collector sits.ended left sits.ran.read sits.ran.written b after
+    l = lines_told Tells start seats posts collector b opened history left sits.ran.read sits.ran.written sits.after sits.ended sits.ran.outcome
 
     found : DeskAndChain
     found = sits.parts.found

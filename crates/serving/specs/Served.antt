@@ -1,39 +1,40 @@
 -- What many sessions at one desk were told: one history (own).
-use Rattle.std.specs.Prelude.{◌≡◌, ◌≢◌, ◌⊎◌, ◌<◌, ℕ, Bool, List, [], ◌∷◌, ◌++◌, Option, Some, None, Ok, length, map, slice_index_or}
+use Rattle.std.specs.Prelude.{◌≡◌, ◌≢◌, ◌⊎◌, ◌<◌, ℕ, Bool, List, [], ◌∷◌, ◌++◌, Option, Some, None, length, map, slice_index_or}
 use Rattle.std.specs.Io.KnownBytes.{Consumes, Appends, IsAtEnd}
 use mathlib.Core.List.{IsPrefix}
 use Rattle.net_data.specs.declared.events.Event.{Event}
 use Rattle.net_data.specs.Edits.{replay}
 use Rattle.net_data.specs.Network.{Network}
 use Rattle.net_versions.specs.Versions.{VersionValue}
-use Rattle.work_units.specs.declared.replies.Posted.TheVariants.{Taken}
+use Rattle.answers.specs.declared.answer.Answer.{Answer}
+use Rattle.answers.specs.declared.answer.Answer.TheVariants as answer
+use Rattle.answers.specs.declared.answer.Reply.TheVariants as reply
 use Rattle.desk_core.specs.Desk.{new_desk}
-use Rattle.answers.specs.Replies.{posted_text}
-use Rattle.answers.specs.Text.{line_count}
-use Rattle.desk_console.specs.Taken.{taken_by}
-use Rattle.sessions.specs.Lines.{lines_of, trimmed, whole_lines}
-use Rattle.sessions.specs.Replies.{Replies}
+use Rattle.desk_console.specs.Taken.{taken_at}
+use Rattle.sessions.specs.Lines.{line_count, lines_of, trimmed, whole_lines}
+use Rattle.sessions.specs.Replies.{AreTexts, Replies}
+use Rattle.sessions.specs.Run.{IsFrontOf}
 use Rattle.sessions.specs.declared.faults.Fault.{Fault}
 use Rattle.sessions.specs.declared.faults.Fault.TheVariants.{NoPlace, Read, Load}
 use Rattle.histories.specs.Histories.{AreOfSeats, Authored, IsNth, events_by, events_in}
 use Rattle.histories.specs.Right.{AreRight}
 use Rattle.beside.specs.Beside.{BesideValue, StartsBeside}
 use Rattle.beside.specs.Seats.{posted_by}
-use Rattle.beside.specs.Right.{Moment, texts}
+use Rattle.beside.specs.Right.{Moment, told_in}
 use Rattle.serving.specs.declared.channels.Channel.{Channel}
 use Rattle.serving.specs.declared.channels.SessionEnd.{SessionEnd}
 use Rattle.serving.specs.Seated.{CommandsAs}
 
 -- the answer is `taken N`, and the N-th accepted event is this one, which came through this seat
-pub record IsNumbered (all : List Authored) (me : ℕ) (event : Event) (text : List ℕ) : Type 0 where
+pub record IsNumbered (all : List Authored) (me : ℕ) (event : Event) (told : Option Answer) : Type 0 where
   pub number : ℕ
-  pub told : text ≡ posted_text (Ok (Taken number)) ++ 10 ∷ []
+  pub is_taken : told ≡ Some (answer.Reply (reply.Taken number))
   pub nth : IsNth all number (record { by = me; event = event })
 
 -- a line is answered from what the line before left; if it is answered `taken`, then with the number that its event has; and its view doesn't go back
 pub record IsTold (seats : ℕ) (posts : Bool) (collector : ℕ) (all : List Authored) (me : ℕ) (before : BesideValue) (m : Moment) : Type 0 where
-  pub replies : Replies (CommandsAs seats posts collector) m.line before m.text m.after
-  pub number : (event : Event) → taken_by (trimmed m.line) m.text ≡ event ∷ [] → IsNumbered all me event m.text
+  pub replies : Replies (CommandsAs seats posts collector) m.line before m.told m.after
+  pub number : (event : Event) → taken_at (trimmed m.line) m.told ≡ event ∷ [] → IsNumbered all me event m.told
   pub back : IsPrefix before.seen m.after.seen
 
 -- so it is with one line after the other
@@ -49,7 +50,7 @@ AreSeen shown (m ∷ moments) = IsPrefix m.after.seen shown × AreSeen shown mom
 -- the events that lines were answered `taken` for
 abbrev pub taken_in : List Moment → List Event
 taken_in [] = []
-taken_in (m ∷ moments) = taken_by (trimmed m.line) m.text ++ taken_in moments
+taken_in (m ∷ moments) = taken_at (trimmed m.line) m.told ++ taken_in moments
 
 -- the lines of moments
 abbrev pub lines_in : List Moment → List (List ℕ)
@@ -61,17 +62,17 @@ IsLost [] lost = lost ≡ []
 IsLost (line ∷ lines) lost = (lost ≡ []) ⊎ (lost ≡ posted_by (trimmed line))
 
 -- by the fault that ended the lines: these lines were read, of whose answers this was written; of the lines that weren't answered one may have posted
-abbrev pub AreWritten : Option Fault → Option (List ℕ) → List ℕ → List ℕ → List Moment → List Event → Type 0
-AreWritten None left read written moments lost = IsAtEnd left × (lines_of read ≡ lines_in moments) × (written ≡ texts moments) × (lost ≡ [])
-AreWritten (Some Read) left read written moments lost = (whole_lines read ≡ lines_in moments) × (written ≡ texts moments) × (lost ≡ [])
-AreWritten (Some (Load e)) left read written moments lost = ⊥
-AreWritten (Some fault) left read written moments lost =
-    (rest : List (List ℕ)) × (more : List ℕ) × (lines_of read ≡ lines_in moments ++ rest) × (texts moments ≡ written ++ more) × IsLost rest lost
+abbrev pub AreWritten : (Answer → List ℕ → Type 0) → Option Fault → Option (List ℕ) → List ℕ → List ℕ → List Moment → List Event → Type 0
+AreWritten Tells None left read written moments lost = IsAtEnd left × (lines_of read ≡ lines_in moments) × AreTexts Tells (told_in moments) written × (lost ≡ [])
+AreWritten Tells (Some Read) left read written moments lost = (whole_lines read ≡ lines_in moments) × AreTexts Tells (told_in moments) written × (lost ≡ [])
+AreWritten Tells (Some (Load e)) left read written moments lost = ⊥
+AreWritten Tells (Some fault) left read written moments lost =
+    (rest : List (List ℕ)) × (lines_of read ≡ lines_in moments ++ rest) × IsFrontOf Tells (told_in moments) written × IsLost rest lost
 
 -- what a session was told: some bytes were read; their lines were answered one after the other, of which this was written; of the one list of events those
 -- that came through its seat are those that it was answered `taken` for, in their order, and one at most whose answer was lost
-pub record IsToldSession (start : Network) (seats : ℕ) (posts : Bool) (collector : ℕ) (all : List Authored) (shown : List VersionValue) (me : ℕ)
-    (unread left held holds : Option (List ℕ)) (fault : Option Fault) (lines : ℕ) : Type 0 where
+pub record IsToldSession (Tells : Answer → List ℕ → Type 0) (start : Network) (seats : ℕ) (posts : Bool) (collector : ℕ) (all : List Authored) (shown : List VersionValue)
+    (me : ℕ) (unread left held holds : Option (List ℕ)) (fault : Option Fault) (lines : ℕ) : Type 0 where
   pub read : List ℕ
   pub consumed : Consumes unread left read
   pub written : List ℕ
@@ -86,25 +87,25 @@ pub record IsToldSession (start : Network) (seats : ℕ) (posts : Bool) (collect
   pub own : events_by me all ≡ taken_in moments ++ lost
   pub ended : Option Fault
   pub cause : (fault ≡ ended) ⊎ (fault ≡ Some NoPlace)
-  pub outcome : AreWritten ended left read written moments lost
+  pub outcome : AreWritten Tells ended left read written moments lost
 
 -- one list of accepted events, each with its seat, and one chain of published versions, each the one of its number
 pub record IsOneHistory (start : Network) (seats : ℕ) (all : List Authored) (shown : List VersionValue) : Type 0 where
   pub authors : AreOfSeats seats all
   pub right : AreRight (new_desk start) (events_in all) None shown
 
-module _ {R W : Type 0} (remaining : R → Option (List ℕ)) (contents : W → Option (List ℕ)) where
+module _ {R W T : Type 0} (remaining : R → Option (List ℕ)) (contents : W → Option (List ℕ)) (tells : T → Answer → List ℕ → Type 0) where
   -- the session of a number, of those that were given, was told parts of the one history, and ended so
-  abbrev pub IsSessionOf : Network → ℕ → List Authored → List VersionValue → ℕ → Channel R W → SessionEnd R W → Type 0
+  abbrev pub IsSessionOf : Network → ℕ → List Authored → List VersionValue → ℕ → Channel R W T → SessionEnd R W → Type 0
   IsSessionOf start seats all shown me c e =
-      IsToldSession start seats c.posts c.collector all shown me (remaining c.reader) (remaining e.reader) (contents c.writer) (contents e.writer) e.fault e.lines
+      IsToldSession (tells c.telling) start seats c.posts c.collector all shown me (remaining c.reader) (remaining e.reader) (contents c.writer) (contents e.writer) e.fault e.lines
 
   -- many sessions at one desk: one list of accepted events, each with its session, and one chain of published versions explain what each of them was told;
   -- the network that comes back is the one after all events
-  pub record IsServed (start : Network) (channels : List (Channel R W)) (ends : List (SessionEnd R W)) (net : Option Network) : Type 0 where
+  pub record IsServed (start : Network) (channels : List (Channel R W T)) (ends : List (SessionEnd R W)) (net : Option Network) : Type 0 where
     pub all : List Authored
     pub shown : List VersionValue
     pub history : IsOneHistory start (length channels) all shown
     pub each_one : length ends ≡ length channels
-    pub told : (i : ℕ) (c : Channel R W) (e : SessionEnd R W) → i < length channels → IsSessionOf start (length channels) all shown i (slice_index_or channels i c) (slice_index_or ends i e)
+    pub told : (i : ℕ) (c : Channel R W T) (e : SessionEnd R W) → i < length channels → IsSessionOf start (length channels) all shown i (slice_index_or channels i c) (slice_index_or ends i e)
     pub network : (after : Network) → net ≡ Some after → after ≡ replay start (events_in all)

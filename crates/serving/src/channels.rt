@@ -20,11 +20,13 @@ impl Farewell for Silent {
 
 /// A session that is to be run.
 #[derive(Drop)]
-pub struct Channel<R, W> {
+pub struct Channel<R, W, L> {
     /// Where its lines come from.
     pub reader: R,
     /// Where its answers go.
     pub writer: W,
+    /// Who tells its answers.
+    pub telling: L,
     /// Whether it may post. If not, an event or a post is answered `refused 62 BadLine`.
     pub posts: bool,
     /// The collector that posts its plain events.
@@ -35,7 +37,7 @@ pub struct Channel<R, W> {
 #[derive(Drop)]
 pub struct SessionEnd<R, W> {
     /// How many lines of answers were written whole.
-    pub lines: u64,
+    pub lines: u128,
     /// Why it ended early, if it did.
     pub fault: Option<Fault>,
     /// The reader, as far as it was read.

@@ -12,6 +12,7 @@ ghost use Rattle.serving.specs.Sittings.{AreEnded, AreSat, AreSeated, IsEndOf};
 
 use crate::channels::{DeskEnd, SessionEnd};
 use crate::sittings::Sitting;
+use answers::Telling;
 use net_data::Net;
 use std::alloc::Global;
 use std::io::{Read, Write};
@@ -30,10 +31,10 @@ fn explain<N: Naming, T: Wait>(rt: &T, history: &mut History<N>, guest: Option<G
 }
 
 /// How a session ended that was run, whose seat is explained by the history of the hub.
-fn ended<N: Naming, T: Wait, R: Drop, W: Drop>(
+fn ended<N: Naming, T: Wait, R: Drop, W: Drop, L: Drop>(
     rt: &T,
     history: &mut History<N>,
-    sitting: Sitting<N, R, W>,
+    sitting: Sitting<N, R, W, L>,
 ) -> SessionEnd<R, W>
     ensures same { history.new ≡ history.old }
     ensures end { IsEndOf N.seats history.old.log history.old.state sitting result }
@@ -55,10 +56,10 @@ fn ended<N: Naming, T: Wait, R: Drop, W: Drop>(
 }
 
 /// How all sessions ended, in the order in which they were given: they come the last first. The list has room for them.
-fn end_all<N: Naming, T: Wait, R: Drop, W: Drop>(
+fn end_all<N: Naming, T: Wait, R: Drop, W: Drop, L: Drop>(
     rt: &T,
     history: &mut History<N>,
-    mut sittings: Vec<Sitting<N, R, W>>,
+    mut sittings: Vec<Sitting<N, R, W, L>>,
     mut ends: Vec<SessionEnd<R, W>>,
 ) -> Vec<SessionEnd<R, W>>
     requires room { (vec_len ends ≡ 0) × (vec_len sittings ≤ vec_capacity ends) }
@@ -79,17 +80,17 @@ fn net_after<N: Naming>(alloc: Global, history: History<N>) -> Option<Net>
 }
 
 /// The end of sessions that were run, at a hub that has ended. The list has room for their ends.
-pub(crate) fn end_run<N: Naming, T: Wait, R: Read + Drop, W: Write + Drop>(
+pub(crate) fn end_run<N: Naming, T: Wait, R: Read + Drop, W: Write + Drop, L: Telling + Drop>(
     rt: &T,
     alloc: Global,
     mut history: History<N>,
-    sat: Vec<Sitting<N, R, W>>,
+    sat: Vec<Sitting<N, R, W, L>>,
     room: Vec<SessionEnd<R, W>>,
 ) -> DeskEnd<R, W>
     requires room { (vec_len room ≡ 0) × (vec_len sat ≤ vec_capacity room) }
     ensures { (state : DeskAndChain_value) (net : Network) (channels : List _) (sittings : List _)
-        → IsOpening net state → AreSeated N.table state channels sittings → AreSat R.remaining W.contents N.seats sittings sat.items → length channels ≡ N.seats → 0 < N.seats
-        → IsServed R.remaining W.contents net channels result.ends.items result.net }
+        → IsOpening net state → AreSeated N.table state channels sittings → AreSat R.remaining W.contents L.tells N.seats sittings sat.items → length channels ≡ N.seats → 0 < N.seats
+        → IsServed R.remaining W.contents L.tells net channels result.ends.items result.net }
 {
     let ends = end_all(rt, &mut history, sat, room);
     DeskEnd {

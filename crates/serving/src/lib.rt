@@ -1,7 +1,7 @@
 //! Many sessions at one desk, each in a thread of its own, beside workers (all own).
 //!
-//! 1. Each session has a reader, a writer and a seat at one hub. Its lines are answered as those of a script beside workers are,
-//!    one after the other; sessions wait for one another at the hub's lock alone.
+//! 1. Each session has a reader, a writer, who tells its answers, and a seat at one hub. Its lines are answered as those of a script
+//!    beside workers are, one after the other; sessions wait for one another at the hub's lock alone.
 //! 2. A session that may not post has its events and posts answered `refused 62 BadLine`. Its plain events are posted by its own
 //!    collector, under the sequence number after that collector's last one.
 //! 3. A fault ends its own session, and the others go on; who wants to know is told at once. The run ends when all sessions have.

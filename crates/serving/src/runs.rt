@@ -10,6 +10,7 @@ use crate::channels::{Channel, DeskEnd, Farewell, SessionEnd};
 use crate::ends::end_run;
 use crate::seating::{admit_more, give_up, seat_with_room};
 use crate::sittings::{Sitting, sit};
+use answers::Telling;
 use desk_core::Desk;
 use net_data::Net;
 use seats::Seat;
@@ -45,15 +46,16 @@ fn sit_all<
     F: Farewell + Sync,
     R: Read + Send + Drop,
     W: Write + Send + Drop,
+    L: Telling + Send + Drop,
 >(
     rt: &T,
     alloc: Global,
     farewell: &F,
     hub: &Mutex<Hub<N, BySeats>>,
     signals: &Signals,
-    sittings: &mut [Sitting<N, R, W>],
+    sittings: &mut [Sitting<N, R, W, L>],
 )
-    ensures { AreSat R.remaining W.contents N.seats sittings.old sittings.new }
+    ensures { AreSat R.remaining W.contents L.tells N.seats sittings.old sittings.new }
 {
     let all = sittings.len();
     if all > 0 {
@@ -61,9 +63,9 @@ fn sit_all<
             rt,
             sittings,
             all,
-            &|at: usize, sitting: &mut Sitting<N, R, W>|
+            &|at: usize, sitting: &mut Sitting<N, R, W, L>|
                 requires { at < all }
-                ensures { (start : _) → sitting.entry.now.visitor ≡ Some start → IsSat R.remaining W.contents N.seats start sitting.entry.now sitting.exit.now }
+                ensures { (start : _) → sitting.entry.now.visitor ≡ Some start → IsSat R.remaining W.contents L.tells N.seats start sitting.entry.now sitting.exit.now }
             {
                 sit(rt, alloc, hub, signals, sitting);
                 farewell.tell(all - 1 - at, sitting.fault);
@@ -80,6 +82,7 @@ fn sit_beside<
     F: Farewell + Sync,
     R: Read + Send + Drop,
     W: Write + Send + Drop,
+    L: Telling + Send + Drop,
 >(
     rt: &T,
     alloc: Global,
@@ -88,10 +91,10 @@ fn sit_beside<
     farewell: &F,
     hub: &Mutex<Hub<N, BySeats>>,
     signals: &Signals,
-    sittings: Vec<Sitting<N, R, W>>,
-) -> Vec<Sitting<N, R, W>>
+    sittings: Vec<Sitting<N, R, W, L>>,
+) -> Vec<Sitting<N, R, W, L>>
     requires { (0 < n) × (n ≤ 32) }
-    ensures { AreSat R.remaining W.contents N.seats sittings.items result.items }
+    ensures { AreSat R.remaining W.contents L.tells N.seats sittings.items result.items }
 {
     let (_, sat) = run_pool(
         rt,
@@ -100,8 +103,8 @@ fn sit_beside<
         hub,
         signals,
         gate,
-        || -> Vec<Sitting<N, R, W>>
-            ensures { AreSat R.remaining W.contents N.seats sittings.items result.items }
+        || -> Vec<Sitting<N, R, W, L>>
+            ensures { AreSat R.remaining W.contents L.tells N.seats sittings.items result.items }
         { sit_whole(rt, alloc, farewell, hub, signals, sittings) },
     );
     sat
@@ -114,15 +117,16 @@ fn sit_whole<
     F: Farewell + Sync,
     R: Read + Send + Drop,
     W: Write + Send + Drop,
+    L: Telling + Send + Drop,
 >(
     rt: &T,
     alloc: Global,
     farewell: &F,
     hub: &Mutex<Hub<N, BySeats>>,
     signals: &Signals,
-    mut sittings: Vec<Sitting<N, R, W>>,
-) -> Vec<Sitting<N, R, W>>
-    ensures { AreSat R.remaining W.contents N.seats sittings.items result.items }
+    mut sittings: Vec<Sitting<N, R, W, L>>,
+) -> Vec<Sitting<N, R, W, L>>
+    ensures { AreSat R.remaining W.contents L.tells N.seats sittings.items result.items }
 {
     sit_all(rt, alloc, farewell, hub, signals, sittings.as_mut_slice());
     sittings
@@ -136,6 +140,7 @@ fn work<
     F: Farewell + Sync,
     R: Read + Send + Drop,
     W: Write + Send + Drop,
+    L: Telling + Send + Drop,
 >(
     rt: &T,
     alloc: Global,
@@ -143,10 +148,10 @@ fn work<
     gate: &G,
     farewell: &F,
     hub: &Mutex<Hub<N, BySeats>>,
-    sittings: Vec<Sitting<N, R, W>>,
-) -> Vec<Sitting<N, R, W>>
+    sittings: Vec<Sitting<N, R, W, L>>,
+) -> Vec<Sitting<N, R, W, L>>
     requires { n ≤ 32 }
-    ensures { AreSat R.remaining W.contents N.seats sittings.items result.items }
+    ensures { AreSat R.remaining W.contents L.tells N.seats sittings.items result.items }
 {
     let signals = Signals::new();
     if n == 0 {
@@ -164,6 +169,7 @@ fn run_sittings<
     F: Farewell + Sync,
     R: Read + Send + Drop,
     W: Write + Send + Drop,
+    L: Telling + Send + Drop,
 >(
     rt: &T,
     alloc: Global,
@@ -171,13 +177,13 @@ fn run_sittings<
     gate: &G,
     farewell: &F,
     hub: Hub<N, BySeats>,
-    sittings: Vec<Sitting<N, R, W>>,
+    sittings: Vec<Sitting<N, R, W, L>>,
     room: Vec<SessionEnd<R, W>>,
 ) -> DeskEnd<R, W>
     requires workers { n ≤ 32 }
     requires room { (vec_len room ≡ 0) × (vec_len sittings ≤ vec_capacity room) }
     ensures { (net : Network) (channels : List _) → IsOpening net hub.state → AreSeated N.table hub.state channels sittings.items → length channels ≡ N.seats → 0 < N.seats
-        → IsServed R.remaining W.contents net channels result.ends.items result.net }
+        → IsServed R.remaining W.contents L.tells net channels result.ends.items result.net }
 {
     let hub = Mutex::new(hub);
     let sat = work(rt, alloc, n, gate, farewell, &hub, sittings);
@@ -192,6 +198,7 @@ fn run_at<
     F: Farewell + Sync,
     R: Read + Send + Drop,
     W: Write + Send + Drop,
+    L: Telling + Send + Drop,
 >(
     rt: &T,
     alloc: Global,
@@ -201,13 +208,13 @@ fn run_at<
     hub: Hub<N, BySeats>,
     first: Guest<N>,
     seats: Vec<Seat<DeskAndChain>>,
-    channels: Vec<Channel<R, W>>,
+    channels: Vec<Channel<R, W, L>>,
 ) -> Result<DeskEnd<R, W>, Fault>
     requires workers { n ≤ 32 }
     requires first { first ≡ seat_at N.table hub.state 0 }
     requires seats { (j : ℕ) (d : _) → j < vec_len seats → slice_index_or seats.items j d ≡ seat_at N.table hub.state (j + 1) }
     requires count { (vec_len channels ≡ vec_len seats + 1) × (vec_len channels ≡ N.seats) }
-    ensures { (net : Network) → IsOpening net hub.state → IfOk result (λ end. IsServed R.remaining W.contents net channels.items end.ends.items end.net) }
+    ensures { (net : Network) → IsOpening net hub.state → IfOk result (λ end. IsServed R.remaining W.contents L.tells net channels.items end.ends.items end.net) }
 {
     match seat_with_room(alloc, &hub, first, seats, channels) {
         Ok((sittings, room)) => Ok(run_sittings(rt, alloc, n, gate, farewell, hub, sittings, room)),
@@ -223,6 +230,7 @@ fn run_named<
     F: Farewell + Sync,
     R: Read + Send + Drop,
     W: Write + Send + Drop,
+    L: Telling + Send + Drop,
 >(
     rt: &T,
     alloc: Global,
@@ -231,13 +239,13 @@ fn run_named<
     farewell: &F,
     unnamed: UnnamedWithSeats,
     seats: Vec<Seat<DeskAndChain>>,
-    channels: Vec<Channel<R, W>>,
+    channels: Vec<Channel<R, W, L>>,
 ) -> Result<DeskEnd<R, W>, Fault>
     requires names { (unnamed.state.shown.book ≡ N.book) × (unnamed.table ≡ N.table) × (unnamed.seats ≡ N.seats) }
     requires workers { n ≤ 32 }
     requires seats { (j : ℕ) (d : _) → j < vec_len seats → slice_index_or seats.items j d ≡ seat_at unnamed.table unnamed.state (j + 1) }
     requires count { (vec_len channels ≡ vec_len seats + 1) × (unnamed.seats ≡ vec_len channels) }
-    ensures { (net : Network) → IsOpening net unnamed.state → IfOk result (λ end. IsServed R.remaining W.contents net channels.items end.ends.items end.net) }
+    ensures { (net : Network) → IsOpening net unnamed.state → IfOk result (λ end. IsServed R.remaining W.contents L.tells net channels.items end.ends.items end.net) }
 {
     match unnamed.named::<N>(alloc) {
         Ok((hub, first)) => run_at(rt, alloc, n, gate, farewell, hub, first, seats, channels),
@@ -252,6 +260,7 @@ fn run_unnamed<
     F: Farewell + Sync,
     R: Read + Send + Drop,
     W: Write + Send + Drop,
+    L: Telling + Send + Drop,
 >(
     rt: &T,
     alloc: Global,
@@ -259,14 +268,14 @@ fn run_unnamed<
     gate: &G,
     farewell: &F,
     mut unnamed: UnnamedWithSeats,
-    channels: Vec<Channel<R, W>>,
+    channels: Vec<Channel<R, W, L>>,
 ) -> Result<DeskEnd<R, W>, Fault>
     requires workers { n ≤ 32 }
     requires one { (0 < vec_len channels) × (unnamed.seats ≡ 1) }
-    ensures { (net : Network) → IsOpening net unnamed.state → IfOk result (λ end. IsServed R.remaining W.contents net channels.items end.ends.items end.net) }
+    ensures { (net : Network) → IsOpening net unnamed.state → IfOk result (λ end. IsServed R.remaining W.contents L.tells net channels.items end.ends.items end.net) }
 {
     match admit_more(alloc, &mut unnamed, channels.len() - 1) {
-        Ok(seats) => run_named::<Brand, _, _, _, _, _>(
+        Ok(seats) => run_named::<Brand, _, _, _, _, _, _>(
             rt, alloc, n, gate, farewell, unnamed, seats, channels,
         ),
         Err(fault) => give_up(unnamed, fault),
@@ -287,6 +296,7 @@ pub fn run_seats<
     F: Farewell + Sync,
     R: Read + Send + Drop,
     W: Write + Send + Drop,
+    L: Telling + Send + Drop,
 >(
     rt: &T,
     alloc: Global,
@@ -294,11 +304,11 @@ pub fn run_seats<
     gate: &G,
     farewell: &F,
     net: Net,
-    channels: Vec<Channel<R, W>>,
+    channels: Vec<Channel<R, W, L>>,
 ) -> Result<DeskEnd<R, W>, Fault>
     requires workers { n ≤ 32 }
     requires one { 0 < vec_len channels }
-    ensures { IfOk result (λ end. IsServed R.remaining W.contents net channels.items end.ends.items end.net) }
+    ensures { IfOk result (λ end. IsServed R.remaining W.contents L.tells net channels.items end.ends.items end.net) }
 {
     match open_hub(rt, alloc, net) {
         Ok(unnamed) => run_unnamed(rt, alloc, n, gate, farewell, unnamed, channels),

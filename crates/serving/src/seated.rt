@@ -1,15 +1,13 @@
 //! Who answers a session: a seat, which may post or only ask.
 
-ghost use Rattle.std.specs.Prelude.{◌≡◌, ◌≤◌, ◌∷◌, [], false, IfErr, IfOk};
-ghost use Rattle.answers.specs.Plain.{bad_line};
-ghost use Rattle.answers.specs.Text.{line_count};
+ghost use Rattle.std.specs.Prelude.{◌≡◌, ◌∷◌, [], false, IfErr, IfOk};
 ghost use Rattle.desk_console.specs.Taken.{event_of};
 ghost use Rattle.script_words.specs.Commands.{IsWithin};
 ghost use Rattle.sessions.specs.Run.{CutsOff};
 ghost use Rattle.beside.specs.Seats.{Goes};
 ghost use Rattle.serving.specs.Seated.{DoesSeated, KeepsRules, is_event, is_post};
 
-use answers::{Answer, answer_other, write_bad_line};
+use answers::{Answer, Reason, answer_other};
 use beside::Beside;
 use net_data::{Event, Net};
 use script_words::{Command, read_line};
@@ -27,13 +25,11 @@ fn is_post(command: &Command) -> bool
 }
 
 /// The answer to what a session may not post, which goes.
-fn refuse<T: Drop>(alloc: Global, what: T) -> Result<Answer, Fault>
-    ensures text { IfOk result (λ answer. answer ≡ bad_line) }
-    ensures plain { IfOk result (λ answer. line_count answer ≡ 0) }
-    ensures fault { IfErr result (CutsOff (Unit {0})) }
+fn refuse<T: Drop>(what: T) -> Answer
+    ensures { result ≡ Answer.Refused Reason.BadLine }
 {
     drop(what);
-    Ok(Answer::of_text(write_bad_line(alloc)?))
+    Answer::Refused(Reason::BadLine)
 }
 
 /// Who answers a session at its seat.
@@ -60,13 +56,12 @@ impl<'a, N: Naming, R: Wait> Seated<'a, N, R> {
         ensures does { IfOk result (λ answer. DoesSeated N.seats (Command.Event event) self.old answer self.new) }
         ensures goes { Goes N.seats (event ∷ []) self.old.beside self.new.beside }
         ensures rules { KeepsRules self.old self.new }
-        ensures lines { IfOk result (λ answer. line_count answer ≤ 1) }
         ensures fault { IfErr result (CutsOff (Unit {0})) }
     {
         if self.posts {
             self.beside.post_next(alloc, self.collector, event)
         } else {
-            refuse(alloc, event)
+            Ok(refuse(event))
         }
     }
 
@@ -77,11 +72,10 @@ impl<'a, N: Naming, R: Wait> Seated<'a, N, R> {
         ensures does { IfOk result (λ answer. DoesSeated N.seats command self.old answer self.new) }
         ensures goes { Goes N.seats (event_of command) self.old.beside self.new.beside }
         ensures rules { KeepsRules self.old self.new }
-        ensures lines { IfOk result (λ answer. line_count answer ≤ 1) }
         ensures fault { IfErr result (CutsOff (Unit {0})) }
     {
         if !self.posts && is_post(&command) {
-            refuse(alloc, command)
+            Ok(refuse(command))
         } else {
             self.beside.obey(alloc, command)
         }
@@ -93,7 +87,6 @@ impl<'a, N: Naming, R: Wait> Seated<'a, N, R> {
         ensures does { IfOk result (λ answer. DoesSeated N.seats command self.old answer self.new) }
         ensures goes { Goes N.seats (event_of command) self.old.beside self.new.beside }
         ensures rules { KeepsRules self.old self.new }
-        ensures lines { IfOk result (λ answer. line_count answer ≤ 1) }
         ensures fault { IfErr result (CutsOff (Unit {0})) }
     {
         match command {
@@ -118,7 +111,7 @@ impl<'a, N: Naming, R: Wait> Answering for Seated<'a, N, R> {
     fn answer(&mut self, alloc: Global, line: &[u8]) -> Result<Answer, Fault> {
         match read_line(alloc, line)? {
             Some(command) => self.obey(alloc, command),
-            None => Ok(Answer::of_text(answer_other(alloc, line)?)),
+            None => Ok(answer_other(alloc, line)?),
         }
     }
 

@@ -49,11 +49,11 @@ pub(crate) fn admit_more(
 }
 
 /// A session at its seat, which has not begun.
-fn seat_one<N: Naming, R: Drop, W: Drop>(
+fn seat_one<N: Naming, R: Drop, W: Drop, L: Drop>(
     hub: &Hub<N, BySeats>,
     guest: Guest<N>,
-    channel: Channel<R, W>,
-) -> Result<Sitting<N, R, W>, Fault>
+    channel: Channel<R, W, L>,
+) -> Result<Sitting<N, R, W, L>, Fault>
     requires { left_at guest.saw ≡ hub.now.state }
     ensures { IfOk result (λ s. s ≡ unbegun (newcomer guest hub.now.state) channel) }
 {
@@ -70,11 +70,11 @@ fn seat_one<N: Naming, R: Drop, W: Drop>(
 }
 
 /// Adds a session at its seat, which has not begun.
-fn seat_next<N: Naming, R: Drop, W: Drop>(
+fn seat_next<N: Naming, R: Drop, W: Drop, L: Drop>(
     hub: &Hub<N, BySeats>,
     guest: Guest<N>,
-    channel: Channel<R, W>,
-    sittings: &mut Vec<Sitting<N, R, W>>,
+    channel: Channel<R, W, L>,
+    sittings: &mut Vec<Sitting<N, R, W, L>>,
 ) -> Result<(), Fault>
     requires { left_at guest.saw ≡ hub.now.state }
     ensures { OnOk result (sittings.new.items ≡ sittings.old.items ++ unbegun (newcomer guest hub.now.state) channel ∷ []) }
@@ -86,11 +86,11 @@ fn seat_next<N: Naming, R: Drop, W: Drop>(
 }
 
 /// Adds a session at its seat, which has not begun, and whose channel is the last of those that are left.
-fn seat_last<N: Naming, R: Drop, W: Drop>(
+fn seat_last<N: Naming, R: Drop, W: Drop, L: Drop>(
     hub: &Hub<N, BySeats>,
     guest: Guest<N>,
-    channels: &mut Vec<Channel<R, W>>,
-    sittings: &mut Vec<Sitting<N, R, W>>,
+    channels: &mut Vec<Channel<R, W, L>>,
+    sittings: &mut Vec<Sitting<N, R, W, L>>,
 ) -> Result<(), Fault>
     requires { left_at guest.saw ≡ hub.now.state }
     ensures { OnOk result (SeatsLast (newcomer guest hub.now.state) channels.old.items channels.new.items sittings.old.items sittings.new.items) }
@@ -102,11 +102,11 @@ fn seat_last<N: Naming, R: Drop, W: Drop>(
 }
 
 /// Adds the sessions behind the first, the last first.
-fn seat_more<N: Naming, R: Drop, W: Drop>(
+fn seat_more<N: Naming, R: Drop, W: Drop, L: Drop>(
     hub: &Hub<N, BySeats>,
     mut seats: Vec<Seat<DeskAndChain>>,
-    channels: &mut Vec<Channel<R, W>>,
-    sittings: &mut Vec<Sitting<N, R, W>>,
+    channels: &mut Vec<Channel<R, W, L>>,
+    sittings: &mut Vec<Sitting<N, R, W, L>>,
 ) -> Result<(), Fault>
     requires seats { (j : ℕ) (d : _) → j < vec_len seats → slice_index_or seats.items j d ≡ seat_at N.table hub.now.state (j + 1) }
     requires count { (vec_len channels.old ≡ vec_len seats + 1) × (vec_len sittings.old ≡ 0) }
@@ -121,32 +121,36 @@ fn seat_more<N: Naming, R: Drop, W: Drop>(
 }
 
 /// All sessions at their seats, the last first.
-fn seat_all<N: Naming, R: Drop, W: Drop>(
+fn seat_all<N: Naming, R: Drop, W: Drop, L: Drop>(
     alloc: Global,
     hub: &Hub<N, BySeats>,
     first: Guest<N>,
     seats: Vec<Seat<DeskAndChain>>,
-    mut channels: Vec<Channel<R, W>>,
-) -> Result<Vec<Sitting<N, R, W>>, Fault>
+    mut channels: Vec<Channel<R, W, L>>,
+) -> Result<Vec<Sitting<N, R, W, L>>, Fault>
     requires first { first ≡ seat_at N.table hub.now.state 0 }
     requires seats { (j : ℕ) (d : _) → j < vec_len seats → slice_index_or seats.items j d ≡ seat_at N.table hub.now.state (j + 1) }
     requires count { vec_len channels ≡ vec_len seats + 1 }
     ensures { IfOk result (λ v. AreSeated N.table hub.now.state channels.items v.items) }
 {
     let mut sittings = Vec::new(alloc);
-    seat_more(hub, seats, &mut channels, &mut sittings)?;
-    seat_last(hub, first, &mut channels, &mut sittings)?;
+    if let Err(fault) = seat_more(hub, seats, &mut channels, &mut sittings) {
+        return Err(fault);
+    }
+    if let Err(fault) = seat_last(hub, first, &mut channels, &mut sittings) {
+        return Err(fault);
+    }
     Ok(sittings)
 }
 
 /// All sessions at their seats, the last first, and a list with room for their ends, so that none of these needs memory once they have run.
-pub(crate) fn seat_with_room<N: Naming, R: Drop, W: Drop>(
+pub(crate) fn seat_with_room<N: Naming, R: Drop, W: Drop, L: Drop>(
     alloc: Global,
     hub: &Hub<N, BySeats>,
     first: Guest<N>,
     seats: Vec<Seat<DeskAndChain>>,
-    channels: Vec<Channel<R, W>>,
-) -> Result<(Vec<Sitting<N, R, W>>, Vec<SessionEnd<R, W>>), Fault>
+    channels: Vec<Channel<R, W, L>>,
+) -> Result<(Vec<Sitting<N, R, W, L>>, Vec<SessionEnd<R, W>>), Fault>
     requires first { first ≡ seat_at N.table hub.now.state 0 }
     requires seats { (j : ℕ) (d : _) → j < vec_len seats → slice_index_or seats.items j d ≡ seat_at N.table hub.now.state (j + 1) }
     requires count { vec_len channels ≡ vec_len seats + 1 }

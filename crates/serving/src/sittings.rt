@@ -6,6 +6,7 @@ ghost use Rattle.serving.specs.Sittings.{IsSat, Sits, fault_of};
 
 use crate::channels::Channel;
 use crate::seated::Seated;
+use answers::Telling;
 use beside::{Beside, Visitor};
 use sessions::{Fault, LinesEnd, read_lines};
 use std::alloc::Global;
@@ -17,28 +18,29 @@ use worker_pool::Signals;
 
 /// A session with its seat: before it runs with who comes to the hub, and then with the seat alone.
 #[derive(Drop)]
-pub(crate) struct Sitting<N: Naming, R, W> {
+pub(crate) struct Sitting<N: Naming, R, W, L> {
     /// Who comes to the hub, until the session is run.
     pub visitor: Option<Visitor<N>>,
     /// The seat, once the session was run.
     pub guest: Option<Guest<N>>,
-    pub channel: Channel<R, W>,
+    pub channel: Channel<R, W, L>,
     /// How many lines of answers were written whole.
-    pub lines: u64,
+    pub lines: u128,
     /// Why it ended early, if it did.
     pub fault: Option<Fault>,
 }
 
-impl<N: Naming, R, W> Model for Sitting<N, R, W> {
+impl<N: Naming, R, W, L> Model for Sitting<N, R, W, L> {
     ghost use Rattle.serving.specs.Sittings.{SittingValue};
 
-    ghost Value = { SittingValue R W };
+    ghost Value = { SittingValue R W L };
 
     ghost view = { λ s. record {
       visitor = s.visitor;
       guest = s.guest;
       reader = s.channel.reader;
       writer = s.channel.writer;
+      telling = s.channel.telling;
       posts = s.channel.posts;
       collector = s.channel.collector;
       lines = s.lines;
@@ -59,22 +61,22 @@ fn fault_of(told: Result<(), Fault>, ended: Option<Fault>) -> Option<Fault>
 /// What is left of a session that was run: its seat, how many lines of answers were written whole, and why it ended early, if it did.
 struct Sat<N: Naming> {
     guest: Guest<N>,
-    lines: u64,
+    lines: u128,
     fault: Option<Fault>,
 }
 
 /// Reads the lines of a session to the end, has each answered before more is read, and comes to the hub for the last time.
-fn read_all<N: Naming, T: Wait, R: Read, W: Write>(
+fn read_all<N: Naming, T: Wait, R: Read, W: Write, L: Telling>(
     rt: &T,
     alloc: Global,
     hub: &Mutex<Hub<N, BySeats>>,
     signals: &Signals,
     visitor: Visitor<N>,
-    channel: &mut Channel<R, W>,
+    channel: &mut Channel<R, W, L>,
 ) -> Sat<N>
-    ensures rules { (channel.new.posts ≡ channel.old.posts) × (channel.new.collector ≡ channel.old.collector) }
-    ensures sits { Sits N.seats channel.old.posts channel.old.collector visitor (R.remaining channel.old.reader) (R.remaining channel.new.reader)
-        (W.contents channel.old.writer) (W.contents channel.new.writer) result.fault result.lines result.guest }
+    ensures rules { (channel.new.telling ≡ channel.old.telling) × (channel.new.posts ≡ channel.old.posts) × (channel.new.collector ≡ channel.old.collector) }
+    ensures sits { Sits (L.tells channel.old.telling) N.seats channel.old.posts channel.old.collector visitor (R.remaining channel.old.reader)
+        (R.remaining channel.new.reader) (W.contents channel.old.writer) (W.contents channel.new.writer) result.fault result.lines result.guest }
 {
     let seated = Seated {
         beside: Beside::new(rt, hub, signals, visitor),
@@ -85,7 +87,13 @@ fn read_all<N: Naming, T: Wait, R: Read, W: Write>(
         lines,
         fault,
         state,
-    } = read_lines(alloc, &mut channel.reader, &mut channel.writer, seated);
+    } = read_lines(
+        alloc,
+        &channel.telling,
+        &mut channel.reader,
+        &mut channel.writer,
+        seated,
+    );
     let (guest, told) = state.beside.part();
     Sat {
         guest,
@@ -95,14 +103,14 @@ fn read_all<N: Naming, T: Wait, R: Read, W: Write>(
 }
 
 /// Runs a session that has not begun.
-pub(crate) fn sit<N: Naming, T: Wait, R: Read, W: Write>(
+pub(crate) fn sit<N: Naming, T: Wait, R: Read, W: Write, L: Telling>(
     rt: &T,
     alloc: Global,
     hub: &Mutex<Hub<N, BySeats>>,
     signals: &Signals,
-    sitting: &mut Sitting<N, R, W>,
+    sitting: &mut Sitting<N, R, W, L>,
 )
-    ensures { (start : BesideValue) → sitting.old.visitor ≡ Some start → IsSat R.remaining W.contents N.seats start sitting.old sitting.new }
+    ensures { (start : BesideValue) → sitting.old.visitor ≡ Some start → IsSat R.remaining W.contents L.tells N.seats start sitting.old sitting.new }
 {
     let Some(visitor) = sitting.visitor.take() else {
         return;

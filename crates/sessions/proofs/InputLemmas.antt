@@ -1,5 +1,6 @@
 -- Where the network text ends and the script starts.
 use Rattle.std.proofs.Common.{◌≡◌, ℕ, ◌+◌, ◌-◌, ◌<◌, ◌≤◌, ◌==◌, Bool, true, false, cond, List, [], ◌∷◌, ◌++◌, length, take, drop, get_or, Option, Some, None, Result, Ok, Err, MatchResult, inl, inr, sym, ap, subst, refl, ◌∙◌, arith, append_assoc, append-nil, length-append, length-drop}
+use Rattle.answers.specs.declared.answer.Answer.{Answer}
 use Rattle.std.proofs.lemmas.Bool.{eqb-true, true≢false}
 use Rattle.std.proofs.lemmas.List.{take-append-drop, take-append-le, drop-append-le, append_cancel_right, take_more, length-take-le, drop-take, take_all}
 use Rattle.std.proofs.Math.ListN.{drop_of_length-le}
@@ -236,11 +237,11 @@ pub consumes_first : (b : Option (List ℕ)) (rest : List ℕ) → Consumes (pre
 consumes_first None rest = tt
 consumes_first (Some y) rest = refl
 
-module _ {S : Type 0} (Commands : List ℕ → S → List ℕ → S → Type 0) (Leaves : S → Network → Type 0) (Place : Type 0) where
+module _ {S : Type 0} (Tells : Answer → List ℕ → Type 0) (Commands : List ℕ → S → Answer → S → Type 0) (Leaves : S → Network → Type 0) (Place : Type 0) where
   -- the input ended with the network text
   pub after_ended : (unread left held : Option (List ℕ)) (o : Opening) (start : S) (fault : Option Fault) (lines : ℕ) (net : Option Network)
       → IsOpening unread left o → o.script ≡ None → lines ≡ 0 → IsEnd Leaves Place start fault net
-      → RanAfter Commands Leaves Place (take o.text o.bytes.items) start unread left held held fault lines net
+      → RanAfter Tells Commands Leaves Place (take o.text o.bytes.items) start unread left held held fault lines net
   after_ended unread left held o start fault lines net opening no_script zero end =
       let split : IsSplit None left o.bytes.items o.text = subst (λ s. IsSplit s left o.bytes.items o.text) no_script opening.split in
       let size = text_length o.bytes.items o.text split.1 opening.text in
@@ -254,14 +255,14 @@ module _ {S : Type 0} (Commands : List ℕ → S → List ℕ → S → Type 0) 
         whole = inr split.0;
         within = omega arith;
         text = split.1;
-        outcome = outcome_ended Commands Leaves Place start start left (script_part o.bytes.items) [] fault net split.0
-            (subst (λ t. Answered Commands start (lines_of t) [] start) (sym split.2) (refl, refl)) end;
+        outcome = outcome_ended Tells Commands Leaves Place start start left (script_part o.bytes.items) [] fault net split.0
+            (subst (λ t. Answered Tells Commands start (lines_of t) [] start) (sym split.2) ([], (refl, refl), refl)) end;
       }
 
   -- whoever answers couldn't start
   pub after_none : (unread left held : Option (List ℕ)) (o : Opening) (start : S) (cause : Fault) (fault : Option Fault) (lines : ℕ) (net : Option Network)
       → IsOpening unread left o → CutsOff Place cause → lines ≡ 0 → fault ≡ Some cause → net ≡ None
-      → RanAfter Commands Leaves Place (take o.text o.bytes.items) start unread left held held fault lines net
+      → RanAfter Tells Commands Leaves Place (take o.text o.bytes.items) start unread left held held fault lines net
   after_none unread left held o start cause fault lines net opening cuts zero some none =
       let parts = split_text o.script left o.bytes.items o.text opening.split in
       let size = text_length o.bytes.items o.text parts.1 opening.text in
@@ -275,14 +276,14 @@ module _ {S : Type 0} (Commands : List ℕ → S → List ℕ → S → Type 0) 
         whole = parts.0;
         within = omega arith;
         text = parts.1;
-        outcome = subst (λ f. IsOutcome Commands Leaves Place f start left (script_part o.bytes.items) [] net) (sym some) (outcome_none Commands Leaves Place cause cuts start left (script_part o.bytes.items) net none);
+        outcome = subst (λ f. IsOutcome Tells Commands Leaves Place f start left (script_part o.bytes.items) [] net) (sym some) (outcome_none Tells Commands Leaves Place cause cuts start left (script_part o.bytes.items) net none);
       }
 
   -- the script was run
   pub after_script : (unread middle left held holds : Option (List ℕ)) (o : Opening) (script : ℕ) (start : S) (rest : List ℕ) (fault : Option Fault) (lines : ℕ) (net : Option Network)
       → IsOpening unread middle o → o.script ≡ Some script → rest ≡ drop script o.bytes.items
-      → Ran Commands Leaves Place start (prepend_known rest middle) left held holds fault lines net
-      → RanAfter Commands Leaves Place (take o.text o.bytes.items) start unread left held holds fault lines net
+      → Ran Tells Commands Leaves Place start (prepend_known rest middle) left held holds fault lines net
+      → RanAfter Tells Commands Leaves Place (take o.text o.bytes.items) start unread left held holds fault lines net
   after_script unread middle left held holds o script start rest fault lines net opening some from ran =
       let bytes = o.bytes.items in
       let split : IsSplit (Some script) middle bytes o.text = subst (λ s. IsSplit s middle bytes o.text) some opening.split in
@@ -301,13 +302,13 @@ module _ {S : Type 0} (Commands : List ℕ → S → List ℕ → S → Type 0) 
         whole = inl parts.0;
         within = omega arith;
         text = parts.1;
-        outcome = subst (λ t. IsOutcome Commands Leaves Place fault start left t ran.written net) (sym parts.2) ran.outcome;
+        outcome = subst (λ t. IsOutcome Tells Commands Leaves Place fault start left t ran.written net) (sym parts.2) ran.outcome;
       }
 
-module _ {S : Type 0} (Opens : Network → S → Type 0) (Commands : List ℕ → S → List ℕ → S → Type 0) (Leaves : S → Network → Type 0) (Place : Type 0) where
+module _ {S : Type 0} (Opens : Network → S → Type 0) (Tells : Answer → List ℕ → Type 0) (Commands : List ℕ → S → Answer → S → Type 0) (Leaves : S → Network → Type 0) (Place : Type 0) where
   -- no network text was read
   pub ran_unopened : (unread left held : Option (List ℕ)) (cause : Fault) (fault : Option Fault) (lines : ℕ) (net : Option Network)
-      → IsUnopened unread left cause → lines ≡ 0 → fault ≡ Some cause → net ≡ None → RanInput Opens Commands Leaves Place unread left held held fault lines net
+      → IsUnopened unread left cause → lines ≡ 0 → fault ≡ Some cause → net ≡ None → RanInput Opens Tells Commands Leaves Place unread left held held fault lines net
   ran_unopened unread left held cause fault lines net un zero some none = record {
     read = un.read;
     consumed = un.consumed;
@@ -320,7 +321,7 @@ module _ {S : Type 0} (Opens : Network → S → Type 0) (Commands : List ℕ �
   -- no network came of the text
   pub ran_unloaded : (unread left held : Option (List ℕ)) (o : Opening) (text : List ℕ) (cause : Fault) (fault : Option Fault) (lines : ℕ) (net : Option Network)
       → IsOpening unread left o → text ≡ take o.text o.bytes.items → IsLoadFault text cause → lines ≡ 0 → fault ≡ Some cause → net ≡ None
-      → RanInput Opens Commands Leaves Place unread left held held fault lines net
+      → RanInput Opens Tells Commands Leaves Place unread left held held fault lines net
   ran_unloaded unread left held o text cause fault lines net opening same is zero some none =
       let parts = split_text o.script left o.bytes.items o.text opening.split in
       let size = text_length o.bytes.items o.text parts.1 opening.text in
@@ -340,8 +341,8 @@ module _ {S : Type 0} (Opens : Network → S → Type 0) (Commands : List ℕ �
 
   -- the script was run from a start over the network that the text says
   pub ran_after : (text : List ℕ) (over : Network) (start : S) (unread left held holds : Option (List ℕ)) (fault : Option Fault) (lines : ℕ) (net : Option Network)
-      → Says text (Ok over) → Opens over start → RanAfter Commands Leaves Place text start unread left held holds fault lines net
-      → RanInput Opens Commands Leaves Place unread left held holds fault lines net
+      → Says text (Ok over) → Opens over start → RanAfter Tells Commands Leaves Place text start unread left held holds fault lines net
+      → RanInput Opens Tells Commands Leaves Place unread left held holds fault lines net
   ran_after text over start unread left held holds fault lines net says opens ran = record {
     read = ran.read;
     consumed = ran.consumed;

@@ -1,11 +1,13 @@
 -- What more bytes do to the lines of a text.
-use Rattle.std.proofs.Common.{◌≡◌, ◌≢◌, ℕ, suc, ◌<◌, ◌+◌, ◌==◌, not, Bool, true, false, cond, ltb, List, [], ◌∷◌, ◌++◌, length, take, drop, get_or, Some, None, option_map, sym, ap, subst, refl, ◌∙◌, arith, append_assoc, append-nil, length-append}
-use Rattle.std.proofs.lemmas.Bool.{and_parts, eqb-true, ltb-false}
-use Rattle.std.proofs.lemmas.List.{take_more, take_all}
+use Rattle.std.proofs.Common.{◌≡◌, ◌≢◌, ℕ, suc, ◌<◌, ◌+◌, ◌-◌, ◌==◌, not, Bool, true, false, cond, ltb, List, [], ◌∷◌, ◌++◌, length, take, drop, get_or, Some, None, option_map, sym, ap, subst, refl, ◌∙◌, arith, append_assoc, append-nil, length-append}
+use Rattle.std.proofs.lemmas.Bool.{and_parts, eqb-true, lt-ltb, ltb-false}
+use Rattle.std.specs.Prelude.{slice_index}
+use Rattle.std.proofs.lemmas.List.{length-take-le, take_more, take_all}
 use Rattle.std.specs.List.{position_or_len}
 use Rattle.point_codes.specs.Codes.{split_of}
 use Rattle.point_codes.proofs.CodeLemmas.{lacks, lacks_parts, split_parts, parts_at}
-use Rattle.sessions.specs.Lines.{Cut, put_before, cut, whole_lines, rest_of, last_line, lines_of}
+use Rattle.std.proofs.lemmas.List.Sums.{sum_by-append}
+use Rattle.sessions.specs.Lines.{Cut, put_before, cut, whole_lines, rest_of, last_line, lines_of, line_count, trimmed, is_too_long}
 
 -- a text that goes on after a line feed
 abbrev joined_cut : Cut → Cut → Cut
@@ -119,3 +121,17 @@ lines_none read e = ap (λ r. whole_lines read ++ last_line r) e ∙ append-nil 
 
 pub lines_one : (read : List ℕ) → rest_of read ≢ [] → lines_of read ≡ whole_lines (read ++ 10 ∷ [])
 lines_one read h = ap (λ ls. whole_lines read ++ ls) (one_last_line (rest_of read) h) ∙ ap (λ c. c.whole) (sym (cut_ended read))
+
+-- line feeds of two parts
+pub line_count-append : (a b : List ℕ) → line_count (a ++ b) ≡ line_count a + line_count b
+line_count-append a b = sum_by-append (λ x. cond (x == 10) 1 0) a b
+
+-- a line with more than one byte beyond the limit is too long, whether or not its last is dropped
+pub long_trimmed : (line : List ℕ) → 131073 < length line → is_too_long (trimmed line) ≡ true
+long_trimmed line long = go (slice_index line (length line - 1) == 13)
+  where
+    go : (b : Bool) → is_too_long (cond b (take (length line - 1) line) line) ≡ true
+    go true =
+        let size : length (take (length line - 1) line) ≡ length line - 1 = length-take-le (length line - 1) line (omega arith) in
+        lt-ltb 131072 (length (take (length line - 1) line)) (omega arith)
+    go false = lt-ltb 131072 (length line) (omega arith)

@@ -1,12 +1,13 @@
 -- An input that starts with the network text, by whoever answers its script.
 use Rattle.std.specs.Prelude.{◌≡◌, ◌≢◌, ℕ, ◌+◌, ◌*◌, ◌<◌, ◌≤◌, ◌⊎◌, if◌then◌else◌, Bool, true, false, List, [], ◌∷◌, ◌++◌, length, take, drop, slice_index, Option, Some, None, Ok, Err, codes}
+use Rattle.answers.specs.declared.answer.Answer.{Answer}
 use Rattle.std.specs.Str.{bytes_eq}
 use Rattle.std.specs.Io.KnownBytes.{Consumes, Appends, IsAtEnd}
 use Rattle.net_data.specs.Network.{Network}
 use Rattle.net_text.specs.Reading.{Says}
 use Rattle.net_text.specs.declared.faults.LoadFault.{LoadFault}
 use Rattle.sessions.specs.Lines.{trimmed, whole_lines, rest_of}
-use Rattle.answers.specs.Text.{line_count}
+use Rattle.sessions.specs.Lines.{line_count}
 use Rattle.sessions.specs.Run.{IsOutcome}
 use Rattle.sessions.specs.declared.faults.Fault.{Fault}
 use Rattle.sessions.specs.declared.faults.Fault.TheVariants.{OutOfMemory, Read, Write, NoPlace, Load}
@@ -140,7 +141,7 @@ pub record HasNotLoaded (unread left : Option (List ℕ)) (fault : Fault) : Type
   pub cause : HasNotReadAll unread left fault ⊎ ((text : List ℕ) × HasReadAll unread left text × IsLoadFault text fault)
 
 -- a run of the script after a network text that was read: more bytes were read, and the answers to the script among all were written
-pub record RanAfter {S : Type 0} (Commands : List ℕ → S → List ℕ → S → Type 0) (Leaves : S → Network → Type 0) (Place : Type 0) (front : List ℕ) (start : S) (unread left held holds : Option (List ℕ)) (fault : Option Fault) (lines : ℕ) (net : Option Network) : Type 0 where
+pub record RanAfter {S : Type 0} (Tells : Answer → List ℕ → Type 0) (Commands : List ℕ → S → Answer → S → Type 0) (Leaves : S → Network → Type 0) (Place : Type 0) (front : List ℕ) (start : S) (unread left held holds : Option (List ℕ)) (fault : Option Fault) (lines : ℕ) (net : Option Network) : Type 0 where
   pub read : List ℕ
   pub consumed : Consumes unread left read
   pub written : List ℕ
@@ -149,7 +150,7 @@ pub record RanAfter {S : Type 0} (Commands : List ℕ → S → List ℕ → S �
   pub whole : HasText read left
   pub within : IsWithinLimit (text_part read)
   pub text : text_part read ≡ front
-  pub outcome : IsOutcome Commands Leaves Place fault start left (script_part read) written net
+  pub outcome : IsOutcome Tells Commands Leaves Place fault start left (script_part read) written net
 
 -- nothing was written, since no network came of what was read
 pub record IsNothingWritten (fault : Option Fault) (read : List ℕ) (left : Option (List ℕ)) (written : List ℕ) (net : Option Network) : Type 0 where
@@ -158,7 +159,7 @@ pub record IsNothingWritten (fault : Option Fault) (read : List ℕ) (left : Opt
   pub gone : net ≡ None
 
 -- whoever answers starts over a network as `Opens` says it
-module _ {S : Type 0} (Opens : Network → S → Type 0) (Commands : List ℕ → S → List ℕ → S → Type 0) (Leaves : S → Network → Type 0) (Place : Type 0) where
+module _ {S : Type 0} (Opens : Network → S → Type 0) (Tells : Answer → List ℕ → Type 0) (Commands : List ℕ → S → Answer → S → Type 0) (Leaves : S → Network → Type 0) (Place : Type 0) where
   -- the network text says a network, and the script was answered from a start over that
   pub record IsScriptWritten (fault : Option Fault) (read : List ℕ) (left : Option (List ℕ)) (written : List ℕ) (net : Option Network) : Type 0 where
     pub over : Network
@@ -167,7 +168,7 @@ module _ {S : Type 0} (Opens : Network → S → Type 0) (Commands : List ℕ �
     pub within : IsWithinLimit (text_part read)
     pub says : Says (text_part read) (Ok over)
     pub opens : Opens over start
-    pub outcome : IsOutcome Commands Leaves Place fault start left (script_part read) written net
+    pub outcome : IsOutcome Tells Commands Leaves Place fault start left (script_part read) written net
 
   -- a run of an input: some bytes were read, and the answers to the script among them were written
   pub record RanInput (unread left held holds : Option (List ℕ)) (fault : Option Fault) (lines : ℕ) (net : Option Network) : Type 0 where

@@ -7,13 +7,13 @@ use std::alloc::Global;
 
 /// Who answers the lines of a script, one after the other.
 pub trait Answering: Drop {
-    ghost use Rattle.std.specs.Prelude.{ℕ, ◌≤◌, List, IfOk, IfErr, OnErr};
+    ghost use Rattle.std.specs.Prelude.{ℕ, List, IfOk, IfErr, OnErr};
     ghost use Rattle.net_data.specs.Network.{Network};
-    ghost use Rattle.answers.specs.Text.{line_count};
+    ghost use Rattle.answers.specs.declared.answer.Answer.{Answer};
     ghost use Rattle.sessions.specs.Run.{CutsOff};
 
-    // What a line does: the text of its answer, and what stands after it.
-    ghost commands: { List ℕ → Self → List ℕ → Self → Type 0 };
+    // What a line does: its answer, and what stands after it.
+    ghost commands: { List ℕ → Self → Answer → Self → Type 0 };
 
     // What may be left where the answer to a line is lost to a fault.
     ghost fails: { List ℕ → Self → Self → Type 0 };
@@ -24,14 +24,13 @@ pub trait Answering: Drop {
     // Whether it needs a place for a reader, which may be refused.
     ghost needs_place: { Type 0 };
 
-    /// Does what a line says, which is neither too long nor silent, and gives its answer: a line without its line feed, or two.
+    /// Does what a line says, which is neither too long nor silent, and gives its answer.
     ///
     /// # Errors
     ///
     /// A fault that cuts the answers off.
     fn answer(&mut self, alloc: Global, line: &[u8]) -> Result<Answer, Fault>
         ensures command { IfOk result (λ answer. commands line.now self.old answer self.new) }
-        ensures lines { IfOk result (λ answer. line_count answer ≤ 1) }
         ensures lost { OnErr result (fails line.now self.old self.new) }
         ensures fault { IfErr result (CutsOff needs_place) };
 

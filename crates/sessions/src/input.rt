@@ -10,7 +10,8 @@ use crate::answering::Answering;
 use crate::faults::Fault;
 use crate::lines::without_return;
 use crate::runs::{CHUNK, READ_LIMIT, ScriptEnd};
-use crate::session::Session;
+use crate::session::{Session, count_lines};
+use answers::Telling;
 use net_data::Net;
 use net_text::{LoadFault, load};
 use std::alloc::{AllocError, Global};
@@ -217,10 +218,20 @@ pub fn load_text(alloc: Global, text: &[u8]) -> Result<Net, Fault>
 }
 
 impl Opening {
+    /// The number of the script's first line in the input, from 1.
+    fn first_number(&self) -> u64 {
+        let before = self.script.unwrap_or(0);
+        match self.bytes.get(..before) {
+            Some(front) => (count_lines(front) as u64).saturating_add(1),
+            None => 1,
+        }
+    }
+
     /// Runs the script that comes after the network text.
-    pub fn run<A: Answering, R: Read, W: Write>(
+    pub fn run<A: Answering, T: Telling, R: Read, W: Write>(
         self,
         alloc: Global,
+        telling: &T,
         reader: &mut R,
         writer: &mut W,
         start: A,
@@ -228,18 +239,18 @@ impl Opening {
         requires script { IfSome self.script (λ at. at ≤ length self.bytes.items) }
         requires few { length self.bytes.items ≤ self.reads * 65536 }
         ensures { (unread : Option (List ℕ)) → IsOpening unread (R.remaining reader.old) self
-            → RanAfter A.commands A.leaves A.needs_place (take self.text self.bytes.items) start
+            → RanAfter (T.tells telling.now) A.commands A.leaves A.needs_place (take self.text self.bytes.items) start
             unread (R.remaining reader.new) (W.contents writer.old) (W.contents writer.new) result.fault result.lines result.net }
     {
-        let mut session = Session::new(alloc, start);
+        let mut session = Session::new(alloc, start, self.first_number());
         let at = match self.script {
             Some(at) => at,
             None => return session.done(alloc),
         };
-        if let Err(fault) = session.step(alloc, writer, &self.bytes[at..]) {
+        if let Err(fault) = session.step(alloc, telling, writer, &self.bytes[at..]) {
             return session.failed(fault);
         }
         drop(self.bytes);
-        session.read_on(alloc, reader, writer, self.reads)
+        session.read_on(alloc, telling, reader, writer, self.reads)
     }
 }

@@ -2,12 +2,13 @@
 
 ghost use Rattle.std.specs.Prelude.{◌≡◌, ℕ, ◌+◌, ◌*◌, ◌^◌, ◌<◌, ◌≤◌, List, Option, Some, None};
 ghost use Rattle.std.specs.Io.KnownBytes.{IsAtEnd};
-ghost use Rattle.answers.specs.Text.{line_count};
+ghost use Rattle.sessions.specs.Lines.{line_count};
 ghost use Rattle.sessions.specs.Run.{HasAnswered, IsEnd, Ran, RanTo};
 
 use crate::answering::Answering;
 use crate::faults::Fault;
 use crate::session::Session;
+use answers::Telling;
 use net_data::Net;
 use std::alloc::Global;
 use std::io::{ErrorKind, Read, Write};
@@ -16,7 +17,7 @@ use std::io::{ErrorKind, Read, Write};
 #[derive(Drop)]
 pub struct ScriptEnd {
     /// How many lines of answers were written whole.
-    pub lines: u64,
+    pub lines: u128,
     /// Why the run ended early, if it did.
     pub fault: Option<Fault>,
     /// The network after all accepted events; none after a fault.
@@ -27,7 +28,7 @@ pub struct ScriptEnd {
 #[derive(Drop)]
 pub struct LinesEnd<A> {
     /// How many lines of answers were written whole.
-    pub lines: u64,
+    pub lines: u128,
     /// Why the run ended early, if it did.
     pub fault: Option<Fault>,
     /// Who answered, as the run left it.
@@ -41,7 +42,7 @@ pub const CHUNK: usize = 65536;
 pub const READ_LIMIT: u64 = 4294967296;
 
 /// The end of a run by a fault, after that many answers.
-pub fn ended_by(fault: Fault, lines: u64) -> ScriptEnd
+pub fn ended_by(fault: Fault, lines: u128) -> ScriptEnd
     ensures lines { result.lines ≡ lines }
     ensures fault { result.fault ≡ Some fault }
     ensures net { result.net ≡ None }
@@ -79,16 +80,21 @@ impl<A: Answering> Session<A> {
     }
 
     /// Answers a last line that no line feed ends.
-    fn finish<W: Write>(&mut self, alloc: Global, writer: &mut W) -> Option<Fault>
-        requires { self.old.lines + line_count self.old.answers.items + 2 < 2 ^ 64 }
+    fn finish<T: Telling, W: Write>(
+        &mut self,
+        alloc: Global,
+        telling: &T,
+        writer: &mut W,
+    ) -> Option<Fault>
+        requires { self.old.lines + 2 ^ 64 ≤ 2 ^ 128 }
         ensures { (start : A) (unread left held : Option (List ℕ))
-            → HasAnswered A.commands start unread left held (W.contents writer.old) self.old → IsAtEnd left
-            → RanTo A.commands A.fails A.needs_place start unread left held (W.contents writer.new) result self.new.lines self.new.state }
+            → HasAnswered (T.tells telling.now) A.commands start unread left held (W.contents writer.old) self.old → IsAtEnd left
+            → RanTo (T.tells telling.now) A.commands A.fails A.needs_place start unread left held (W.contents writer.new) result self.new.lines self.new.state }
     {
         if !self.line.has_begun() {
             return None;
         }
-        match self.step(alloc, writer, b"\n".as_slice()) {
+        match self.step(alloc, telling, writer, b"\n".as_slice()) {
             Ok(()) => None,
             Err(fault) => Some(fault),
         }
@@ -96,24 +102,25 @@ impl<A: Answering> Session<A> {
 
     /// Reads on to the end of the script, and answers each line before more is read. Tells the fault that ended the run, if
     /// one did. Who answers stays, as the answers left it.
-    pub fn read_to_end<R: Read, W: Write>(
+    pub fn read_to_end<T: Telling, R: Read, W: Write>(
         &mut self,
         alloc: Global,
+        telling: &T,
         reader: &mut R,
         writer: &mut W,
         reads: u64,
     ) -> Option<Fault>
-        requires { self.old.lines + line_count self.old.answers.items ≤ reads * 131072 }
+        requires { self.old.lines ≤ (reads + 1) * 2 ^ 64 }
         ensures { (start : A) (unread held : Option (List ℕ))
-            → HasAnswered A.commands start unread (R.remaining reader.old) held (W.contents writer.old) self.old
-            → RanTo A.commands A.fails A.needs_place start unread (R.remaining reader.new) held (W.contents writer.new) result self.new.lines self.new.state }
+            → HasAnswered (T.tells telling.now) A.commands start unread (R.remaining reader.old) held (W.contents writer.old) self.old
+            → RanTo (T.tells telling.now) A.commands A.fails A.needs_place start unread (R.remaining reader.new) held (W.contents writer.new) result self.new.lines self.new.state }
     {
         let mut chunk = [0u8; CHUNK];
         for _turn in reads..READ_LIMIT {
             match reader.read(&mut chunk) {
-                Ok(0) => return self.finish(alloc, writer),
+                Ok(0) => return self.finish(alloc, telling, writer),
                 Ok(n) => {
-                    if let Err(fault) = self.step(alloc, writer, &chunk[..n]) {
+                    if let Err(fault) = self.step(alloc, telling, writer, &chunk[..n]) {
                         return Some(fault);
                     }
                 }
@@ -128,19 +135,20 @@ impl<A: Answering> Session<A> {
     }
 
     /// Reads on to the end of the script, as `read_to_end` does, and gives the network away.
-    pub fn read_on<R: Read, W: Write>(
+    pub fn read_on<T: Telling, R: Read, W: Write>(
         mut self,
         alloc: Global,
+        telling: &T,
         reader: &mut R,
         writer: &mut W,
         reads: u64,
     ) -> ScriptEnd
-        requires { self.lines + line_count self.answers.items ≤ reads * 131072 }
+        requires { self.lines ≤ (reads + 1) * 2 ^ 64 }
         ensures { (start : A) (unread held : Option (List ℕ))
-            → HasAnswered A.commands start unread (R.remaining reader.old) held (W.contents writer.old) self
-            → Ran A.commands A.leaves A.needs_place start unread (R.remaining reader.new) held (W.contents writer.new) result.fault result.lines result.net }
+            → HasAnswered (T.tells telling.now) A.commands start unread (R.remaining reader.old) held (W.contents writer.old) self
+            → Ran (T.tells telling.now) A.commands A.leaves A.needs_place start unread (R.remaining reader.new) held (W.contents writer.new) result.fault result.lines result.net }
     {
-        match self.read_to_end(alloc, reader, writer, reads) {
+        match self.read_to_end(alloc, telling, reader, writer, reads) {
             None => self.done(alloc),
             Some(fault) => self.failed(fault),
         }
@@ -148,17 +156,18 @@ impl<A: Answering> Session<A> {
 }
 
 /// Reads a script to its end, has each line answered before more is read, and gives back who answered.
-pub fn read_lines<A: Answering, R: Read, W: Write>(
+pub fn read_lines<A: Answering, T: Telling, R: Read, W: Write>(
     alloc: Global,
+    telling: &T,
     reader: &mut R,
     writer: &mut W,
     start: A,
 ) -> LinesEnd<A>
-    ensures { RanTo A.commands A.fails A.needs_place start (R.remaining reader.old) (R.remaining reader.new)
+    ensures { RanTo (T.tells telling.now) A.commands A.fails A.needs_place start (R.remaining reader.old) (R.remaining reader.new)
         (W.contents writer.old) (W.contents writer.new) result.fault result.lines result.state }
 {
-    let mut session = Session::new(alloc, start);
-    let fault = session.read_to_end(alloc, reader, writer, 0);
+    let mut session = Session::new(alloc, start, 1);
+    let fault = session.read_to_end(alloc, telling, reader, writer, 0);
     LinesEnd {
         lines: session.lines,
         fault,
@@ -167,14 +176,15 @@ pub fn read_lines<A: Answering, R: Read, W: Write>(
 }
 
 /// Reads a script to its end, and has each line answered before more is read.
-pub fn run_lines<A: Answering, R: Read, W: Write>(
+pub fn run_lines<A: Answering, T: Telling, R: Read, W: Write>(
     alloc: Global,
+    telling: &T,
     reader: &mut R,
     writer: &mut W,
     start: A,
 ) -> ScriptEnd
-    ensures { Ran A.commands A.leaves A.needs_place start (R.remaining reader.old) (R.remaining reader.new)
+    ensures { Ran (T.tells telling.now) A.commands A.leaves A.needs_place start (R.remaining reader.old) (R.remaining reader.new)
         (W.contents writer.old) (W.contents writer.new) result.fault result.lines result.net }
 {
-    Session::new(alloc, start).read_on(alloc, reader, writer, 0)
+    Session::new(alloc, start, 1).read_on(alloc, telling, reader, writer, 0)
 }

@@ -1,18 +1,19 @@
 //! A run of a script: the lines that are read, and their answers.
 
 ghost use Rattle.std.specs.Prelude.{◌≡◌, ℕ, ◌+◌, ◌*◌, ◌^◌, ◌<◌, ◌≤◌, ◌==◌, not, true, ◌⊎◌, [], ◌∷◌, ◌++◌, List, length, take, IfErr, OnOk, OnErr, Err, string_bytes, Option};
+ghost use Rattle.answers.specs.declared.answer.Answer.{Answer as AnswerValue};
 ghost use Rattle.std.specs.List.{list_all};
 ghost use Rattle.std.specs.Io.KnownBytes.{Appends};
-ghost use Rattle.sessions.specs.Lines.{whole_lines};
-ghost use Rattle.sessions.specs.Replies.{Replies};
-ghost use Rattle.answers.specs.Text.{line_count};
+ghost use Rattle.sessions.specs.Lines.{line_count, whole_lines};
+ghost use Rattle.sessions.specs.Replies.{Replied};
 ghost use Rattle.sessions.specs.Run.{IsLine, IsTaken, IsAt, IsUnkept, IsCutAt, IsCutOff, CutsOff};
 
 use crate::answering::Answering;
 use crate::faults::Fault;
 use crate::lines::{LINE_LIMIT, Line, is_quiet, without_return};
+use answers::{Answer, Asked, Reason, Telling};
 use point_codes::split_at_byte;
-use std::alloc::Global;
+use std::alloc::{AllocError, Global};
 use std::io::{ErrorKind, Write};
 
 /// Who answers, the line that is being read, the answers that wait to be written, and how many lines were written.
@@ -21,7 +22,9 @@ pub struct Session<A> {
     pub state: A,
     pub line: Line,
     pub answers: Vec<u8>,
-    pub lines: u64,
+    pub lines: u128,
+    /// The number of the line that is being read, from 1.
+    pub number: u64,
     /// The answer to the last line, whose memory serves the next one.
     pub text: String,
 }
@@ -53,11 +56,8 @@ fn write_all<W: Write>(writer: &mut W, text: &[u8]) -> usize
     at
 }
 
-/// The answer to a line over the limit.
-const TOO_LONG: &str = "refused 62 BadLine\n";
-
 /// How many lines a text ends.
-fn count_lines(text: &[u8]) -> usize
+pub(crate) fn count_lines(text: &[u8]) -> usize
     ensures { result ≡ line_count text.now }
 {
     // Without a branch for each byte.
@@ -68,70 +68,108 @@ fn count_lines(text: &[u8]) -> usize
     count
 }
 
-/// Adds the answer to a line, which is neither too long nor silent, and a line feed.
-fn put_answer<A: Answering>(
+/// Begins the text of a line with what is told of its answer, and has that go.
+fn tell<T: Telling>(
     alloc: Global,
-    state: &mut A,
-    line: &[u8],
+    telling: &T,
+    asked: Asked<'_>,
+    answer: Answer,
     text: &mut String,
-) -> Result<(), Fault>
-    ensures text { OnOk result ((answer : List ℕ) × A.commands line.now state.old answer state.new × (line_count answer ≤ 1)
-        × (string_bytes text.new ≡ string_bytes text.old ++ (answer ++ 10 ∷ []))) }
-    ensures lost { OnErr result (((answer : List ℕ) × A.commands line.now state.old answer state.new) ⊎ A.fails line.now state.old state.new) }
-    ensures fault { IfErr result (CutsOff A.needs_place) }
+) -> Result<(), AllocError>
+    requires { string_bytes text.old ≡ [] }
+    ensures { OnOk result (T.tells telling.now answer (string_bytes text.new)) }
 {
-    state.answer(alloc, line)?.put(text)?;
-    text.push('\n')?;
-    Ok(())
+    telling.tell(alloc, asked, answer, text)
 }
 
-/// Writes what a line is answered with, and a line feed, in the place of a text: one line, or two.
-fn reply<A: Answering>(
+/// Writes what a line is told that is too long.
+fn tell_bad_line<T: Telling>(
+    alloc: Global,
+    telling: &T,
+    number: u64,
+    text: &mut String,
+) -> Result<(), AllocError>
+    ensures { OnOk result (T.tells telling.now (Answer.Refused Reason.BadLine) (string_bytes text.new)) }
+{
+    text.clear();
+    let asked = Asked { number, line: None };
+    tell(
+        alloc,
+        telling,
+        asked,
+        Answer::Refused(Reason::BadLine),
+        text,
+    )
+}
+
+/// Writes the answer to a line, which is neither too long nor silent.
+fn answer_line<A: Answering, T: Telling>(
     alloc: Global,
     state: &mut A,
+    telling: &T,
+    number: u64,
     line: &[u8],
     text: &mut String,
 ) -> Result<(), Fault>
-    ensures text { OnOk result (Replies A.commands line.now state.old (string_bytes text.new) state.new) }
-    ensures few { OnOk result (line_count (string_bytes text.new) ≤ 2) }
+    requires { string_bytes text.old ≡ [] }
+    ensures text { OnOk result ((answer : AnswerValue) × A.commands line.now state.old answer state.new × T.tells telling.now answer (string_bytes text.new)) }
+    ensures lost { OnErr result (((answer : AnswerValue) × A.commands line.now state.old answer state.new) ⊎ A.fails line.now state.old state.new) }
+    ensures fault { IfErr result (CutsOff A.needs_place) }
+{
+    let answer = state.answer(alloc, line)?;
+    let asked = Asked {
+        number,
+        line: Some(line),
+    };
+    Ok(tell(alloc, telling, asked, answer, text)?)
+}
+
+/// Writes what a line is answered with in the place of a text.
+fn reply<A: Answering, T: Telling>(
+    alloc: Global,
+    state: &mut A,
+    telling: &T,
+    number: u64,
+    line: &[u8],
+    text: &mut String,
+) -> Result<(), Fault>
+    ensures text { OnOk result (Replied (T.tells telling.now) A.commands line.now state.old (string_bytes text.new) state.new) }
     ensures lost { OnErr result (IsUnkept A.commands A.fails line.now state.old state.new) }
     ensures fault { IfErr result (CutsOff A.needs_place) }
 {
-    text.clear();
     let line = without_return(line);
     if line.len() > LINE_LIMIT {
-        text.push_str(TOO_LONG)?;
-        return Ok(());
+        return Ok(tell_bad_line(alloc, telling, number, text)?);
     }
+    text.clear();
     if is_quiet(line) {
         return Ok(());
     }
-    put_answer(alloc, state, line, text)
+    answer_line(alloc, state, telling, number, line, text)
 }
 
 /// Writes what a line that was read in pieces is answered with, as `reply` does.
-fn reply_to_kept<A: Answering>(
+fn reply_to_kept<A: Answering, T: Telling>(
     alloc: Global,
     state: &mut A,
+    telling: &T,
+    number: u64,
     line: &Line,
     text: &mut String,
 ) -> Result<(), Fault>
-    ensures text { OnOk result ((rest : List ℕ) → IsLine line.now rest → Replies A.commands rest state.old (string_bytes text.new) state.new) }
-    ensures few { OnOk result (line_count (string_bytes text.new) ≤ 2) }
+    ensures text { OnOk result ((rest : List ℕ) → IsLine line.now rest → Replied (T.tells telling.now) A.commands rest state.old (string_bytes text.new) state.new) }
     ensures lost { OnErr result ((rest : List ℕ) → IsLine line.now rest → IsUnkept A.commands A.fails rest state.old state.new) }
     ensures fault { IfErr result (CutsOff A.needs_place) }
 {
     if !line.too_long {
-        return reply(alloc, state, line.bytes.as_slice(), text);
+        return reply(alloc, state, telling, number, line.bytes.as_slice(), text);
     }
-    text.clear();
-    text.push_str(TOO_LONG)?;
-    Ok(())
+    Ok(tell_bad_line(alloc, telling, number, text)?)
 }
 
 impl<A: Answering> Session<A> {
-    /// A run that has read nothing.
-    pub fn new(alloc: Global, state: A) -> Session<A>
+    /// A run that has read nothing of a script, whose first line has this number.
+    pub fn new(alloc: Global, state: A, number: u64) -> Session<A>
         ensures state { result.state ≡ state }
         ensures line { IsLine result.line [] }
         ensures answers { result.answers.items ≡ [] }
@@ -142,16 +180,21 @@ impl<A: Answering> Session<A> {
             line: Line::new(alloc),
             answers: Vec::new(alloc),
             lines: 0,
+            number,
             text: String::new(alloc),
         }
     }
 
     /// Writes what the line is answered with, of which these bytes are the last. One that stands whole in what was read is
     /// answered from there.
-    fn reply_to_line(&mut self, alloc: Global, last: &[u8]) -> Result<(), Fault>
+    fn reply_to_line<T: Telling>(
+        &mut self,
+        alloc: Global,
+        telling: &T,
+        last: &[u8],
+    ) -> Result<(), Fault>
         ensures text { OnOk result ((rest : List ℕ) → IsLine self.old.line rest
-            → Replies A.commands (rest ++ last.now) self.old.state (string_bytes self.new.text) self.new.state) }
-        ensures few { OnOk result (line_count (string_bytes self.new.text) ≤ 2) }
+            → Replied (T.tells telling.now) A.commands (rest ++ last.now) self.old.state (string_bytes self.new.text) self.new.state) }
         ensures lost { OnErr result ((rest : List ℕ) → IsLine self.old.line rest
             → IsUnkept A.commands A.fails (rest ++ last.now) self.old.state self.new.state) }
         ensures fault { IfErr result (CutsOff A.needs_place) }
@@ -159,42 +202,55 @@ impl<A: Answering> Session<A> {
         ensures lines { self.new.lines ≡ self.old.lines }
     {
         if !self.line.has_begun() {
-            return reply(alloc, &mut self.state, last, &mut self.text);
+            return reply(
+                alloc,
+                &mut self.state,
+                telling,
+                self.number,
+                last,
+                &mut self.text,
+            );
         }
         self.line.take_all(last)?;
-        reply_to_kept(alloc, &mut self.state, &self.line, &mut self.text)
+        reply_to_kept(
+            alloc,
+            &mut self.state,
+            telling,
+            self.number,
+            &self.line,
+            &mut self.text,
+        )
     }
 
     /// Ends the line with its last bytes: its answer waits with the others.
-    fn end_line(&mut self, alloc: Global, last: &[u8]) -> Result<(), Fault>
+    fn end_line<T: Telling>(&mut self, alloc: Global, telling: &T, last: &[u8]) -> Result<(), Fault>
         ensures ok { OnOk result ((start : A) (read written : List ℕ) → list_all (λ b. not (b == 10)) last.now ≡ true
-            → IsTaken A.commands start read written self.old → IsTaken A.commands start ((read ++ last.now) ++ 10 ∷ []) written self.new) }
+            → IsTaken (T.tells telling.now) A.commands start read written self.old → IsTaken (T.tells telling.now) A.commands start ((read ++ last.now) ++ 10 ∷ []) written self.new) }
         ensures err { OnErr result (self.new.answers.items ≡ self.old.answers.items) }
         ensures lost { OnErr result ((rest : List ℕ) → IsLine self.old.line rest
             → IsUnkept A.commands A.fails (rest ++ last.now) self.old.state self.new.state) }
         ensures fault { IfErr result (CutsOff A.needs_place) }
-        ensures few { line_count self.new.answers.items ≤ line_count self.old.answers.items + 2 }
         ensures lines { self.new.lines ≡ self.old.lines }
     {
-        self.reply_to_line(alloc, last)?;
+        self.reply_to_line(alloc, telling, last)?;
         self.answers.extend_from_slice(self.text.as_bytes())?;
         self.line.clear();
+        self.number = self.number.saturating_add(1);
         Ok(())
     }
 
     /// Takes the bytes of one read.
-    fn feed(&mut self, alloc: Global, chunk: &[u8]) -> Result<(), Fault>
+    fn feed<T: Telling>(&mut self, alloc: Global, telling: &T, chunk: &[u8]) -> Result<(), Fault>
         ensures ok { OnOk result ((start : A) (read written : List ℕ)
-            → IsTaken A.commands start read written self.old → IsTaken A.commands start (read ++ chunk.now) written self.new) }
-        ensures front { (start : A) (read written : List ℕ) → IsTaken A.commands start read written self.old
-            → IsCutAt A.commands A.fails start (whole_lines (read ++ chunk.now)) (written ++ self.new.answers.items) self.new.state }
+            → IsTaken (T.tells telling.now) A.commands start read written self.old → IsTaken (T.tells telling.now) A.commands start (read ++ chunk.now) written self.new) }
+        ensures front { (start : A) (read written : List ℕ) → IsTaken (T.tells telling.now) A.commands start read written self.old
+            → IsCutAt (T.tells telling.now) A.commands A.fails start (whole_lines (read ++ chunk.now)) (written ++ self.new.answers.items) self.new.state }
         ensures fault { IfErr result (CutsOff A.needs_place) }
-        ensures few { line_count self.new.answers.items ≤ line_count self.old.answers.items + length chunk.now * 2 }
         ensures lines { self.new.lines ≡ self.old.lines }
     {
         let mut rest = chunk;
         while let Some((front, after)) = split_at_byte(rest, b'\n') {
-            self.end_line(alloc, front)?;
+            self.end_line(alloc, telling, front)?;
             rest = after;
         }
         self.line.take_all(rest)?;
@@ -203,17 +259,18 @@ impl<A: Answering> Session<A> {
 
     /// Writes the answers that wait.
     fn flush<W: Write>(&mut self, writer: &mut W) -> Result<(), Fault>
-        requires { self.old.lines + line_count self.old.answers.items < 2 ^ 64 }
+        requires { self.old.lines + 2 ^ 64 ≤ 2 ^ 128 }
         ensures ok { OnOk result (Appends (W.contents writer.old) (W.contents writer.new) self.old.answers.items
             × (self.new.answers.items ≡ []) × (self.new.lines ≡ self.old.lines + line_count self.old.answers.items)) }
         ensures err { OnErr result ((n : ℕ) × Appends (W.contents writer.old) (W.contents writer.new) (take n self.old.answers.items)
             × (self.new.lines ≡ self.old.lines + line_count (take n self.old.answers.items))) }
         ensures fault { OnErr result (result ≡ Err Fault.Write) }
+        ensures lines { self.new.lines ≤ self.old.lines + 2 ^ 64 }
         ensures state { self.new.state ≡ self.old.state }
         ensures line { self.new.line ≡ self.old.line }
     {
         let written = write_all(writer, self.answers.as_slice());
-        self.lines += count_lines(&self.answers[..written]) as u64;
+        self.lines += count_lines(&self.answers[..written]) as u128;
         if written < self.answers.len() {
             return Err(Fault::Write);
         }
@@ -222,23 +279,24 @@ impl<A: Answering> Session<A> {
     }
 
     /// Takes the bytes of one read, and writes the answers to the lines that they end.
-    pub(crate) fn step<W: Write>(
+    pub(crate) fn step<T: Telling, W: Write>(
         &mut self,
         alloc: Global,
+        telling: &T,
         writer: &mut W,
         chunk: &[u8],
     ) -> Result<(), Fault>
-        requires { self.old.lines + line_count self.old.answers.items + length chunk.now * 2 < 2 ^ 64 }
+        requires { self.old.lines + 2 ^ 64 ≤ 2 ^ 128 }
         ensures ok { OnOk result ((start : A) (read : List ℕ) (held : Option (List ℕ))
-            → IsAt A.commands start read held (W.contents writer.old) self.old → IsAt A.commands start (read ++ chunk.now) held (W.contents writer.new) self.new) }
+            → IsAt (T.tells telling.now) A.commands start read held (W.contents writer.old) self.old → IsAt (T.tells telling.now) A.commands start (read ++ chunk.now) held (W.contents writer.new) self.new) }
         ensures err { OnErr result ((start : A) (read : List ℕ) (held : Option (List ℕ))
-            → IsAt A.commands start read held (W.contents writer.old) self.old
-            → IsCutOff A.commands A.fails start (whole_lines (read ++ chunk.now)) held (W.contents writer.new) self.new.lines self.new.state) }
+            → IsAt (T.tells telling.now) A.commands start read held (W.contents writer.old) self.old
+            → IsCutOff (T.tells telling.now) A.commands A.fails start (whole_lines (read ++ chunk.now)) held (W.contents writer.new) self.new.lines self.new.state) }
         ensures fault { IfErr result (CutsOff A.needs_place) }
         ensures none { OnOk result (self.new.answers.items ≡ []) }
-        ensures lines { self.new.lines ≤ self.old.lines + line_count self.old.answers.items + length chunk.now * 2 }
+        ensures lines { self.new.lines ≤ self.old.lines + 2 ^ 64 }
     {
-        let fed = self.feed(alloc, chunk);
+        let fed = self.feed(alloc, telling, chunk);
         if let Err(fault) = self.flush(writer) {
             return Err(fault);
         }

@@ -1,12 +1,13 @@
 //! How often a run reads at most.
 
-use answers::Answer;
+use answers::{Answer, Reason};
+use json_answers::Form;
 use net_data::Net;
 use sessions::{Answering, Fault, Session};
 use std::alloc::Global;
 use std::io::{self, ErrorKind};
 
-/// Answers each line with nothing.
+/// Refuses each line.
 #[derive(Drop)]
 struct Mute;
 
@@ -19,8 +20,8 @@ impl Answering for Mute {
 
     ghost needs_place = { ⊥ };
 
-    fn answer(&mut self, alloc: Global, _line: &[u8]) -> Result<Answer, Fault> {
-        Ok(Answer::of_text(String::new(alloc)))
+    fn answer(&mut self, _alloc: Global, _line: &[u8]) -> Result<Answer, Fault> {
+        Ok(Answer::Refused(Reason::BadLine))
     }
 
     fn into_net(self, _alloc: Global) -> Result<Net, Fault> {
@@ -43,10 +44,10 @@ impl io::Read for Interrupted {
 
 /// How many reads a run makes that has made so many, and whether it ends since it can't read.
 fn reads_after(alloc: Global, reads: u64) -> (u64, bool) {
-    let mut session = Session::new(alloc, Mute);
+    let mut session = Session::new(alloc, Mute, 1);
     let mut reader = Interrupted { reads: 0 };
     let mut writer: Vec<u8> = Vec::new(alloc);
-    let fault = session.read_to_end(alloc, &mut reader, &mut writer, reads);
+    let fault = session.read_to_end(alloc, &Form::Text, &mut reader, &mut writer, reads);
     (reader.reads, matches!(fault, Some(Fault::Read)))
 }
 

@@ -1,13 +1,14 @@
 //! Texts that no script is answered with, since the program gives no cause for them.
 
-use answers::write_refused;
+use answers::{Answer, Reason, put_answer};
 use desk_core::Refusal;
-use std::alloc::{AllocError, Global};
+use std::alloc::Global;
 use std::process::Abort;
 
 /// The answer is this text.
-fn expect_text(rt: &impl Abort, answer: Result<String, AllocError>, wanted: &str) {
-    let text = answer.expect(rt, "memory");
+fn expect_text(rt: &impl Abort, alloc: Global, answer: &Answer, wanted: &str) {
+    let mut text = String::new(alloc);
+    put_answer(alloc, &mut text, answer).expect(rt, "memory");
     assert_eq!(rt; text.as_str(), wanted);
 }
 
@@ -17,6 +18,7 @@ fn writes_refusals_of_results_and_versions(rt: HostRuntime) {
         (Refusal::Differs, "refused 49 Differs"),
         (Refusal::EndOfNumbers, "refused 51 EndOfNumbers"),
     ] {
-        expect_text(&rt, write_refused(rt.alloc(), refusal), text);
+        let answer = Answer::Refused(Reason::Desk(refusal));
+        expect_text(&rt, rt.alloc(), &answer, text);
     }
 }

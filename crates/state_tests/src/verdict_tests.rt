@@ -27,7 +27,8 @@ fn expect_said(
 ) {
     let tables = vec![in alloc; table].expect(rt, "memory");
     let end = verdict_on(rt, alloc, tables.as_slice());
-    assert_eq!(rt; (end.text.as_str(), end.right), (text, right));
+    let said = end.write(alloc).expect(rt, "memory");
+    assert_eq!(rt; (said.as_str(), end.wrong.is_none()), (text, right));
 }
 
 /// The table of these ends without its last row.

@@ -5,6 +5,7 @@ ghost use Rattle.std.specs.Prelude.{◌<◌, ◌≤◌};
 use crate::gates::{Holding, Refusing};
 use crate::samples::two_plans;
 use beside::{BesideEnd, run_beside};
+use json_answers::Form;
 use net_data::Net;
 use sample_nets::{code, worked};
 use std::alloc::Global;
@@ -29,7 +30,7 @@ fn written_by<R: Threads + Wait + Sync, G: Gate + Sync>(
         end,
         reader: _,
         writer,
-    } = run_beside(rt, alloc, n, gate, script, out, net);
+    } = run_beside(rt, alloc, n, gate, &Form::Text, script, out, net);
     (writer, end.fault.is_none())
 }
 

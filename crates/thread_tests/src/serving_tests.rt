@@ -2,6 +2,7 @@
 
 ghost use Rattle.std.specs.Prelude.{◌≤◌, ◌<◌, vec_len, length};
 
+use json_answers::Form;
 use sample_nets::worked;
 use serving::{Channel, Silent, run_seats};
 use std::alloc::Global;
@@ -16,10 +17,11 @@ fn channel(
     reader: &'static [u8],
     posts: bool,
     collector: u8,
-) -> Channel<&'static [u8], Vec<u8>> {
+) -> Channel<&'static [u8], Vec<u8>, Form> {
     Channel {
         reader,
         writer: Vec::new(alloc),
+        telling: Form::Text,
         posts,
         collector,
     }

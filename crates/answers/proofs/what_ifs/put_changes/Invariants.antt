@@ -1,11 +1,7 @@
 use Rattle.std.proofs.Common.{◌≡◌, ◌++◌, take, string_bytes}
 use Rattle.std.specs.List.{flat_map}
-use Rattle.answers.specs.Text.{line_count}
 use Rattle.answers.specs.WhatIfs.{change_text}
 use Rattle.answers.proofs.what_ifs.put_changes.Given as goal
 
 abbrev pub invariant-loop-change : goal.invariant-loop-change
-invariant-loop-change l = record {
-  text : string_bytes l.text ≡ string_bytes l.fn.text ++ flat_map change_text (take l.change-index l.changes);
-  plain : line_count (string_bytes l.text) ≡ line_count (string_bytes l.fn.text);
-}
+invariant-loop-change l = string_bytes l.text ≡ string_bytes l.fn.text ++ flat_map change_text (take l.change-index l.changes)

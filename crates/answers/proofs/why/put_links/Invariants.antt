@@ -1,11 +1,7 @@
 use Rattle.std.proofs.Common.{◌≡◌, ◌++◌, take, string_bytes}
 use Rattle.std.specs.List.{flat_map}
-use Rattle.answers.specs.Text.{line_count}
 use Rattle.answers.specs.Why.{marked_word}
 use Rattle.answers.proofs.why.put_links.Given as goal
 
 abbrev pub invariant-loop-link : goal.invariant-loop-link
-invariant-loop-link l = record {
-  text : string_bytes l.text ≡ string_bytes l.fn.text ++ flat_map marked_word (take l.link-index l.links);
-  plain : line_count (string_bytes l.text) ≡ line_count (string_bytes l.fn.text);
-}
+invariant-loop-link l = string_bytes l.text ≡ string_bytes l.fn.text ++ flat_map marked_word (take l.link-index l.links)

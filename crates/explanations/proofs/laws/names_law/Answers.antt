@@ -1,8 +1,8 @@
-use Rattle.explanations.proofs.NameLemmas.{desk_begins, load_stands, fault_stands}
+use Rattle.explanations.proofs.NameLemmas.{reason_begins, load_stands, fault_stands}
 use Rattle.explanations.proofs.laws.names_law.Goals as goal
 
-pub returns-clause-desk : goal.returns-clause-desk
-returns-clause-desk c = desk_begins
+pub returns-clause-line : goal.returns-clause-line
+returns-clause-line c = reason_begins
 
 pub returns-clause-load : goal.returns-clause-load
 returns-clause-load c = load_stands

@@ -10,6 +10,6 @@ pub returns : goal.returns
 returns g c =
     let state : DeskAndChain = c.args.hub.now.state in
     let last = subst (λ (s : SeatValue DeskAndChain). SeatsLast (newcomer s state) c.seat_more.new.channels.items c.seat_last.new.channels.items c.seat_more.new.sittings.items c.seat_last.new.sittings.items)
-    c.requires.first c.in_ok-seat_last.ensures in
+    c.requires.first c.in_default-seat_last.ensures in
     seated_all g.N.Naming.table state c.args.channels.items c.seat_last.new.channels.items c.seat_last.new.sittings.items
-    (seated_step 0 g.N.Naming.table state c.args.channels.items c.seat_more.new.channels.items _ _ _ c.in_ok-seat_more.ensures last)
+    (seated_step 0 g.N.Naming.table state c.args.channels.items c.seat_more.new.channels.items _ _ _ c.in_default.ensures last)

@@ -1,5 +1,5 @@
 use Rattle.std.proofs.Common.{◌≡◌, take}
-use Rattle.answers.specs.Text.{line_count}
+use Rattle.sessions.specs.Lines.{line_count}
 use Rattle.sessions.proofs.session.count_lines.Given as goal
 
 -- the lines of the bytes so far

@@ -4,7 +4,7 @@ use Rattle.std.specs.Arc.{arc_value}
 use mathlib.Core.List.{IsPrefix}
 use Rattle.desk_core.specs.Desk.{accepted}
 use Rattle.desk_core.specs.Steps.{Posts}
-use Rattle.answers.specs.Replies.{posted_text}
+use Rattle.answers.specs.Replies.{posted_answer}
 use Rattle.desk_console.specs.Does.{Calls, HasMemory}
 use Rattle.versions.specs.Hubs.{HubValue}
 use Rattle.beside.specs.Beside.{BesideValue, DoesAt}
@@ -28,11 +28,11 @@ returns-clause-call g c =
     let shown : left.shown ≡ found.shown = ap (λ (h : HubValue). h.state.shown) c.post-reply.ensures.rest in
     let told = subst (λ r. OnOk r ((c.tell.new.reader.chain ≡ left.shown.chain) × IsPrefix old.reader.chain c.tell.new.reader.chain)) c.in_default.is c.tell.ensures.told in
     let chain = told.0 ∙ ap (λ s. s.chain) shown in
-    each_ok c.answer_post.result (λ answer. HasMemory c.post-reply.result × (answer ≡ posted_text c.post-reply.result)) _
-    (λ answer h. subst (λ (b : BesideValue). DoesAt g.N.Naming.seats (Calls (λ s. Posts s c.args.collector c.args.seq c.args.event) posted_text) b found answer new) c.self.view_is
-    (posted g.N.Naming.seats (Calls (λ s. Posts s c.args.collector c.args.seq c.args.event) posted_text) before found left answer new refl c.post-reply.ensures.comes refl
+    each_ok c.answer_reply.result (λ answer. HasMemory c.post-reply.result × (answer ≡ posted_answer c.post-reply.result)) _
+    (λ answer h. subst (λ (b : BesideValue). DoesAt g.N.Naming.seats (Calls (λ s. Posts s c.args.collector c.args.seq c.args.event) posted_answer) b found answer new) c.self.view_is
+    (posted g.N.Naming.seats (Calls (λ s. Posts s c.args.collector c.args.seq c.args.event) posted_answer) before found left answer new refl c.post-reply.ensures.comes refl
     (subst (IsPrefix old.reader.chain) chain told.1) shown chain (refl, refl) (c.post-reply.result, c.post-reply.ensures.step, h.0, h.1, refl, refl)))
-    c.answer_post.ensures.text
+    c.answer_reply.ensures.answer
 
 pub returns-clause-posts : goal.returns-clause-posts
 returns-clause-posts g c =

@@ -1,4 +1,4 @@
-use Rattle.std.proofs.Common.{[], ◌∷◌, ◌++◌, sym, refl, ◌∙◌, arith, rules}
+use Rattle.std.proofs.Common.{[], ◌∷◌, ◌++◌, sym, refl, ◌∙◌, rules}
 use Rattle.sessions.specs.Lines.{rest_of}
 use Rattle.sessions.proofs.LineLemmas.{split_front, split_nowhere, split_on, split_size}
 use Rattle.sessions.proofs.RunLemmas.{taken_piece, taken_part, taken_lost}
@@ -20,11 +20,6 @@ loop-front-preserved g c =
             split_on done rest _ _ split ∙ before.1,
             c.in_ok-end_line.ensures.ok start done written (split_front 10 rest _ _ split) before.2,
           );
-      few =
-          let few = c.loop-front.invariant.few in
-          let one = c.end_line.ensures.few in
-          let less = split_size rest _ _ split in
-          omega arith;
       lines = search rules;
     }
 
@@ -32,22 +27,22 @@ pub returns-in_err-end_line-clause-front : goal.returns-in_err-end_line-clause-f
 returns-in_err-end_line-clause-front g c = λ start read written at.
     let before = c.loop-front.invariant.taken start read written at in
     let split = sym c.in-Some.ensures in
-    taken_lost g.A.Answering.commands g.A.Answering.fails start _ before.0 c.loop-front.rest.now _ _ written c.loop-front.self c.end_line.new.self split before.1 before.2
+    taken_lost (g.T.Telling.tells c.args.telling.now) g.A.Answering.commands g.A.Answering.fails start _ before.0 c.loop-front.rest.now _ _ written c.loop-front.self c.end_line.new.self split before.1 before.2
     (c.in_err-end_line.ensures.lost (rest_of before.0) before.2.rest) c.in_err-end_line.ensures.err
 
 pub returns-in_err-take_all-clause-front : goal.returns-in_err-take_all-clause-front
 returns-in_err-take_all-clause-front g c = λ start read written at.
     let before = c.loop-front.invariant.taken start read written at in
-    taken_part g.A.Answering.commands g.A.Answering.fails start _ before.0 c.loop-front.rest.now written c.loop-front.self before.1 before.2
+    taken_part (g.T.Telling.tells c.args.telling.now) g.A.Answering.commands g.A.Answering.fails start _ before.0 c.loop-front.rest.now written c.loop-front.self before.1 before.2
 
 pub returns-clause-ok : goal.returns-clause-ok
 returns-clause-ok g c = λ start read written at.
     let rest = c.loop-front.rest.now in
     let before = c.loop-front.invariant.taken start read written at in
-    taken_piece g.A.Answering.commands start _ before.0 written c.loop-front.self _ rest before.1 before.2 (split_nowhere 10 rest (sym c.in_default.ensures)) refl refl
+    taken_piece (g.T.Telling.tells c.args.telling.now) g.A.Answering.commands start _ before.0 written c.loop-front.self _ rest before.1 before.2 (split_nowhere 10 rest (sym c.in_default.ensures)) refl refl
     (c.in_ok-take_all.ensures (rest_of before.0) before.2.rest)
 
 pub returns-clause-front : goal.returns-clause-front
 returns-clause-front g c = λ start read written at.
     let before = c.loop-front.invariant.taken start read written at in
-    taken_part g.A.Answering.commands g.A.Answering.fails start _ before.0 c.loop-front.rest.now written c.loop-front.self before.1 before.2
+    taken_part (g.T.Telling.tells c.args.telling.now) g.A.Answering.commands g.A.Answering.fails start _ before.0 c.loop-front.rest.now written c.loop-front.self before.1 before.2

@@ -1,0 +1,38 @@
+-- What a command that asks is answered from a network (own).
+use Rattle.std.specs.Prelude.{Bool, true, false, length}
+use Rattle.net_data.specs.Network.{Network}
+use Rattle.path_trace.specs.Traces.{trace_at}
+use Rattle.what_if.specs.Reports.{report_of}
+use Rattle.answers.specs.Audits.{audit_answer}
+use Rattle.answers.specs.Rows.{answer_about}
+use Rattle.answers.specs.Traces.{trace_answer}
+use Rattle.answers.specs.WhatIfs.{what_if_answer}
+use Rattle.answers.specs.declared.answer.Answer.{Answer}
+use Rattle.answers.specs.declared.answer.Answer.TheVariants as answer
+use Rattle.answers.specs.declared.answer.Reason.TheVariants as reason
+use Rattle.script_words.specs.declared.commands.Command.{Command}
+use Rattle.script_words.specs.declared.commands.Command.TheVariants as command
+use Rattle.desk_console.specs.Pictures.{picture_told}
+
+-- whether a command asks something of the published version
+abbrev pub is_asked : Command → Bool
+is_asked (command.About asked y x) = true
+is_asked (command.Trace y x s) = true
+is_asked (command.WhatIf events) = true
+is_asked command.Audit = true
+is_asked (command.Picture file about) = true
+is_asked _ = false
+
+-- its answer; one that asks nothing is no question
+abbrev pub asked_answer : Command → Network → Answer
+-- `status Y X`, `sls Y X`, `messages Y X`, `octets Y Z X`, `why Y X` and `mend Y X`
+asked_answer (command.About asked y x) net = answer_about asked net y x
+-- `trace Y X S`
+asked_answer (command.Trace y x s) net = trace_answer (trace_at net y x s)
+-- `whatif EVENT ; EVENT ..`
+asked_answer (command.WhatIf events) net = what_if_answer (report_of net events)
+-- `audit`
+asked_answer command.Audit net = audit_answer (length net.plans)
+-- `picture FILE` and `picture FILE X`
+asked_answer (command.Picture file about) net = picture_told file net about
+asked_answer _ net = answer.Refused reason.BadLine

@@ -1,0 +1,31 @@
+-- How an answer is printed: in text, or as objects of JSON (own).
+use Rattle.std.specs.Prelude.{ℕ, List, [], ◌∷◌, ◌++◌, Some, codes}
+use Rattle.what_if.specs.declared.changes.Change.{Change}
+use Rattle.answers.specs.Answers as text
+use Rattle.answers.specs.declared.answer.Answer.{Answer}
+use Rattle.answers.specs.declared.answer.Answer.TheVariants as answer
+use Rattle.answers.specs.declared.answer.Publication.TheVariants as publication
+use Rattle.json_answers.specs.Members.{Member}
+use Rattle.json_answers.specs.Values.{members_text}
+use Rattle.json_answers.specs.Objects.{answer_members, told_changes}
+use Rattle.json_answers.specs.declared.form.Form.{Form}
+use Rattle.json_answers.specs.declared.form.Form.TheVariants.{Text, Objects}
+
+-- the object with these members, on a line of its own
+abbrev pub object_line : List Member → List ℕ
+object_line ms = members_text ms ++ 10 ∷ []
+
+-- the notice of what a publication changed
+abbrev pub notice_members : ℕ → List Change → List Member
+notice_members number changes = told_changes (codes "watch") number changes
+
+-- the notice behind an answer, on a line of its own; nothing if none is told
+abbrev pub notice_text : Answer → List ℕ
+notice_text (answer.Publication (publication.Published number (Some changes))) = object_line (notice_members number changes)
+notice_text (answer.Publication (publication.Synced number (Some changes))) = object_line (notice_members number changes)
+notice_text a = []
+
+-- an answer as it is printed, in either form
+abbrev pub printed : Form → Answer → List ℕ
+printed Text a = text.printed a
+printed Objects a = object_line (answer_members a) ++ notice_text a

@@ -1,0 +1,132 @@
+//! Who tells the answers to a script: in a form alone, or with a clerk, who files its pictures.
+
+ghost use Rattle.std.specs.Prelude.{◌≡◌, ◌++◌, IfOk, OnOk, string_bytes};
+ghost use Rattle.answers.specs.Filed.{IsFiled};
+ghost use Rattle.json_answers.specs.Form.{printed};
+
+use crate::form::Form;
+use answers::{Answer, Asked, NetAnswer, Reason, Telling, Text};
+use std::alloc::{AllocError, Global};
+
+/// Lets an answer go. A function of its own, so that this is done in one place.
+fn let_go(_answer: Answer) {}
+
+/// Prints an answer, and lets it go.
+fn print(form: Form, alloc: Global, answer: Answer, text: &mut String) -> Result<(), AllocError>
+    ensures { OnOk result (string_bytes text.new ≡ string_bytes text.old ++ printed form answer) }
+{
+    let printed = form.print(alloc, &answer, text);
+    let_go(answer);
+    printed
+}
+
+/// A form tells each answer as it is printed.
+impl Telling for Form {
+    ghost use Rattle.std.specs.Prelude.{◌≡◌};
+    ghost use Rattle.json_answers.specs.Form.{printed};
+
+    ghost tells = { λ form answer text. text ≡ printed form answer };
+
+    fn tell(
+        &self,
+        alloc: Global,
+        _asked: Asked<'_>,
+        answer: Answer,
+        text: &mut String,
+    ) -> Result<(), AllocError> {
+        print(*self, alloc, answer, text)
+    }
+}
+
+/// Who puts the pictures of a script into files, and sees what its lines are answered.
+pub trait Clerk {
+    /// Puts the picture that a line asks for into a file, and tells whether it is there.
+    ///
+    /// # Errors
+    ///
+    /// Memory is refused.
+    fn put(
+        &self,
+        alloc: Global,
+        asked: Asked<'_>,
+        file: &str,
+        picture: &str,
+    ) -> Result<bool, AllocError>;
+
+    /// Sees what is told of a line, before it is.
+    fn see(&self, alloc: Global, asked: Asked<'_>, answer: &Answer);
+}
+
+/// Who tells the answers to a script in a form, and has a clerk put its pictures into files: in the place of a picture it is told that it
+/// is in its file, or that it can't be written.
+#[derive(Drop)]
+pub struct Filing<C> {
+    /// The form.
+    pub form: Form,
+    /// The clerk.
+    pub clerk: C,
+}
+
+/// What is told of a picture, once the clerk was given it.
+fn filed_picture<C: Clerk>(
+    clerk: &C,
+    alloc: Global,
+    asked: Asked<'_>,
+    file: Text,
+    picture: Text,
+) -> Result<Answer, AllocError>
+    ensures { IfOk result (IsFiled (Answer.Net (NetAnswer.Picture file picture))) }
+{
+    if clerk.put(alloc, asked, file.as_str(), picture.as_str())? {
+        return Ok(Answer::Net(NetAnswer::Drawn(file)));
+    }
+    Ok(Answer::Refused(Reason::Write))
+}
+
+/// What is told in the place of an answer.
+fn filed<C: Clerk>(
+    clerk: &C,
+    alloc: Global,
+    asked: Asked<'_>,
+    answer: Answer,
+) -> Result<Answer, AllocError>
+    ensures { IfOk result (IsFiled answer) }
+{
+    match answer {
+        Answer::Net(NetAnswer::Picture(file, picture)) => {
+            filed_picture(clerk, alloc, asked, file, picture)
+        }
+        other => Ok(other),
+    }
+}
+
+/// Has the clerk see what is told of a line, prints it, and lets it go.
+fn show<C: Clerk>(
+    filing: &Filing<C>,
+    alloc: Global,
+    asked: Asked<'_>,
+    told: Answer,
+    text: &mut String,
+) -> Result<(), AllocError>
+    ensures { OnOk result (string_bytes text.new ≡ string_bytes text.old ++ printed filing.now.form told) }
+{
+    filing.clerk.see(alloc, asked, &told);
+    print(filing.form, alloc, told, text)
+}
+
+impl<C: Clerk> Telling for Filing<C> {
+    ghost use Rattle.json_answers.specs.Filing.{IsToldIn};
+
+    ghost tells = { λ filing answer text. IsToldIn filing.form answer text };
+
+    fn tell(
+        &self,
+        alloc: Global,
+        asked: Asked<'_>,
+        answer: Answer,
+        text: &mut String,
+    ) -> Result<(), AllocError> {
+        let told = filed(&self.clerk, alloc, asked, answer)?;
+        show(self, alloc, asked, told, text)
+    }
+}
