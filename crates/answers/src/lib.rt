@@ -24,12 +24,14 @@
 //! 12. Replies of the desk: a post is answered `taken N`, or `again N` if it was accepted before; an opening `opened T
 //!    waiting W`; the taking of a job `job V CODE`; a result `given`; an abandonment `abandoned`; a publication `published
 //!    N`; `synced N` and `version P accepted N` tell what is published and accepted.
-//! 13. A refusal is `refused`, its number, its name and its values. No answer has a line feed.
+//! 13. A refusal is `refused`, its number, its name and its values. An answer is told in one line, but that what a publication changed
+//!     stands behind it on a line of its own, with `*` at its front.
 //! 14. A line that is no command is refused 62 BadLine, but for `help`: it tells every word that begins a command, and `help
 //!     WORD` the form of that word's commands, with an example: `help FORM, as EXAMPLE`.
+//! 15. Who tells the answers to a script is `Telling`: it says in which texts an answer may be told, and makes them.
 //!
 //! Stands on `work_units`, `path_trace`, `what_if`, `tokens`, `script_words`, `itoa`. A change here also changes specs/ (Answers, Audits,
-//! Changes, DeskRefusals, Help, Links, Mend, Messages, Refusals, Replies, Rows, Status, Traces, Ways, WhatIfs, Why), proofs/ and
+//! Changes, DeskRefusals, Filed, Help, Links, Mend, Messages, Refusals, Replies, Rows, Status, Traces, Ways, WhatIfs, Why), proofs/ and
 //! must-fail/.
 #![tactic(auto)]
 
