@@ -3,6 +3,7 @@ use Rattle.std.specs.Prelude.{ℕ, if◌then◌else◌, List, [], ◌∷◌, ◌
 use Rattle.std.specs.List.{flat_map}
 use Rattle.std.specs.Fmt.{decimal}
 use Rattle.point_codes.specs.Codes.{code_text}
+use Rattle.net_data.specs.declared.events.Refusal.TheVariants as refusal
 use Rattle.what_if.specs.declared.changes.Change.{Change}
 use Rattle.answers.specs.Audits.{audit_right, audit_wrong}
 use Rattle.answers.specs.DeskRefusals.{desk_name, desk_values}
@@ -31,7 +32,7 @@ use Rattle.answers.specs.declared.answer.RowAnswer.TheVariants as row
 abbrev pub reason_name : Reason → List ℕ
 reason_name (reason.Desk refusal) = desk_name refusal
 reason_name (reason.Event refused) = refusal_name refused.refusal
-reason_name reason.NoPlan = codes "26 NoPlan"
+reason_name reason.NoPlan = refusal_name refusal.NoPlan
 reason_name reason.NoRow = codes "29 NoRow"
 reason_name reason.BadLine = codes "62 BadLine"
 reason_name reason.Write = codes "64 Write"

@@ -1,5 +1,5 @@
 //! What is answered to a line: its values (`Answer`), how they come about, and how they are told in text (all own).
-//! Each text stands here and nowhere else.
+//! Each text stands here and nowhere else, but for the forms of commands and their examples, which stand in `script_words`.
 //!
 //! 1. A question about the row of the point Y in the settled table of the destination X is refused 26 NoPlan where X
 //!    has no plan, then 29 NoRow where Y has no row. It is answered by search, with no table made.
@@ -27,8 +27,9 @@
 //! 13. A refusal is `refused`, its number, its name and its values. An answer is told in one line, but that what a publication changed
 //!     stands behind it on a line of its own, with `*` at its front.
 //! 14. A line that is no command is refused 62 BadLine, but for `help`: it tells every word that begins a command, and `help
-//!     WORD` the form of that word's commands, with an example: `help FORM, as EXAMPLE`.
-//! 15. Who tells the answers to a script is `Telling`: it says in which texts an answer may be told, and makes them.
+//!     WORD` the form of that word's commands, with an example: `help FORM, as EXAMPLE`. Both are of the table of `script_words`.
+//! 15. Who tells the answers to a script is `Telling`: it says in which texts an answer may be told, and makes them. It may explain why a
+//!     line is refused, by the network after all accepted events.
 //!
 //! Stands on `work_units`, `path_trace`, `what_if`, `tokens`, `script_words`, `itoa`. A change here also changes specs/ (Answers, Audits,
 //! Changes, DeskRefusals, Filed, Help, Links, Mend, Messages, Refusals, Replies, Rows, Status, Traces, Ways, WhatIfs, Why), proofs/ and
@@ -60,7 +61,7 @@ pub use answer::{Answer, NetAnswer, Publication, Reason, Reply, RowAnswer};
 pub use audits::{answer_audit, clause_word, put_complaint};
 pub use changes::{answer_changes, changes_of};
 pub use help::answer_other;
-pub use messages::kind_word;
+pub use messages::{hex_digit, kind_word};
 pub use printing::{print_answer, put_answer, reason_title};
 pub use refusals::{cause_word, put_refusal};
 pub use replies::{answer_abandoned, answer_given, answer_job, answer_open, answer_post};

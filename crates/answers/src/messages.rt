@@ -50,8 +50,8 @@ pub(crate) fn put_messages(text: &mut String, messages: &Messages) -> Result<(),
     put_each(text, messages.as_slice())
 }
 
-/// A hexadecimal digit, in upper case.
-fn hex_digit(value: u8) -> char
+/// The hexadecimal digit of a value below 16, in upper case.
+pub fn hex_digit(value: u8) -> char
     requires { value < 16 }
     ensures { result ≡ digit_glyph true value }
 {

@@ -17,6 +17,7 @@ use crate::text::Text;
 use crate::traces::put_trace;
 use crate::what_ifs::{put_refused_values, put_report};
 use crate::why::put_why;
+use net_data::Refusal;
 use std::alloc::{AllocError, Global};
 
 /// The number and the name of why a line is refused, as `26 NoPlan`.
@@ -26,7 +27,7 @@ pub fn reason_title(reason: &Reason) -> &'static str
     match reason {
         Reason::Desk(refusal) => desk_title(refusal),
         Reason::Event(refused) => refusal_title(&refused.refusal),
-        Reason::NoPlan => "26 NoPlan",
+        Reason::NoPlan => refusal_title(&Refusal::NoPlan),
         Reason::NoRow => "29 NoRow",
         Reason::BadLine => "62 BadLine",
         Reason::Write => "64 Write",

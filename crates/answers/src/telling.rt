@@ -1,6 +1,7 @@
 //! Who tells the answers to the lines of a script.
 
-use crate::answer::Answer;
+use crate::answer::{Answer, Reason};
+use net_data::Net;
 use std::alloc::{AllocError, Global};
 
 /// A line that is answered.
@@ -19,6 +20,15 @@ pub trait Telling {
 
     // The texts that an answer may be told in.
     ghost tells: { Self → AnswerValue → List ℕ → Type 0 };
+
+    /// Whether it explains why lines are refused, and so is to be shown the network.
+    fn explains(&self) -> bool {
+        false
+    }
+
+    /// Explains why a line is refused, by the network after all accepted events. It is called before that is told, maybe under a lock: what it
+    /// has to say it says later.
+    fn explain(&self, _alloc: Global, _asked: Asked<'_>, _why: Reason, _net: &Net) {}
 
     /// Adds what is told of the answer to a line.
     ///

@@ -12,7 +12,7 @@ ghost use Rattle.beside.specs.Beside.{DoesBeside, DoesThere, KeepsSynced, Looks,
 ghost use Rattle.beside.specs.Seats.{Came, CamePosting, Goes, Parts, StaysSeated};
 
 use crate::visitor::Visitor;
-use answers::{Answer, Reason, answer_other};
+use answers::{Answer, Asked, Reason, Telling, answer_other};
 use net_data::{Event, Net};
 use script_words::{Command, read_line};
 use sessions::{Answering, Fault};
@@ -266,6 +266,11 @@ impl<'a, N: Naming, R: Wait> Answering for Beside<'a, N, R> {
             Some(command) => self.obey(alloc, command),
             None => Ok(answer_other(alloc, line)?),
         }
+    }
+
+    fn show_net<T: Telling>(&self, alloc: Global, telling: &T, asked: Asked<'_>, why: Reason) {
+        let guard = self.hub.lock(self.rt);
+        telling.explain(alloc, asked, why, guard.desk().net_now());
     }
 
     fn into_net(self, alloc: Global) -> Result<Net, Fault> {

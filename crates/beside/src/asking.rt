@@ -5,7 +5,7 @@ ghost use Rattle.sessions.specs.Run.{CutsOff};
 ghost use Rattle.script_words.specs.Commands.{IsWithin};
 ghost use Rattle.desk_console.specs.Asked.{is_asked};
 ghost use Rattle.beside.specs.Seats.{StaysSeated};
-ghost use Rattle.beside.specs.Beside.{Asks, DoesBeside, is_of_changes};
+ghost use Rattle.beside.specs.Beside.{AsksBeside, DoesBeside, is_of_changes};
 
 use crate::visitor::Visitor;
 use answers::Answer;
@@ -34,7 +34,7 @@ impl<N: Naming> Visitor<N> {
     fn ask(&mut self, alloc: Global, command: &Command) -> Result<Answer, Fault>
         requires within { IsWithin command.now }
         requires asked { is_asked command.now ≡ true }
-        ensures answer { IfOk result (λ answer. Asks command.now self.old answer self.new) }
+        ensures answer { IfOk result (λ answer. AsksBeside command.now self.old answer self.new) }
         ensures stays { StaysSeated self.old self.new }
         ensures fault { IfErr result (CutsOff (Unit {0})) }
     {

@@ -5,7 +5,7 @@
 //!    `Telling` makes of it.
 //! 2. An event, `post` and `version` are done under the lock, at the desk as it is found: as the script's thread left it, after
 //!    steps of workers and no others. There they do what they do in line. The script's reader is told of what is published.
-//! 3. What is asked of the published version (`status`, `sls`, `messages`, `octets`, `trace`, `whatif`, `audit`) is answered
+//! 3. What is asked of the published version (each question, `trace`, `whatif`, `audit`, `picture`) is answered
 //!    from a look, without the lock: from the last version of a chain that begins with all that was seen before.
 //! 4. `sync` waits for a look that shows all events that were taken, and tells its number. If no worker lives, the script's
 //!    thread does their work meanwhile. `changes` tells what the last `sync` changed: what differs between the versions that the last

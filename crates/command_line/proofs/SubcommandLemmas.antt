@@ -12,7 +12,7 @@ use Rattle.clap.specs.Takes.{is_given}
 use Rattle.clap.specs.Faults.{built_fault, check_fault, entered_fault, fault_of, level_fault, other_fault, step_fault, turn_fault, walk_fault, word_fault}
 use Rattle.clap.specs.declared.error.Error.{Error}
 use Rattle.clap.specs.declared.error.kind.ErrorKind.TheVariants.{DisplayHelp, InvalidSubcommand, MissingSubcommand}
-use Rattle.command_line.specs.Words.{net_rule, steps_rule, seats_rule, dir_rule, workers_rule, save_rule, explained_rule, json_rule, strict_rule, no_files_rule, about_rule, svg_rule, check_app, desk_app, explain_app, export_app, import_app, picture_app, play_app, run_app, serve_app, is_whole, IsWordFault}
+use Rattle.command_line.specs.Words.{required_rule, valued_rule, flag_rule, check_app, desk_app, explain_app, export_app, import_app, picture_app, play_app, run_app, serve_app, is_whole, IsWordFault}
 use Rattle.command_line.specs.declared.words.WordFault.TheVariants.{Clap}
 use Rattle.command_line.proofs.RowLemmas.{AllFill, Fills, none_of_both, set_fills, set_true_fills, help_fills, level_filled, given_value}
 
@@ -142,68 +142,38 @@ help_built = built_leaf help_shape
 abbrev rule_at : ℕ → Rule → Rule
 rule_at i a = with_index i (filled a)
 
-net_fills : Fills (rule_at 1 net_rule)
-net_fills = set_fills (rule_at 1 net_rule) refl refl
+required_fills : (i : ℕ) (name : Text) → Fills (rule_at i (required_rule name))
+required_fills i name = set_fills (rule_at i (required_rule name)) refl refl
 
-steps_fills : Fills (rule_at 2 steps_rule)
-steps_fills = set_fills (rule_at 2 steps_rule) refl refl
+valued_fills : (name : Text) → Fills (rule_at 2 (valued_rule name))
+valued_fills name = set_fills (rule_at 2 (valued_rule name)) refl refl
 
-seats_fills : Fills (rule_at 2 seats_rule)
-seats_fills = set_fills (rule_at 2 seats_rule) refl refl
-
-dir_fills : Fills (rule_at 1 dir_rule)
-dir_fills = set_fills (rule_at 1 dir_rule) refl refl
-
-second_dir_fills : Fills (rule_at 2 dir_rule)
-second_dir_fills = set_fills (rule_at 2 dir_rule) refl refl
-
-workers_fills : Fills (rule_at 2 workers_rule)
-workers_fills = set_fills (rule_at 2 workers_rule) refl refl
-
-save_fills : Fills (rule_at 2 save_rule)
-save_fills = set_fills (rule_at 2 save_rule) refl refl
-
-json_fills : Fills (rule_at 2 json_rule)
-json_fills = set_true_fills (rule_at 2 json_rule) refl refl
-
-explained_fills : Fills (rule_at 2 explained_rule)
-explained_fills = set_true_fills (rule_at 2 explained_rule) refl refl
-
-strict_fills : Fills (rule_at 2 strict_rule)
-strict_fills = set_true_fills (rule_at 2 strict_rule) refl refl
-
-no_files_fills : Fills (rule_at 2 no_files_rule)
-no_files_fills = set_true_fills (rule_at 2 no_files_rule) refl refl
-
-about_fills : Fills (rule_at 2 about_rule)
-about_fills = set_fills (rule_at 2 about_rule) refl refl
-
-svg_fills : Fills (rule_at 2 svg_rule)
-svg_fills = set_true_fills (rule_at 2 svg_rule) refl refl
+flag_fills : (name : Text) → Fills (rule_at 2 (flag_rule name))
+flag_fills name = set_true_fills (rule_at 2 (flag_rule name)) refl refl
 
 asks_fills : Fills (rule_at 2 help_rule)
 asks_fills = help_fills (rule_at 2 help_rule) refl
 
 run_fills : AllFill run_built.rules
-run_fills = (net_fills, (workers_fills, (save_fills, (explained_fills, (json_fills, (strict_fills, (asks_fills, tt)))))))
+run_fills = (required_fills 1 (codes "net"), (valued_fills (codes "workers"), (valued_fills (codes "save"), (flag_fills (codes "explain"), (flag_fills (codes "json"), (flag_fills (codes "strict"), (asks_fills, tt)))))))
 
 play_fills : AllFill play_built.rules
-play_fills = (net_fills, (steps_fills, (save_fills, (explained_fills, (json_fills, (strict_fills, (asks_fills, tt)))))))
+play_fills = (required_fills 1 (codes "net"), (required_fills 2 (codes "steps"), (valued_fills (codes "save"), (flag_fills (codes "explain"), (flag_fills (codes "json"), (flag_fills (codes "strict"), (asks_fills, tt)))))))
 
 serve_fills : AllFill serve_built.rules
-serve_fills = (net_fills, (seats_fills, (workers_fills, (save_fills, (explained_fills, (json_fills, (no_files_fills, (asks_fills, tt))))))))
+serve_fills = (required_fills 1 (codes "net"), (required_fills 2 (codes "seats"), (valued_fills (codes "workers"), (valued_fills (codes "save"), (flag_fills (codes "explain"), (flag_fills (codes "json"), (flag_fills (codes "no-files"), (asks_fills, tt))))))))
 
 check_fills : AllFill check_built.rules
-check_fills = (net_fills, (explained_fills, (json_fills, (asks_fills, tt))))
+check_fills = (required_fills 1 (codes "net"), (flag_fills (codes "explain"), (flag_fills (codes "json"), (asks_fills, tt))))
 
 picture_fills : AllFill picture_built.rules
-picture_fills = (net_fills, (about_fills, (svg_fills, (explained_fills, (asks_fills, tt)))))
+picture_fills = (required_fills 1 (codes "net"), (valued_fills (codes "about"), (flag_fills (codes "svg"), (flag_fills (codes "explain"), (asks_fills, tt)))))
 
 import_fills : AllFill import_built.rules
-import_fills = (dir_fills, (explained_fills, (asks_fills, tt)))
+import_fills = (required_fills 1 (codes "dir"), (flag_fills (codes "explain"), (asks_fills, tt)))
 
 export_fills : AllFill export_built.rules
-export_fills = (net_fills, (second_dir_fills, (explained_fills, (asks_fills, tt))))
+export_fills = (required_fills 1 (codes "net"), (required_fills 2 (codes "dir"), (flag_fills (codes "explain"), (asks_fills, tt))))
 
 -- the last check of a command has no fault only if each of its required arguments is given
 one_given : (given : Bool) → check_kinds false false (not given || false) ≡ [] → given ≡ true

@@ -1,215 +1,104 @@
 -- The command line of the desk.
-use Rattle.std.specs.Prelude.{◌≡◌, ◌≢◌, ◌<◌, ◌≤◌, ◌↔◌, ◌⊎◌, IsTrue, ◌&&◌, ◌||◌, ℕ, [], List, Bool, Option, Some, None, true, is_some, codes, option_map, length, slice_index}
+use Rattle.std.specs.Prelude.{◌≡◌, ◌≢◌, ◌<◌, ◌≤◌, ◌↔◌, ◌⊎◌, IsTrue, ◌&&◌, ◌||◌, ℕ, [], ◌∷◌, List, Bool, Option, Some, None, true, fold, is_some, codes, map, option_map, length, slice_index}
 use Rattle.std.specs.Fmt.{decimal}
 use Rattle.std.specs.Str.{bytes_eq}
 use Rattle.clap.specs.Words.{App, Rule, Row, Text, new_app, new_rule, with_rule, with_subcommand, first_of, Kinds, HasKind, kind_of}
 use Rattle.clap.specs.Simple.{on_top}
 use Rattle.clap.specs.declared.builder.action.ArgAction.TheVariants.{SetTrue}
 use Rattle.clap.specs.declared.error.kind.ErrorKind.TheVariants.{MissingSubcommand}
+use Rattle.command_line.specs.declared.commands.Argument.{Argument}
+use Rattle.command_line.specs.declared.commands.Argument.TheVariants.{Required, Optional, Valued, Flag}
+use Rattle.command_line.specs.declared.commands.Subcommand.{Subcommand}
 use Rattle.command_line.specs.declared.words.Order.{Order}
 use Rattle.command_line.specs.declared.words.Order.TheVariants.{Run, Play, Serve, Check, Picture, Import, Export, Explain}
 use Rattle.command_line.specs.declared.words.WordFault.{WordFault}
 use Rattle.command_line.specs.declared.words.WordFault.TheVariants.{Clap, Workers}
 
--- NET is required
-abbrev pub net_rule : Rule
-net_rule = record (new_rule (codes "net")) { required = true; value_names = 1 }
+-- `NAME`, which is required
+abbrev pub required_rule : Text → Rule
+required_rule name = record (new_rule name) { required = true; value_names = 1 }
 
--- `--workers N`
-abbrev pub workers_rule : Rule
-workers_rule = record (new_rule (codes "workers")) { long = Some (codes "workers"); value_names = 1 }
+-- `NAME`, which may be left out
+abbrev pub optional_rule : Text → Rule
+optional_rule name = record (new_rule name) { value_names = 1 }
 
--- `--save FILE`
-abbrev pub save_rule : Rule
-save_rule = record (new_rule (codes "save")) { long = Some (codes "save"); value_names = 1 }
+-- `--NAME VALUE`
+abbrev pub valued_rule : Text → Rule
+valued_rule name = record (new_rule name) { long = Some name; value_names = 1 }
 
--- `--explain`, which has no value
-abbrev pub explained_rule : Rule
-explained_rule = record (new_rule (codes "explain")) { long = Some (codes "explain"); action = Some SetTrue }
+-- `--NAME`, which has no value
+abbrev pub flag_rule : Text → Rule
+flag_rule name = record (new_rule name) { long = Some name; action = Some SetTrue }
 
--- `--json`, which has no value
-abbrev pub json_rule : Rule
-json_rule = record (new_rule (codes "json")) { long = Some (codes "json"); action = Some SetTrue }
+-- how an argument of the table is read
+abbrev pub rule_by : Argument → Rule
+rule_by (Required name value help) = required_rule name.now
+rule_by (Optional name value help) = optional_rule name.now
+rule_by (Valued name value help) = valued_rule name.now
+rule_by (Flag name help) = flag_rule name.now
 
--- `--strict`, which has no value
-abbrev pub strict_rule : Rule
-strict_rule = record (new_rule (codes "strict")) { long = Some (codes "strict"); action = Some SetTrue }
+-- a command of this name with these arguments
+abbrev pub app_with : Text → List Rule → App
+app_with name rules = fold with_rule (new_app name) rules
 
--- a command of this name with NET
-abbrev pub net_app : Text → App
-net_app name = with_rule (new_app name) net_rule
-
--- `run NET --workers N`
-abbrev pub workers_app : App
-workers_app = with_rule (net_app (codes "run")) workers_rule
-
--- `run NET --workers N --save FILE`
-abbrev pub saved_run_app : App
-saved_run_app = with_rule workers_app save_rule
-
--- `run NET --workers N --save FILE --explain`
-abbrev pub explained_run_app : App
-explained_run_app = with_rule saved_run_app explained_rule
-
--- `run NET --workers N --save FILE --explain --json`
-abbrev pub json_run_app : App
-json_run_app = with_rule explained_run_app json_rule
+-- how a command of the table is read
+abbrev pub app_by : Subcommand → App
+app_by command = app_with command.name.now (map rule_by command.arguments.now)
 
 -- `run NET --workers N --save FILE --explain --json --strict`
 abbrev pub run_app : App
-run_app = with_rule json_run_app strict_rule
-
--- STEPS is required
-abbrev pub steps_rule : Rule
-steps_rule = record (new_rule (codes "steps")) { required = true; value_names = 1 }
-
--- `play NET STEPS`
-abbrev pub files_app : App
-files_app = with_rule (net_app (codes "play")) steps_rule
-
--- `play NET STEPS --save FILE`
-abbrev pub saved_play_app : App
-saved_play_app = with_rule files_app save_rule
-
--- `play NET STEPS --save FILE --explain`
-abbrev pub explained_play_app : App
-explained_play_app = with_rule saved_play_app explained_rule
-
--- `play NET STEPS --save FILE --explain --json`
-abbrev pub json_play_app : App
-json_play_app = with_rule explained_play_app json_rule
+run_app =
+    app_with (codes "run")
+    (required_rule (codes "net") ∷ valued_rule (codes "workers") ∷ valued_rule (codes "save") ∷ flag_rule (codes "explain") ∷ flag_rule (codes "json") ∷ flag_rule (codes "strict") ∷ [])
 
 -- `play NET STEPS --save FILE --explain --json --strict`
 abbrev pub play_app : App
-play_app = with_rule json_play_app strict_rule
-
--- SEATS is required
-abbrev pub seats_rule : Rule
-seats_rule = record (new_rule (codes "seats")) { required = true; value_names = 1 }
-
--- `--no-files`, which has no value
-abbrev pub no_files_rule : Rule
-no_files_rule = record (new_rule (codes "no-files")) { long = Some (codes "no-files"); action = Some SetTrue }
-
--- `serve NET SEATS`
-abbrev pub seats_app : App
-seats_app = with_rule (net_app (codes "serve")) seats_rule
-
--- `serve NET SEATS --workers N`
-abbrev pub workers_serve_app : App
-workers_serve_app = with_rule seats_app workers_rule
-
--- `serve NET SEATS --workers N --save FILE`
-abbrev pub saved_serve_app : App
-saved_serve_app = with_rule workers_serve_app save_rule
-
--- `serve NET SEATS --workers N --save FILE --explain`
-abbrev pub explained_serve_app : App
-explained_serve_app = with_rule saved_serve_app explained_rule
-
--- `serve NET SEATS --workers N --save FILE --explain --json`
-abbrev pub json_serve_app : App
-json_serve_app = with_rule explained_serve_app json_rule
+play_app =
+    app_with (codes "play")
+    (required_rule (codes "net") ∷ required_rule (codes "steps") ∷ valued_rule (codes "save") ∷ flag_rule (codes "explain") ∷ flag_rule (codes "json") ∷ flag_rule (codes "strict") ∷ [])
 
 -- `serve NET SEATS --workers N --save FILE --explain --json --no-files`
 abbrev pub serve_app : App
-serve_app = with_rule json_serve_app no_files_rule
-
--- `check NET --explain`
-abbrev pub explained_check_app : App
-explained_check_app = with_rule (net_app (codes "check")) explained_rule
+serve_app =
+    app_with (codes "serve")
+    (required_rule (codes "net") ∷ required_rule (codes "seats") ∷ valued_rule (codes "workers") ∷ valued_rule (codes "save") ∷ flag_rule (codes "explain") ∷ flag_rule (codes "json")
+    ∷ flag_rule (codes "no-files") ∷ [])
 
 -- `check NET --explain --json`
 abbrev pub check_app : App
-check_app = with_rule explained_check_app json_rule
-
--- `--about X`
-abbrev pub about_rule : Rule
-about_rule = record (new_rule (codes "about")) { long = Some (codes "about"); value_names = 1 }
-
--- `--svg`, which has no value
-abbrev pub svg_rule : Rule
-svg_rule = record (new_rule (codes "svg")) { long = Some (codes "svg"); action = Some SetTrue }
-
--- `picture NET --about X`
-abbrev pub about_app : App
-about_app = with_rule (net_app (codes "picture")) about_rule
-
--- `picture NET --about X --svg`
-abbrev pub svg_picture_app : App
-svg_picture_app = with_rule about_app svg_rule
+check_app = app_with (codes "check") (required_rule (codes "net") ∷ flag_rule (codes "explain") ∷ flag_rule (codes "json") ∷ [])
 
 -- `picture NET --about X --svg --explain`
 abbrev pub picture_app : App
-picture_app = with_rule svg_picture_app explained_rule
-
--- DIR is required
-abbrev pub dir_rule : Rule
-dir_rule = record (new_rule (codes "dir")) { required = true; value_names = 1 }
-
--- `import DIR`
-abbrev pub dir_import_app : App
-dir_import_app = with_rule (new_app (codes "import")) dir_rule
+picture_app = app_with (codes "picture") (required_rule (codes "net") ∷ valued_rule (codes "about") ∷ flag_rule (codes "svg") ∷ flag_rule (codes "explain") ∷ [])
 
 -- `import DIR --explain`
 abbrev pub import_app : App
-import_app = with_rule dir_import_app explained_rule
-
--- `export NET DIR`
-abbrev pub dir_export_app : App
-dir_export_app = with_rule (net_app (codes "export")) dir_rule
+import_app = app_with (codes "import") (required_rule (codes "dir") ∷ flag_rule (codes "explain") ∷ [])
 
 -- `export NET DIR --explain`
 abbrev pub export_app : App
-export_app = with_rule dir_export_app explained_rule
-
--- WHAT may be left out
-abbrev pub what_rule : Rule
-what_rule = record (new_rule (codes "what")) { value_names = 1 }
-
--- `explain WHAT`
-abbrev pub what_app : App
-what_app = with_rule (new_app (codes "explain")) what_rule
+export_app = app_with (codes "export") (required_rule (codes "net") ∷ required_rule (codes "dir") ∷ flag_rule (codes "explain") ∷ [])
 
 -- `explain WHAT --json`
 abbrev pub explain_app : App
-explain_app = with_rule what_app json_rule
+explain_app = app_with (codes "explain") (optional_rule (codes "what") ∷ flag_rule (codes "json") ∷ [])
 
 -- `route_desk` alone, which tells its version
 abbrev pub bare_app : App
 bare_app = on_top (λ s. record s { has_version = true }) (new_app (codes "route_desk"))
 
--- `route_desk` with `run` alone
-abbrev pub desk_app_up_to_run : App
-desk_app_up_to_run = with_subcommand bare_app run_app.top
+-- the commands of the table
+abbrev pub apps : List App
+apps = run_app ∷ play_app ∷ serve_app ∷ check_app ∷ picture_app ∷ import_app ∷ export_app ∷ explain_app ∷ []
 
--- `route_desk` with its commands as far as `play`
-abbrev pub desk_app_up_to_play : App
-desk_app_up_to_play = with_subcommand desk_app_up_to_run play_app.top
-
--- `route_desk` with its commands as far as `serve`
-abbrev pub desk_app_up_to_serve : App
-desk_app_up_to_serve = with_subcommand desk_app_up_to_play serve_app.top
-
--- `route_desk` with its commands as far as `check`
-abbrev pub desk_app_up_to_check : App
-desk_app_up_to_check = with_subcommand desk_app_up_to_serve check_app.top
-
--- `route_desk` with its commands as far as `picture`
-abbrev pub desk_app_up_to_picture : App
-desk_app_up_to_picture = with_subcommand desk_app_up_to_check picture_app.top
-
--- `route_desk` with its commands as far as `import`
-abbrev pub desk_app_up_to_import : App
-desk_app_up_to_import = with_subcommand desk_app_up_to_picture import_app.top
-
--- `route_desk` with its commands as far as `export`
-abbrev pub desk_app_up_to_export : App
-desk_app_up_to_export = with_subcommand desk_app_up_to_import export_app.top
+-- a command with one more subcommand
+abbrev pub with_app : App → App → App
+with_app app sub = with_subcommand app sub.top
 
 -- `route_desk`
 abbrev pub desk_app : App
-desk_app = with_subcommand desk_app_up_to_export explain_app.top
+desk_app = fold with_app bare_app apps
 
 -- what is given for N says this many workers; if nothing is given, it is the number before
 abbrev pub IsWorkers : ℕ → Option Text → ℕ → Type 0

@@ -24,7 +24,6 @@
 //! Stands on `clap`. A change here also changes specs/ (Words), proofs/ and must-fail/.
 #![tactic(auto)]
 
-mod arguments;
 mod commands;
 pub mod laws;
 mod orders;

@@ -16,7 +16,7 @@ use Rattle.sessions.specs.Run.{IsAnsweredInPart, IsFrontOf, IsOutcome, Ran}
 use Rattle.sessions.proofs.AnswerLemmas.{front_whole}
 use Rattle.sessions.specs.declared.faults.Fault.{Fault}
 use Rattle.sessions.specs.declared.faults.Fault.TheVariants.{OutOfMemory, Read, Write, NoPlace, Load}
-use Rattle.console.specs.Headline.{AreRight, IsRightScript, Moment, RanInputRight, RanRight}
+use Rattle.console.specs.Headline.{AreRightLines, IsRightScript, Moment, RanInputRight, RanRight}
 
 -- after a line the version that stands is right
 reply_right : (start : Network) (events : List Event) (line : List ℕ) (c : ConsoleValue) (told : Option Answer) (new : ConsoleValue) → IsRightDesk start events c.desk → Replies Commands line c told new
@@ -37,7 +37,7 @@ record Made (start : Network) (events : List Event) (c : ConsoleValue) (lines : 
   moments : List Moment
   asked : lines ≡ map (λ (m : Moment). m.line) moments
   are_told : told ≡ map (λ (m : Moment). m.told) moments
-  each : AreRight start events c moments
+  each : AreRightLines start events c moments
 
 made : (start : Network) (events : List Event) (c : ConsoleValue) → IsRightDesk start events c.desk → (lines : List (List ℕ)) (told : List (Option Answer)) (new : ConsoleValue) → Answers Commands c lines told new → Made start events c lines told
 made start events c right [] told new is = record { moments = []; asked = refl; are_told = is.0; each = tt }

@@ -21,11 +21,11 @@ pub record Moment : Type 0 where
   pub after : ConsoleValue
 
 -- each line is answered from what the line before left, and then the desk is right, after the events before and that of the line if it was answered `taken`
-abbrev pub AreRight : Network → List Event → ConsoleValue → List Moment → Type 0
-AreRight start events c [] = Unit {0}
-AreRight start events c (m ∷ moments) =
+abbrev pub AreRightLines : Network → List Event → ConsoleValue → List Moment → Type 0
+AreRightLines start events c [] = Unit {0}
+AreRightLines start events c (m ∷ moments) =
     Replies Commands m.line c m.told m.after × IsRightDesk start (events ++ taken_at (trimmed m.line) m.told) m.after.desk
-    × AreRight start (events ++ taken_at (trimmed m.line) m.told) m.after moments
+    × AreRightLines start (events ++ taken_at (trimmed m.line) m.told) m.after moments
 
 -- who tells the answers tells them so
 module _ (Tells : Answer → List ℕ → Type 0) where
@@ -36,7 +36,7 @@ module _ (Tells : Answer → List ℕ → Type 0) where
     pub asked : lines ≡ map (λ (m : Moment). m.line) moments ++ left
     pub told : IsFrontOf Tells (map (λ (m : Moment). m.told) moments) written
     pub first : IsRightDesk start [] (opening start).desk
-    pub each : AreRight start [] (opening start) moments
+    pub each : AreRightLines start [] (opening start) moments
 
   -- some bytes were read, and what was written answers the script that they are, with the right desk at each line
   pub record RanRight (start : Network) (unread left held holds : Option (List ℕ)) : Type 0 where

@@ -3,7 +3,7 @@
 ghost use Rattle.std.specs.Prelude.{◌≡◌, IfOk};
 ghost use Rattle.desk_console.specs.Console.{opening};
 
-use answers::Answer;
+use answers::{Answer, Asked, Reason, Telling};
 use desk_console::Console;
 use net_data::Net;
 use sessions::{Answering, Fault};
@@ -48,6 +48,10 @@ impl Answering for InLine {
 
     fn answer(&mut self, alloc: Global, line: &[u8]) -> Result<Answer, Fault> {
         Ok(self.console.answer(alloc, line)?)
+    }
+
+    fn show_net<T: Telling>(&self, alloc: Global, telling: &T, asked: Asked<'_>, why: Reason) {
+        telling.explain(alloc, asked, why, self.console.desk().net_now());
     }
 
     fn into_net(self, _alloc: Global) -> Result<Net, Fault> {

@@ -19,8 +19,8 @@
 //!    the file's name ends in `.svg`, else a DOT text; `picture FILE X` tells one about the destination X.
 //! 7. A line that is no command is answered `refused 62 BadLine`, but for `help` and `help WORD`.
 //!
-//! Stands on `answers`, `pictures`. A change here also changes specs/ (Asked, Commands, Console, Does, Pictures, Settling, Syncing, Watch),
-//! proofs/ and must-fail/.
+//! Stands on `answers`, `pictures`. A change here also changes specs/ (Asked, Commands, Console, Does, Pictures, Right, Settling, Syncing, Taken,
+//! Watch), proofs/ and must-fail/.
 #![tactic(auto)]
 
 pub mod asking;

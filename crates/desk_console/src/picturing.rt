@@ -1,7 +1,7 @@
 //! Pictures of the published network.
 
 ghost use Rattle.std.specs.Prelude.{◌≡◌, false, IfErr, IfOk, string_bytes};
-ghost use Rattle.pictures.specs.Shown.{fault_of, lacks_plan};
+ghost use Rattle.pictures.specs.Shown.{picture_fault, lacks_plan};
 ghost use Rattle.desk_console.specs.Pictures.{is_svg as ends_in_svg, picture_for, picture_told};
 
 use answers::{Answer, NetAnswer, Reason, Text};
@@ -27,7 +27,7 @@ fn draw(
 ) -> Result<String, PictureFault>
     ensures text { IfOk result (λ text. string_bytes text ≡ picture_for file.now net.now about) }
     ensures planned { IfOk result (λ _. lacks_plan net.now about ≡ false) }
-    ensures fault { IfErr result (λ fault. fault ≡ fault_of net.now about) }
+    ensures fault { IfErr result (λ fault. fault ≡ picture_fault net.now about) }
 {
     if is_svg(file) {
         return write_svg(alloc, net, about);

@@ -24,7 +24,7 @@ pub struct Reader {
     pub ids: SetIds,
 }
 
-/// If a reader is, or would go.
+/// The position of the reader of a destination, or the one that it would get.
 pub fn position_of_reader(readers: &[Reader], dest: PointCode) -> Result<usize, usize>
     requires { IsRising (λ r. r.dest) readers.now }
     ensures found { IfOk result (IsFoundAt (λ r. r.dest) dest readers.now) }

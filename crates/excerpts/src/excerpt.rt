@@ -10,7 +10,7 @@ ghost use Rattle.excerpts.specs.Around.{neighbours_left};
 ghost use Rattle.excerpts.specs.Excerpt.{ExcerptValue, content_at, content_in, content_of, excerpt_at, is_read_by, leads as row_leads, IsExcerptAnswer, IsRight};
 
 use crate::faults::ExcerptFault;
-use crate::places::{is_expected, is_near, place_by_code, place_of_row, point_by};
+use crate::positions::{is_expected, is_near, point_by, position_by_code, position_in_rows};
 use crate::reading::{are_same_reads, are_same_row_points, is_read};
 use crate::{Frozen, Neighbours};
 use net_data::Net;
@@ -128,26 +128,26 @@ impl Excerpt {
         &self.plan
     }
 
-    /// The place of a point's row among the plan's rows, or where it would go.
-    pub fn place_of_row(&self, point: PointCode) -> Result<usize, usize>
+    /// The position of a point's row among the plan's rows, or where it would go.
+    pub fn position_of_row(&self, point: PointCode) -> Result<usize, usize>
         ensures found { IfOk result (IsFoundAt (λ r. r.point) point self.now.plan.rows) }
         ensures absent { IfErr result (IsGapAt (λ r. r.point) point self.now.plan.rows) }
     {
         self.validity();
-        place_of_row(self.net.order(), self.plan.rows.as_slice(), point)
+        position_in_rows(self.net.order(), self.plan.rows.as_slice(), point)
     }
 
-    /// The same, for who reads what stands in that place beside the rows, and not the row: the codes of the rows tell it.
-    pub fn place_by_code(&self, point: PointCode) -> Result<usize, usize>
+    /// The same, for who reads what stands at that position beside the rows, and not the row: the codes of the rows tell it.
+    pub fn position_by_code(&self, point: PointCode) -> Result<usize, usize>
         ensures found { IfOk result (IsFoundAt (λ r. r.point) point self.now.plan.rows) }
         ensures absent { IfErr result (IsGapAt (λ r. r.point) point self.now.plan.rows) }
     {
         self.validity();
-        place_by_code(self.net.order(), &self.plan.rows, point)
+        position_by_code(self.net.order(), &self.plan.rows, point)
     }
 
     /// Whether the row of a point stands where it is looked for first, by the codes of the rows. Nothing rests on what this tells; who
-    /// asks it of several points, before he asks for their places one by one, has their codes come from memory side by side.
+    /// asks it of several points, before he asks for their positions one by one, has their codes come from memory side by side.
     pub fn is_expected(&self, point: PointCode) -> bool {
         is_expected(self.net.order(), &self.plan.rows, point)
     }
@@ -163,7 +163,7 @@ impl Excerpt {
         ensures { option_copied result ≡ row_at self.now.plan.rows point }
     {
         let rows = self.plan.rows.as_slice();
-        match self.place_of_row(point) {
+        match self.position_of_row(point) {
             Ok(at) => Some(&rows[at]),
             Err(_) => None,
         }
@@ -173,13 +173,13 @@ impl Excerpt {
     pub fn leads(&self, point: PointCode, other: PointCode) -> bool
         ensures { result ≡ row_leads self.now.plan.rows point other }
     {
-        self.place_leading(point, other, self.is_stp(other))
+        self.position_leading(point, other, self.is_stp(other))
             .is_some()
     }
 
-    /// The place of the row of a point, if it leads to another, of which it is known whether it is a transfer point. A row leads to
+    /// The position of the row of a point, if it leads to another, of which it is known whether it is a transfer point. A row leads to
     /// the destination and to transfer points alone, so for any other point it isn't read.
-    pub fn place_leading(
+    pub fn position_leading(
         &self,
         point: PointCode,
         other: PointCode,
@@ -195,7 +195,7 @@ impl Excerpt {
                 return None;
             }
         }
-        let at = self.place_by_code(point).ok()?;
+        let at = self.position_by_code(point).ok()?;
         let leads = is_via(&self.plan.rows.as_slice()[at], other);
         leads.then_some(at)
     }

@@ -12,7 +12,7 @@ ghost use Rattle.excerpts.specs.Turned.{HasTurned};
 
 use crate::indexed::Indexed;
 use crate::neighbours::Neighbours;
-use crate::places::PointOrder;
+use crate::positions::PointOrder;
 use crate::turned::{Ends, turned_by};
 use net_data::{Event, Net};
 use net_items::LinkSet;

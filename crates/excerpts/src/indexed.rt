@@ -11,7 +11,7 @@ ghost use Rattle.excerpts.specs.Index.{IsJointIndex, renewed};
 
 use crate::index::{are_same_ends, find_joint, index_after, index_of, next_up};
 use crate::joints::Joints;
-use crate::places::PointOrder;
+use crate::positions::PointOrder;
 use net_data::Net;
 use net_items::LinkSet;
 use point_codes::PointCode;
@@ -78,7 +78,7 @@ impl Indexed {
         PointOrder::shared(alloc, net.points())
     }
 
-    /// The same, made faster if the sets of an earlier network join the same points, place by place.
+    /// The same, made faster if the sets of an earlier network join the same points, one by one.
     pub fn after(alloc: Global, net: Net, before: &Indexed) -> Result<Indexed, AllocError>
         ensures { IfOk result (λ f. f ≡ net) }
     {

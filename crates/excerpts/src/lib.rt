@@ -23,7 +23,7 @@ mod indexed;
 mod joints;
 pub mod laws;
 pub mod neighbours;
-mod places;
+mod positions;
 pub mod reading;
 pub mod turned;
 

@@ -192,7 +192,7 @@ fn put_if_differs(list: &mut Vec<Pair>, set: &LinkSet, other: &LinkSet) -> Resul
     Ok(())
 }
 
-/// The ends of the sets that are available in one of two lists alone, if the sets of both join the same points, place by place.
+/// The ends of the sets that are available in one of two lists alone, if the sets of both join the same points, one by one.
 fn turned_in_place(
     alloc: Global,
     sets: &[LinkSet],

@@ -36,8 +36,8 @@ abbrev pub mark_of : List ℕ → List ℕ
 mark_of title = before_first (λ b. b == 32) title
 
 -- the name, which stands behind that space; nothing if there is none
-abbrev pub name_of : List ℕ → List ℕ
-name_of title = after_first (λ b. b == 32) title
+abbrev pub name_in : List ℕ → List ℕ
+name_in title = after_first (λ b. b == 32) title
 
 -- whether a text begins with a digit
 abbrev pub is_number_text : List ℕ → Bool
@@ -46,7 +46,7 @@ is_number_text text = nat_le 48 (slice_index text 0) && nat_le (slice_index text
 -- whether a word calls an explanation of that title: it is the title, its number or its letter, or its name
 abbrev pub is_called_by : List ℕ → List ℕ → Bool
 is_called_by word title =
-    bytes_eq word title || (not (length word == 0) && (bytes_eq word (mark_of title) || bytes_eq word (name_of title)))
+    bytes_eq word title || (not (length word == 0) && (bytes_eq word (mark_of title) || bytes_eq word (name_in title)))
 
 -- the first title whose explanation a word calls
 abbrev pub title_found : List ℕ → Option (List ℕ)
@@ -59,5 +59,5 @@ is_found_by title word = option_map_or (λ found. bytes_eq found title) (title_f
 -- whether a title is found by itself, by its name if it has one, and by its number if it has one
 abbrev pub is_reached : List ℕ → Bool
 is_reached title =
-    is_found_by title title && (length (name_of title) == 0 || is_found_by title (name_of title))
+    is_found_by title title && (length (name_in title) == 0 || is_found_by title (name_in title))
     && (not (is_number_text title) || is_found_by title (mark_of title))

@@ -18,7 +18,7 @@ use Rattle.desk_core.proofs.RunLemmas.{right_after, run_none, run_one}
 use Rattle.seats.specs.Minutes.{NoneOf, OnlyOthersSince, SeatValue, sight}
 use Rattle.seats.specs.declared.rule.Sight.{Sight}
 use Rattle.versions.specs.Chains.{ChainPrefixValue, IsChain}
-use Rattle.versions.specs.Working.{Comes, ComesAndDoes, Follow, IsCall, IsHistory, IsWorkedOn, Leads, last_sight, leaving, left_at}
+use Rattle.versions.specs.Working.{Comes, ComesAndDoes, Follow, IsCall, IsHistory, IsWorkedOn, StepsTo, last_sight, leaving, left_at}
 use Rattle.versions.specs.declared.state.DeskAndChain.{DeskAndChain}
 use Rattle.versions.proofs.WorkedLemmas.{worked_keeps}
 use Rattle.histories.specs.Right.{AreRight, IsRightAt}
@@ -77,7 +77,7 @@ by_post start s t h call =
       chain = subst (λ (x : ChainPrefixValue). IsPrefix s.shown.chain x.chain) (sym call.shown) ([], append-nil s.shown.chain);
     }
 
-pub goes : (start : Network) (one next : Sight DeskAndChain) → Right start one.state → Leads one next → Goes start one.state next.state
+pub goes : (start : Network) (one next : Sight DeskAndChain) → Right start one.state → StepsTo one next → Goes start one.state next.state
 goes start one next h (inl w) = by_workers start one.state next.state h w
 goes start one next h (inr call) = by_post start one.state next.state h call.1
 

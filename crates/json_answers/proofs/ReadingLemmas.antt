@@ -34,7 +34,7 @@ use Rattle.work_units.specs.declared.replies.Refusal.{Refusal as DeskRefusal}
 use Rattle.work_units.specs.declared.replies.Refusal.TheVariants as desk
 use Rattle.json_answers.specs.Members.{Member, object_members, object_with}
 use Rattle.json_answers.specs.Values.{list_member}
-use Rattle.json_answers.specs.Refusals.{desk_values, edit_values, number_if, reason_values}
+use Rattle.json_answers.specs.Refusals.{desk_members, edit_values, number_if, value_members}
 use Rattle.json_answers.specs.Objects.{answer_members, answer_object, change_members, choice_members, hop_members, link_items, link_members, links_value, marked_value, mend_member, mend_members, message_members, net_values, octet_value, octets_value, offer_members, publication_members, reply_members, row_values, status_value, trace_members, unused_members, used_members, via_items, way_members}
 
 -- no value of these members is deeper than this
@@ -177,7 +177,7 @@ number_shallow : (o : Option ℕ) → depth (number_if o) ≤ 3
 number_shallow None = flat 3
 number_shallow (Some n) = flat 3
 
-desk_shallow : (r : DeskRefusal) → AreShallow 3 (desk_values r)
+desk_shallow : (r : DeskRefusal) → AreShallow 3 (desk_members r)
 desk_shallow (desk.Edit refusal) = edit_shallow refusal
 desk_shallow (desk.Gap next) = (flat 3, tt)
 desk_shallow (desk.Old last) = (flat 3, tt)
@@ -185,7 +185,7 @@ desk_shallow (desk.NotReady left) = (flat 3, tt)
 desk_shallow (desk.Stale target) = (number_shallow target, tt)
 desk_shallow r = tt
 
-reason_shallow : (why : Reason) → AreShallow 3 (reason_values why)
+reason_shallow : (why : Reason) → AreShallow 3 (value_members why)
 reason_shallow (reason.Desk refusal) = desk_shallow refusal
 reason_shallow (reason.Event refused) = both (λ (m : Member). depth m.1 ≤ 3) (edit_values refused.refusal) _ (edit_shallow refused.refusal) (flat 3, tt)
 reason_shallow why = tt

@@ -20,12 +20,12 @@ abbrev pub notice_members : ℕ → List Change → List Member
 notice_members number changes = told_changes (codes "watch") number changes
 
 -- the notice behind an answer, on a line of its own; nothing if none is told
-abbrev pub notice_text : Answer → List ℕ
-notice_text (answer.Publication (publication.Published number (Some changes))) = object_line (notice_members number changes)
-notice_text (answer.Publication (publication.Synced number (Some changes))) = object_line (notice_members number changes)
-notice_text a = []
+abbrev pub notice_objects : Answer → List ℕ
+notice_objects (answer.Publication (publication.Published number (Some changes))) = object_line (notice_members number changes)
+notice_objects (answer.Publication (publication.Synced number (Some changes))) = object_line (notice_members number changes)
+notice_objects a = []
 
 -- an answer as it is printed, in either form
-abbrev pub printed : Form → Answer → List ℕ
-printed Text a = text.printed a
-printed Objects a = object_line (answer_members a) ++ notice_text a
+abbrev pub printed_in : Form → Answer → List ℕ
+printed_in Text a = text.printed a
+printed_in Objects a = object_line (answer_members a) ++ notice_objects a

@@ -123,10 +123,10 @@ mend_member None = (codes "links", null)
 mend_member (Some links) = list_member (codes "links") mend_members links
 
 -- the reason of a way over a point that an available set reaches
-abbrev pub far_reason : Far → List ℕ
-far_reason Allowed = codes "ok"
-far_reason Restricted = codes "restricted"
-far_reason Prohibited = codes "prohibited"
+abbrev pub offer_reason : Far → List ℕ
+offer_reason Allowed = codes "ok"
+offer_reason Restricted = codes "restricted"
+offer_reason Prohibited = codes "prohibited"
 
 -- a link with its marks
 abbrev pub marked_value : Link → Json
@@ -134,7 +134,7 @@ marked_value link = string (marked_text Two link)
 
 -- the reason of a way: the status of the via, or the set that isn't available, with each of its links
 abbrev pub offer_members : Offer → List Member
-offer_members (offer.Far far) = text_member (codes "reason") (far_reason far) ∷ []
+offer_members (offer.Far far) = text_member (codes "reason") (offer_reason far) ∷ []
 offer_members (offer.Down id links) =
     text_member (codes "reason") (codes "down") ∷ number_member (codes "set") id ∷ (codes "links", array (items_of (map marked_value links))) ∷ []
 offer_members offer.Unjoined = []

@@ -26,19 +26,19 @@ number_if None = null
 number_if (Some n) = number (decimal n)
 
 -- the values of a refusal of the desk
-abbrev pub desk_values : DeskRefusal → List Member
-desk_values (desk.Edit refusal) = edit_values refusal
-desk_values (desk.Gap next) = number_member (codes "next") next ∷ []
-desk_values (desk.Old last) = number_member (codes "last") last ∷ []
-desk_values (desk.NotReady left) = number_member (codes "left") left ∷ []
-desk_values (desk.Stale target) = (codes "target", number_if target) ∷ []
-desk_values refusal = []
+abbrev pub desk_members : DeskRefusal → List Member
+desk_members (desk.Edit refusal) = edit_values refusal
+desk_members (desk.Gap next) = number_member (codes "next") next ∷ []
+desk_members (desk.Old last) = number_member (codes "last") last ∷ []
+desk_members (desk.NotReady left) = number_member (codes "left") left ∷ []
+desk_members (desk.Stale target) = (codes "target", number_if target) ∷ []
+desk_members refusal = []
 
 -- the values of why a line is refused; `at` is the place of a refused event of a what-if
-abbrev pub reason_values : Reason → List Member
-reason_values (reason.Desk refusal) = desk_values refusal
-reason_values (reason.Event refused) = edit_values refused.refusal ++ number_member (codes "at") refused.place ∷ []
-reason_values why = []
+abbrev pub value_members : Reason → List Member
+value_members (reason.Desk refusal) = desk_members refusal
+value_members (reason.Event refused) = edit_values refused.refusal ++ number_member (codes "at") refused.place ∷ []
+value_members why = []
 
 -- a number and a name, of both in text
 abbrev pub title_members : List ℕ → List Member
@@ -46,4 +46,4 @@ title_members title = (codes "refused", number (before_first (λ b. b == 32) tit
 
 -- `refused` and `name`, and the values: why a line is refused
 abbrev pub reason_members : Reason → List Member
-reason_members why = title_members (reason_name why) ++ reason_values why
+reason_members why = title_members (reason_name why) ++ value_members why

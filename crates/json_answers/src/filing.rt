@@ -2,10 +2,11 @@
 
 ghost use Rattle.std.specs.Prelude.{◌≡◌, ◌++◌, IfOk, OnOk, string_bytes};
 ghost use Rattle.answers.specs.Filed.{IsFiled};
-ghost use Rattle.json_answers.specs.Form.{printed};
+ghost use Rattle.json_answers.specs.Form.{printed_in};
 
 use crate::form::Form;
 use answers::{Answer, Asked, NetAnswer, Reason, Telling, Text};
+use net_data::Net;
 use std::alloc::{AllocError, Global};
 
 /// Lets an answer go. A function of its own, so that this is done in one place.
@@ -13,7 +14,7 @@ fn let_go(_answer: Answer) {}
 
 /// Prints an answer, and lets it go.
 fn print(form: Form, alloc: Global, answer: Answer, text: &mut String) -> Result<(), AllocError>
-    ensures { OnOk result (string_bytes text.new ≡ string_bytes text.old ++ printed form answer) }
+    ensures { OnOk result (string_bytes text.new ≡ string_bytes text.old ++ printed_in form answer) }
 {
     let printed = form.print(alloc, &answer, text);
     let_go(answer);
@@ -23,9 +24,9 @@ fn print(form: Form, alloc: Global, answer: Answer, text: &mut String) -> Result
 /// A form tells each answer as it is printed.
 impl Telling for Form {
     ghost use Rattle.std.specs.Prelude.{◌≡◌};
-    ghost use Rattle.json_answers.specs.Form.{printed};
+    ghost use Rattle.json_answers.specs.Form.{printed_in};
 
-    ghost tells = { λ form answer text. text ≡ printed form answer };
+    ghost tells = { λ form answer text. text ≡ printed_in form answer };
 
     fn tell(
         &self,
@@ -52,6 +53,15 @@ pub trait Clerk {
         file: &str,
         picture: &str,
     ) -> Result<bool, AllocError>;
+
+    /// Whether it explains why lines are refused, and so is to be shown the network.
+    fn explains(&self) -> bool {
+        false
+    }
+
+    /// Explains why a line is refused, by the network after all accepted events. It is called before that is told, maybe under a lock: what it
+    /// has to say it says later.
+    fn explain(&self, _alloc: Global, _asked: Asked<'_>, _why: Reason, _net: &Net) {}
 
     /// Sees what is told of a line, before it is.
     fn see(&self, alloc: Global, asked: Asked<'_>, answer: &Answer);
@@ -108,7 +118,7 @@ fn show<C: Clerk>(
     told: Answer,
     text: &mut String,
 ) -> Result<(), AllocError>
-    ensures { OnOk result (string_bytes text.new ≡ string_bytes text.old ++ printed filing.now.form told) }
+    ensures { OnOk result (string_bytes text.new ≡ string_bytes text.old ++ printed_in filing.now.form told) }
 {
     filing.clerk.see(alloc, asked, &told);
     print(filing.form, alloc, told, text)
@@ -118,6 +128,14 @@ impl<C: Clerk> Telling for Filing<C> {
     ghost use Rattle.json_answers.specs.Filing.{IsToldIn};
 
     ghost tells = { λ filing answer text. IsToldIn filing.form answer text };
+
+    fn explains(&self) -> bool {
+        self.clerk.explains()
+    }
+
+    fn explain(&self, alloc: Global, asked: Asked<'_>, why: Reason, net: &Net) {
+        self.clerk.explain(alloc, asked, why, net);
+    }
 
     fn tell(
         &self,

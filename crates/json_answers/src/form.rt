@@ -1,7 +1,7 @@
 //! How an answer is printed: in text, or as objects of JSON.
 
 ghost use Rattle.std.specs.Prelude.{◌≡◌, ◌++◌, OnOk, string_bytes};
-ghost use Rattle.json_answers.specs.Form.{notice_text, object_line, printed};
+ghost use Rattle.json_answers.specs.Form.{notice_objects, object_line, printed_in};
 ghost use Rattle.json_answers.specs.Objects.{answer_members};
 
 use crate::objects::{put_bytes, put_line, write_object};
@@ -40,7 +40,7 @@ impl<'a> Told for Notice<'a> {
 
 /// Adds the notice behind an answer: what a publication changed, if that is told.
 fn put_notice(alloc: Global, text: &mut String, answer: &Answer) -> Result<(), AllocError>
-    ensures { OnOk result (string_bytes text.new ≡ string_bytes text.old ++ notice_text answer.now) }
+    ensures { OnOk result (string_bytes text.new ≡ string_bytes text.old ++ notice_objects answer.now) }
 {
     match answer {
         Answer::Publication(Publication::Published(number, Some(changes)))
@@ -54,7 +54,7 @@ fn put_notice(alloc: Global, text: &mut String, answer: &Answer) -> Result<(), A
 
 /// Adds the objects of an answer, each on a line of its own.
 fn print_objects(alloc: Global, text: &mut String, answer: &Answer) -> Result<(), AllocError>
-    ensures { OnOk result (string_bytes text.new ≡ string_bytes text.old ++ (object_line (answer_members answer.now) ++ notice_text answer.now)) }
+    ensures { OnOk result (string_bytes text.new ≡ string_bytes text.old ++ (object_line (answer_members answer.now) ++ notice_objects answer.now)) }
 {
     let object = write_object(alloc, answer)?;
     put_bytes(text, object.as_slice())?;
@@ -68,7 +68,7 @@ impl Form {
     ///
     /// `AllocError` if memory is refused; part of the answer may stand in the text then.
     pub fn print(self, alloc: Global, answer: &Answer, text: &mut String) -> Result<(), AllocError>
-        ensures { OnOk result (string_bytes text.new ≡ string_bytes text.old ++ printed self answer.now) }
+        ensures { OnOk result (string_bytes text.new ≡ string_bytes text.old ++ printed_in self answer.now) }
     {
         match self {
             Form::Text => print_answer(alloc, text, answer),

@@ -8,7 +8,8 @@
 //! 4. An answer is printed in a form: in text, or as objects.
 //! 5. The text of an answer's object reads as that object.
 //! 6. A check of a file, and an explanation, are objects too.
-//! 7. Who tells the answers to a script in a form may have a clerk put its pictures into files, and see each answer before it is told.
+//! 7. Who tells the answers to a script in a form may have a clerk put its pictures into files, explain why lines are refused, and see each
+//!    answer before it is told.
 //!
 //! Stands on `answers`, `tokens`, `json`. A change here also changes specs/ (Checks, Filing, Form, Members, Objects, Refusals, Values), proofs/ and
 //! must-fail/.

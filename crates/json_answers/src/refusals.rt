@@ -3,7 +3,7 @@
 ghost use Rattle.std.specs.Prelude.{◌≡◌, ◌∷◌, [], OnOk, codes};
 ghost use Rattle.answers.specs.Answers.{reason_name};
 ghost use Rattle.json_answers.specs.Members.{Adds, member_tokens};
-ghost use Rattle.json_answers.specs.Refusals.{desk_values, edit_values, number_if, reason_members, reason_values, title_members};
+ghost use Rattle.json_answers.specs.Refusals.{desk_members, edit_values, number_if, reason_members, value_members, title_members};
 
 use crate::members::{
     after_space, before_space, put_code, put_digits, put_null, put_number, put_set, put_text,
@@ -54,7 +54,7 @@ fn put_desk_values(
     writer: &mut Writer,
     refusal: &DeskRefusal,
 ) -> Result<(), AllocError>
-    ensures { OnOk result (Adds writer.old writer.new (member_tokens (desk_values refusal.now))) }
+    ensures { OnOk result (Adds writer.old writer.new (member_tokens (desk_members refusal.now))) }
 {
     match refusal {
         DeskRefusal::Edit(refusal) => put_edit_values(alloc, writer, refusal),
@@ -68,7 +68,7 @@ fn put_desk_values(
 
 /// Writes the values of why a line is refused.
 fn put_reason_values(alloc: Global, writer: &mut Writer, reason: &Reason) -> Result<(), AllocError>
-    ensures { OnOk result (Adds writer.old writer.new (member_tokens (reason_values reason.now))) }
+    ensures { OnOk result (Adds writer.old writer.new (member_tokens (value_members reason.now))) }
 {
     match reason {
         Reason::Desk(refusal) => put_desk_values(alloc, writer, refusal),

@@ -1,7 +1,6 @@
 //! What is told of a row.
 
-ghost use Rattle.std.specs.Prelude.{◌≡◌, ◌<◌, ◌/◌, ◌%◌, ◌∷◌, [], true, OnOk, codes, map};
-ghost use Rattle.std.specs.Fmt.{digit_glyph};
+ghost use Rattle.std.specs.Prelude.{◌≡◌, ◌∷◌, [], true, OnOk, codes, map};
 ghost use Rattle.std.specs.List.{flat_map};
 ghost use Rattle.json.specs.Json.{array};
 ghost use Rattle.json.specs.Tree.{json_tokens};
@@ -13,7 +12,7 @@ ghost use Rattle.json_answers.specs.Objects.{choice_members, link_items, links_v
 use crate::members::{put_code, put_null, put_number, put_set, put_text, put_word};
 use crate::told::{Told, put_list, put_object};
 use crate::ways::put_why;
-use answers::{RowAnswer, far_word, kind_word};
+use answers::{RowAnswer, far_word, hex_digit, kind_word};
 use json::Writer;
 use point_codes::PointCode;
 use profile::{LinkRef, Message, RowLinks};
@@ -137,15 +136,6 @@ impl Told for Message {
         put_text(writer, "message", kind_word(self.kind))?;
         put_code(alloc, writer, "to", self.to)
     }
-}
-
-/// A hexadecimal digit, in upper case.
-fn hex_digit(value: u8) -> char
-    requires { value < 16 }
-    ensures { result ≡ digit_glyph true value }
-{
-    let first = if value < 10 { b'0' } else { b'A' - 10 };
-    char::from(first + value)
 }
 
 /// Writes an octet in two hexadecimal digits.

@@ -7,7 +7,7 @@ ghost use Rattle.json.specs.Value.{items_of};
 ghost use Rattle.answers.specs.Status.{far_text};
 ghost use Rattle.json_answers.specs.Members.{Adds, member_tokens};
 ghost use Rattle.json_answers.specs.Values.{list_member, text_member};
-ghost use Rattle.json_answers.specs.Objects.{far_reason, marked_value, offer_members, way_members};
+ghost use Rattle.json_answers.specs.Objects.{offer_reason, marked_value, offer_members, way_members};
 
 use crate::members::{put_code, put_number, put_set, put_text};
 use crate::told::{Told, put_list};
@@ -20,7 +20,7 @@ use tokens::write_marked;
 
 /// The reason of a way over a point that an available set reaches.
 fn reason_word(far: Far) -> &'static str
-    ensures { result.now ≡ far_reason far }
+    ensures { result.now ≡ offer_reason far }
 {
     match far {
         Far::Allowed => "ok",

@@ -13,5 +13,5 @@ pub mod availability;
 pub mod neighbours;
 
 pub use availability::{is_connected, mask, set_available};
-pub use neighbours::{Neighbours, next_neighbour};
+pub use neighbours::{Neighbours, next_neighbour, other_end};
 pub use net_items::lookups::set_between;

@@ -10,8 +10,8 @@ use crate::availability::is_connected;
 use net_items::LinkSet;
 use point_codes::PointCode;
 
-/// The point that a set joins to another.
-fn other_end(set: &LinkSet, point: PointCode) -> Option<PointCode>
+/// The point that a set joins to another, none if that isn't one of its ends.
+pub fn other_end(set: &LinkSet, point: PointCode) -> Option<PointCode>
     ensures { result ≡ other_end_of point set.now }
 {
     if set.a == point {

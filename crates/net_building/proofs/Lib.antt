@@ -9,3 +9,4 @@ pub mod RoundLemmas
 pub mod SetLemmas
 pub mod PlanLemmas
 pub mod RebuildingLemmas
+pub mod MarkLemmas

@@ -1,5 +1,5 @@
--- The events of a network, and what events make of one.
-use Rattle.std.specs.Prelude.{ℕ, nat_lt, Bool, true, false, not, List, [], ◌∷◌, ◌++◌, Option, map, filter, if◌then◌else◌}
+-- The events of a network, and the empty one that they start from.
+use Rattle.std.specs.Prelude.{ℕ, nat_lt, Bool, true, false, not, List, [], ◌∷◌, ◌++◌, map, filter, if◌then◌else◌}
 use Rattle.std.specs.List.{flat_map}
 use Rattle.std.specs.Option.{option_map_or}
 use Rattle.link_state.specs.declared.marks.End.TheVariants.{First, Second}
@@ -39,11 +39,17 @@ is_needed _ m = false
 abbrev pub changes_of : ℕ → List Link → LinkChange → List Event
 changes_of id links change = map (λ (l : Link). on.Link id l.slc change) (filter (λ (l : Link). is_needed change l.marks) links)
 
+-- the event that adds a set, whose links are failed alone
+abbrev pub added_set : LinkSet → Event
+added_set s = on.AddSet s.id s.a s.b (map (λ (l : Link). l.slc) s.links)
+
+-- the changes that give the links of a new set their marks
+abbrev pub mark_events : LinkSet → List Event
+mark_events s = flat_map (changes_of s.id s.links) (Restore ∷ Block First ∷ Block Second ∷ Inhibit First ∷ Inhibit Second ∷ [])
+
 -- a set, and the marks of its links
 abbrev pub set_events : LinkSet → List Event
-set_events s =
-    on.AddSet s.id s.a s.b (map (λ (l : Link). l.slc) s.links)
-    ∷ flat_map (changes_of s.id s.links) (Restore ∷ Block First ∷ Block Second ∷ Inhibit First ∷ Inhibit Second ∷ [])
+set_events s = added_set s ∷ mark_events s
 
 abbrev pub plan_event : Plan → Event
 plan_event p = on.SetPlan p

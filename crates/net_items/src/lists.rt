@@ -18,7 +18,7 @@ fn guess_of_link(links: &[Link], slc: u8) -> usize {
     }
 }
 
-/// If a link is, or would go. Mostly codes go up by one, and it is seen at once; else it is found by binary search.
+/// The position of a link, or the one that it would get. Mostly codes go up by one, and it is seen at once; else it is found by binary search.
 pub fn position_of_link(links: &[Link], slc: u8) -> Result<usize, usize>
     requires { IsRising (λ l. l.slc) links.now }
     ensures found { IfOk result (IsFoundAt (λ l. l.slc) slc links.now) }

@@ -9,7 +9,7 @@ use crate::items::{Kind, LinkSet, Point};
 use crate::lists::Row;
 use point_codes::PointCode;
 
-/// If a point is, or would go.
+/// The position of a point, or the one that it would get.
 pub fn position_of_point(points: &[Point], code: PointCode) -> Result<usize, usize>
     requires { IsRising (λ p. p.code) points.now }
     ensures found { IfOk result (IsFoundAt (λ p. p.code) code points.now) }
@@ -26,7 +26,7 @@ fn guess_of_set(sets: &[LinkSet], id: u16) -> usize {
     }
 }
 
-/// If a set is, or would go. Mostly ids go up by one, and it is seen at once; else it is found by binary search.
+/// The position of a set, or the one that it would get. Mostly ids go up by one, and it is seen at once; else it is found by binary search.
 pub fn position_of_set(sets: &[LinkSet], id: u16) -> Result<usize, usize>
     requires { IsRising (λ s. s.id) sets.now }
     ensures found { IfOk result (IsFoundAt (λ s. s.id) id sets.now) }

@@ -28,10 +28,10 @@ use Rattle.tokens.proofs.MarkedLemmas.{marked_writes}
 use Rattle.tokens.proofs.WordsLemmas.{words_back}
 use Rattle.script_words.specs.Events.{added_point_of, pair_of, plan_of}
 use Rattle.script_words.proofs.EventWordsLemmas.{event_writes}
-use Rattle.net_text.specs.Entries.{set_of, entry_of, set_events, alone}
+use Rattle.net_text.specs.Entries.{set_of, entry_of, only_event}
 use Rattle.net_text.specs.declared.faults.Key.TheVariants.{Points, Pairs, Sets, Plans}
-use Rattle.net_building.specs.Building.{point_event, plan_event}
-use Rattle.net_saving.specs.Writing.{point_text, pair_text, set_text, plan_text}
+use Rattle.net_building.specs.Building.{point_event, set_events, plan_event}
+use Rattle.tokens.specs.Entries.{point_text, pair_text, set_text, plan_text}
 
 -- ---- what can be written: each number in the range of its token
 
@@ -93,15 +93,15 @@ all_words Is f word (x ∷ xs) h = (word x h.0, all_words Is f word xs h.1)
 
 -- ---- entries
 
-pub point_reads : (p : Point) → IsCode p.code → entry_of Points Two (point_text p) ≡ Some (alone (point_event p))
+pub point_reads : (p : Point) → IsCode p.code → entry_of Points Two (point_text p) ≡ Some (only_event (point_event p))
 point_reads p h =
-    ap (λ ws. option_map alone (added_point_of ws)) (words_back (code_text p.code ∷ kind_text p.kind ∷ []) (code_word p.code h, (kind_word p.kind, tt)))
-    ∙ ap (option_map alone) (event_writes (on.AddPoint p.code p.kind) h)
+    ap (λ ws. option_map only_event (added_point_of ws)) (words_back (code_text p.code ∷ kind_text p.kind ∷ []) (code_word p.code h, (kind_word p.kind, tt)))
+    ∙ ap (option_map only_event) (event_writes (on.AddPoint p.code p.kind) h)
 
-pub pair_reads : (p q : ℕ) → IsCode p → IsCode q → entry_of Pairs Two (pair_text p q) ≡ Some (alone (on.Pair p q))
+pub pair_reads : (p q : ℕ) → IsCode p → IsCode q → entry_of Pairs Two (pair_text p q) ≡ Some (only_event (on.Pair p q))
 pair_reads p q h k =
-    ap (λ ws. option_map alone (pair_of ws)) (words_back (code_text p ∷ code_text q ∷ []) (code_word p h, (code_word q k, tt)))
-    ∙ ap (option_map alone) (event_writes (on.Pair p q) (h, k))
+    ap (λ ws. option_map only_event (pair_of ws)) (words_back (code_text p ∷ code_text q ∷ []) (code_word p h, (code_word q k, tt)))
+    ∙ ap (option_map only_event) (event_writes (on.Pair p q) (h, k))
 
 links_some : (ls : List Link) → 0 < length ls → (length (map (marked_text Two) ls) == 0) ≡ false
 links_some [] h = absurd (omega arith)
@@ -119,7 +119,7 @@ set_reads s h =
     ∙ set_at s (decimal s.id) (code_text s.a) (code_text s.b) links (links_some s.links h.3) (number_written 65535 s.id (omega arith) h.0) (code_written s.a h.1) (code_written s.b h.2)
     (all_written (marked_of Two) (marked_text Two) (IsMarked Two) (marked_writes Two) s.links h.4)
 
-pub plan_reads : (p : Plan) → IsPlanText p → entry_of Plans Two (plan_text p) ≡ Some (alone (plan_event p))
+pub plan_reads : (p : Plan) → IsPlanText p → entry_of Plans Two (plan_text p) ≡ Some (only_event (plan_event p))
 plan_reads p h =
-    ap (λ ws. option_map alone (plan_of ws)) (words_back (code_text p.dest ∷ map row_text p.rows) (code_word p.dest h.0, all_words IsRow row_text row_word p.rows h.1))
-    ∙ ap (option_map alone) (event_writes (on.SetPlan p) h)
+    ap (λ ws. option_map only_event (plan_of ws)) (words_back (code_text p.dest ∷ map row_text p.rows) (code_word p.dest h.0, all_words IsRow row_text row_word p.rows h.1))
+    ∙ ap (option_map only_event) (event_writes (on.SetPlan p) h)

@@ -11,7 +11,8 @@ use Rattle.tokens.specs.declared.marked.Format.TheVariants.{Two}
 use Rattle.net_text.specs.Keys.{Held, at, unsigned_of, keys_format, is_known, has_known_keys, format_from, ni_from, tfr_from, texts_from, list_of, is_text, text_of, held_by}
 use Rattle.net_text.specs.declared.faults.Key.{Key}
 use Rattle.net_text.specs.declared.faults.Key.TheVariants.{Points, Pairs, Sets, Plans}
-use Rattle.net_saving.specs.Writing.{with_entries, document_of, point_text, pair_texts, set_text, plan_text}
+use Rattle.tokens.specs.Entries.{point_text, set_text, plan_text}
+use Rattle.net_saving.specs.Writing.{with_entries, document_of, pair_texts}
 use Rattle.net_saving.proofs.TableLemmas.{last_members, sets_on, points_on, plans_on}
 
 -- ---- one key

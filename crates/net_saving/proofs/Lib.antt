@@ -1,4 +1,3 @@
-pub mod JoinLemmas
 pub mod TableLemmas
 pub mod HeldLemmas
 pub mod EntryLemmas

@@ -13,13 +13,14 @@ use Rattle.point_codes.specs.Codes.{IsCode}
 use Rattle.tokens.specs.declared.marked.Format.TheVariants.{Two}
 use Rattle.net_text.specs.Faults.{chain}
 use Rattle.net_text.specs.Keys.{Held}
-use Rattle.net_text.specs.Entries.{entry_of, set_events, alone}
+use Rattle.net_text.specs.Entries.{entry_of, only_event}
 use Rattle.net_text.specs.Reading.{named, apply_entry, apply_entries, start, build, network_of}
 use Rattle.net_text.specs.declared.faults.Key.{Key}
 use Rattle.net_text.specs.declared.faults.Key.TheVariants.{Points, Pairs, Sets, Plans}
-use Rattle.net_building.specs.Building.{point_event, pair_events, plan_event}
+use Rattle.net_building.specs.Building.{point_event, pair_events, set_events, plan_event}
 use Rattle.net_building.proofs.RebuildingLemmas.{network_made}
-use Rattle.net_saving.specs.Writing.{point_text, pair_text, pair_texts, set_text, plan_text, document_of}
+use Rattle.tokens.specs.Entries.{point_text, pair_text, set_text, plan_text}
+use Rattle.net_saving.specs.Writing.{pair_texts, document_of}
 use Rattle.net_saving.proofs.EntryLemmas.{point_reads, pair_reads, set_reads, plan_reads, IsSetText, IsPlanText}
 use Rattle.net_saving.proofs.HeldLemmas.{held_of, held_back}
 use Rattle.net_saving.proofs.WritableLemmas.{IsPairText, pairs_right, sets_writable, plans_writable}
@@ -98,9 +99,9 @@ network_reads net v =
     let p3 = apply_split p2.0 net (flat_map set_events net.sets) _ p2.2 in
     ap (λ r. chain r build) (held_back net v.ni_small)
     ∙ built_by h0 p1.0 p2.0 p3.0 net
-    (each_applied Points point_text (λ (p : Point). alone (point_event p)) (λ (p : Point). IsCode p.code) point_reads net.points v.codes_small (start h0) p1.0
+    (each_applied Points point_text (λ (p : Point). only_event (point_event p)) (λ (p : Point). IsCode p.code) point_reads net.points v.codes_small (start h0) p1.0
     (ap (apply_all (start h0)) (flat_single point_event net.points) ∙ p1.1))
     (entries_applied Pairs pair_texts pair_events IsPairText pair_writes net.points (pairs_right net v) 1 p1.0 p2.0 p2.1)
     (each_applied Sets set_text set_events IsSetText set_reads net.sets (sets_writable net v) p2.0 p3.0 p3.1)
-    (each_applied Plans plan_text (λ p. alone (plan_event p)) IsPlanText plan_reads net.plans (plans_writable net v) p3.0 net
+    (each_applied Plans plan_text (λ p. only_event (plan_event p)) IsPlanText plan_reads net.plans (plans_writable net v) p3.0 net
     (ap (apply_all p3.0) (flat_single plan_event net.plans) ∙ p3.2))

@@ -9,7 +9,8 @@ use Rattle.toml.specs.Data.{Data, Members, no_members, member, string, integer, 
 use Rattle.toml.specs.View.{members_view, items_of, view}
 use Rattle.toml.specs.declared.value.Value.{Value}
 use Rattle.net_data.specs.Network.{Network}
-use Rattle.net_saving.specs.Writing.{insert_member, insert_array, insert_points, insert_pairs, insert_sets, insert_plans, insert_arrays, with_entries, document_of, point_text, pair_texts, set_text, plan_text}
+use Rattle.tokens.specs.Entries.{point_text, set_text, plan_text}
+use Rattle.net_saving.specs.Writing.{insert_member, insert_array, insert_points, insert_pairs, insert_sets, insert_plans, insert_arrays, with_entries, document_of, pair_texts}
 
 -- ---- a key is set
 

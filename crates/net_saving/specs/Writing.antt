@@ -1,8 +1,7 @@
 -- The document that a network is written as, in format 2.
 use Rattle.std.specs.Prelude.{ℕ, nat_lt, List, [], ◌∷◌, map, if◌then◌else◌, pos, codes}
-use Rattle.std.specs.List.{flat_map, join_with_byte}
+use Rattle.std.specs.List.{flat_map}
 use Rattle.std.specs.Option.{option_map_or}
-use Rattle.std.specs.Fmt.{decimal}
 use Rattle.std.specs.Ordering.{nat_cmp, match_ordering}
 use Rattle.std.specs.Cmp.Lexicographic.{slice_cmp}
 use Rattle.toml.specs.Data.{Data, string, integer, boolean, array, Members, no_members, member}
@@ -11,31 +10,11 @@ use Rattle.net_items.specs.declared.items.Point.{Point}
 use Rattle.net_items.specs.declared.items.LinkSet.{LinkSet}
 use Rattle.net_items.specs.declared.items.Plan.{Plan}
 use Rattle.net_data.specs.Network.{Network}
-use Rattle.point_codes.specs.Codes.{code_text}
-use Rattle.tokens.specs.Kinds.{kind_text}
-use Rattle.tokens.specs.Marked.{marked_text}
-use Rattle.tokens.specs.declared.marked.Format.TheVariants.{Two}
-use Rattle.tokens.specs.Rows.{row_text}
-
--- `CODE KIND`
-abbrev pub point_text : Point → List ℕ
-point_text p = join_with_byte 32 (code_text p.code ∷ kind_text p.kind ∷ [])
-
--- `CODE CODE`
-abbrev pub pair_text : ℕ → ℕ → List ℕ
-pair_text p q = join_with_byte 32 (code_text p ∷ code_text q ∷ [])
+use Rattle.tokens.specs.Entries.{pair_text, plan_text, point_text, set_text}
 
 -- a point and its mate, written once: at the one of the lower code
 abbrev pub pair_texts : Point → List (List ℕ)
 pair_texts p = option_map_or (λ m. if nat_lt p.code m then pair_text p.code m ∷ [] else []) p.mate []
-
--- `ID CODE CODE MARKED MARKED ..`
-abbrev pub set_text : LinkSet → List ℕ
-set_text s = join_with_byte 32 (decimal s.id ∷ code_text s.a ∷ code_text s.b ∷ map (marked_text Two) s.links)
-
--- `CODE ROW ROW ..`
-abbrev pub plan_text : Plan → List ℕ
-plan_text p = join_with_byte 32 (code_text p.dest ∷ map row_text p.rows)
 
 -- a key with its entries before other members; without entries there is no key
 abbrev pub with_entries : List ℕ → List (List ℕ) → Members → Members

@@ -4,12 +4,13 @@ ghost use Rattle.std.specs.Prelude.{◌≡◌, map, IfOk};
 ghost use Rattle.std.specs.List.{flat_map};
 ghost use Rattle.toml.specs.Data.{string};
 ghost use Rattle.toml.specs.View.{view};
-ghost use Rattle.net_saving.specs.Writing.{point_text, pair_texts, set_text, plan_text};
+ghost use Rattle.tokens.specs.Entries.{plan_text, point_text, set_text};
+ghost use Rattle.net_saving.specs.Writing.{pair_texts};
 
-use crate::writing::{write_pair, write_plan, write_point, write_set};
 use net_data::Plans;
 use net_items::{LinkSet, Point};
 use std::alloc::{AllocError, Global};
+use tokens::{write_pair, write_plan, write_point, write_set};
 use toml::Value;
 
 /// The entries of points.

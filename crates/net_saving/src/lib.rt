@@ -14,6 +14,5 @@
 mod entries;
 mod layout;
 mod saving;
-mod writing;
 
 pub use saving::save;

@@ -1,10 +1,6 @@
 -- Events that are applied one after the other.
-use Rattle.std.proofs.Common.{◌≡◌, ℕ, ◌+◌, ◌<◌, List, [], ◌∷◌, ◌++◌, length, map, get_or, take, drop, false, ◌≢◌, Option, Some, None, Result, Ok, Err, refl, ap, sym, ◌∙◌, append_assoc, append-nil, add-one, drop-cons}
+use Rattle.std.proofs.Common.{◌≡◌, ℕ, ◌+◌, ◌<◌, List, [], ◌∷◌, ◌++◌, length, map, get_or, take, drop, false, ◌≢◌, Option, Some, None, Result, Ok, Err, refl, ap, sym, ◌∙◌, add-one, drop-cons}
 use Rattle.std.specs.List.{flat_map}
-use Rattle.net_items.specs.declared.items.LinkSet.{LinkSet}
-use Rattle.net_items.specs.declared.links.Link.{Link}
-use Rattle.link_state.specs.declared.marks.End.TheVariants.{First, Second}
-use Rattle.link_state.specs.declared.marks.LinkChange.TheVariants.{Restore, Block, Inhibit}
 use Rattle.net_data.specs.declared.events.Event.{Event}
 use Rattle.net_items.specs.declared.items.Point.{Point}
 use Rattle.net_data.specs.declared.events.Event.TheVariants as on
@@ -12,14 +8,7 @@ use Rattle.net_data.specs.declared.events.Refusal.{Refusal}
 use Rattle.net_data.specs.declared.events.Refusal.TheVariants.{OutOfMemory}
 use Rattle.net_data.specs.Network.{Network}
 use Rattle.net_data.specs.Edits.{refusal_of, changed, apply_all, unless_refused, IsAnswer, Answers}
-use Rattle.net_building.specs.Building.{changes_of}
-use Rattle.net_sheets.specs.Events.{mark_events, is_named, pair_event, pair_events}
-
-pub marks_made : (set : LinkSet) (ls : List Link) → ls ≡ set.links → flat_map (changes_of set.id ls) (Restore ∷ Block First ∷ Block Second ∷ Inhibit First ∷ Inhibit Second ∷ []) ≡ mark_events set
-marks_made set ls h = rw h refl
-
-pub five_more : {A : Type 0} (e0 e1 e2 e3 e4 e5 a b c d e : List A) → e1 ≡ e0 ++ a → e2 ≡ e1 ++ b → e3 ≡ e2 ++ c → e4 ≡ e3 ++ d → e5 ≡ e4 ++ e → e5 ≡ e0 ++ (a ++ (b ++ (c ++ (d ++ (e ++ [])))))
-five_more e0 e1 e2 e3 e4 e5 a b c d e h1 h2 h3 h4 h5 = rw (h5, h4, h3, h2, h1) (simp (append_assoc, append-nil))
+use Rattle.net_sheets.specs.Events.{is_named, pair_event, pair_events_after}
 
 -- events that are accepted, and those after them
 pub apply_append : (net mid : Network) (es fs : List Event) → apply_all net es ≡ Ok mid → apply_all net (es ++ fs) ≡ apply_all mid fs
@@ -81,9 +70,9 @@ stop_more f net xs i d r total here h before =
 -- a pair that is refused
 pub stop_pair : (net : Network) (points : List Point) (i : ℕ) (d : Point) (m : ℕ) (r : Refusal) (total : Result Network Refusal) → i < length points → (get_or points i d).mate ≡ Some m
     → is_named (take i points) m (get_or points i d).code ≡ false → refusal_of net (on.Pair (get_or points i d).code m) ≡ Some r
-    → apply_all net (pair_events (take i points) (drop i points)) ≡ total → total ≡ Err r
+    → apply_all net (pair_events_after (take i points) (drop i points)) ≡ total → total ≡ Err r
 stop_pair net points i d m r total here mate fresh h before =
     let p = get_or points i d in
     let told : pair_event (take i points) p ≡ on.Pair p.code m ∷ [] = rw (mate, fresh) refl in
-    let later = pair_events (take i points ++ p ∷ []) (drop (i + 1) points) in
-    sym before ∙ ap (λ ys. apply_all net (pair_events (take i points) ys)) (rest_at points i d here) ∙ ap (λ es. apply_all net (es ++ later)) told ∙ stop_first net (on.Pair p.code m) later r h
+    let later = pair_events_after (take i points ++ p ∷ []) (drop (i + 1) points) in
+    sym before ∙ ap (λ ys. apply_all net (pair_events_after (take i points) ys)) (rest_at points i d here) ∙ ap (λ es. apply_all net (es ++ later)) told ∙ stop_first net (on.Pair p.code m) later r h

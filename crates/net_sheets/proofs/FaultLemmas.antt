@@ -18,7 +18,7 @@ use Rattle.net_sheets.specs.declared.routes.Route.{Route}
 use Rattle.net_sheets.specs.Ranks.{IsLeast, with_ranks}
 use Rattle.net_sheets.specs.Tables.{Fields, points_header, routes_header, row_routes}
 use Rattle.net_sheets.specs.Values.{Read, point_of, route_of, Holds}
-use Rattle.net_sheets.specs.Events.{pair_events, AddsPlans}
+use Rattle.net_sheets.specs.Events.{pair_events_after, AddsPlans}
 use Rattle.net_sheets.specs.Faults.{IsFieldFault, IsRefusal, IsUnranked, IsPlanFault, StopsAt, IsRoutesFault, IsTextFault, IsPointsFault, IsRoutesTextFault, Refuses}
 use Rattle.net_sheets.proofs.BuildingLemmas.{apply_append, stop_append}
 
@@ -63,15 +63,15 @@ refused_early old es fs TooDeep h = absurd h
 
 pub points_refused : (old : Network) (text : List ℕ) (points added : List Point) → Holds point_of points_header text (Ok points) → added ≡ points → (reason : Reason) → IsRefusal (apply_all old (map point_event added)) reason → IsPointsFault old text reason
 points_refused old text points added told e reason h =
-    values_fault point_of points_header (λ ps. IsRefusal (apply_all old (map point_event ps ++ pair_events [] ps))) text points reason (λ n x. x) told
-    (refused_early old (map point_event points) (pair_events [] points) reason (subst (λ ps. IsRefusal (apply_all old (map point_event ps)) reason) e h))
+    values_fault point_of points_header (λ ps. IsRefusal (apply_all old (map point_event ps ++ pair_events_after [] ps))) text points reason (λ n x. x) told
+    (refused_early old (map point_event points) (pair_events_after [] points) reason (subst (λ ps. IsRefusal (apply_all old (map point_event ps)) reason) e h))
 
 pub pairs_refused : (old mid : Network) (text : List ℕ) (points added paired : List Point) → Holds point_of points_header text (Ok points) → added ≡ points → paired ≡ points → apply_all old (map point_event added) ≡ Ok mid
-    → (reason : Reason) → IsRefusal (apply_all mid (pair_events [] paired)) reason → IsPointsFault old text reason
+    → (reason : Reason) → IsRefusal (apply_all mid (pair_events_after [] paired)) reason → IsPointsFault old text reason
 pairs_refused old mid text points added paired told e1 e2 first reason h =
-    let same : apply_all old (map point_event points ++ pair_events [] points) ≡ apply_all mid (pair_events [] points) = apply_append old mid (map point_event points) (pair_events [] points) (ap (λ ps. apply_all old (map point_event ps)) (sym e1) ∙ first) in
-    values_fault point_of points_header (λ ps. IsRefusal (apply_all old (map point_event ps ++ pair_events [] ps))) text points reason (λ n x. x) told
-    (subst (λ r. IsRefusal r reason) (sym same) (subst (λ ps. IsRefusal (apply_all mid (pair_events [] ps)) reason) e2 h))
+    let same : apply_all old (map point_event points ++ pair_events_after [] points) ≡ apply_all mid (pair_events_after [] points) = apply_append old mid (map point_event points) (pair_events_after [] points) (ap (λ ps. apply_all old (map point_event ps)) (sym e1) ∙ first) in
+    values_fault point_of points_header (λ ps. IsRefusal (apply_all old (map point_event ps ++ pair_events_after [] ps))) text points reason (λ n x. x) told
+    (subst (λ r. IsRefusal r reason) (sym same) (subst (λ ps. IsRefusal (apply_all mid (pair_events_after [] ps)) reason) e2 h))
 
 -- ---- routes
 

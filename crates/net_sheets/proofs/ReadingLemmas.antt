@@ -12,7 +12,7 @@ use Rattle.net_sheets.specs.declared.routes.Route.{Route}
 use Rattle.net_sheets.specs.Tables.{Fields, points_header, sets_header, routes_header}
 use Rattle.net_sheets.specs.Records.{IsTable}
 use Rattle.net_sheets.specs.Values.{Read, point_of, set_of, route_of, all_read, Holds}
-use Rattle.net_sheets.specs.Events.{IsRankedPlan, pair_events, empty_net, AddsPoints, AddsSets, AddsPlans, AddsRoutes, Says}
+use Rattle.net_sheets.specs.Events.{IsRankedPlan, pair_events_after, empty_net, AddsPoints, AddsSets, AddsPlans, AddsRoutes, Says}
 use Rattle.net_sheets.proofs.BuildingLemmas.{apply_append}
 use Rattle.net_sheets.proofs.PlanLemmas.{rest_from}
 
@@ -32,12 +32,12 @@ values_told of names header text rows told answer e h table read =
 
 -- points and then their pairs
 pub points_added : (old mid new : Network) (text : List ℕ) (points added paired : List Point) → Holds point_of points_header text (Ok points) → added ≡ points → paired ≡ points
-    → apply_all old (map point_event added) ≡ Ok mid → apply_all mid (pair_events [] paired) ≡ Ok new → AddsPoints old text new
+    → apply_all old (map point_event added) ≡ Ok mid → apply_all mid (pair_events_after [] paired) ≡ Ok new → AddsPoints old text new
 points_added old mid new text points added paired told e1 e2 first second =
     record {
       points = points;
       told = told;
-      built = record { all = apply_append old mid (map point_event points) (pair_events [] points) (ap (λ ps. apply_all old (map point_event ps)) (sym e1) ∙ first) ∙ ap (λ ps. apply_all mid (pair_events [] ps)) (sym e2) ∙ second };
+      built = record { all = apply_append old mid (map point_event points) (pair_events_after [] points) (ap (λ ps. apply_all old (map point_event ps)) (sym e1) ∙ first) ∙ ap (λ ps. apply_all mid (pair_events_after [] ps)) (sym e2) ∙ second };
     }
 
 pub sets_added : (old new : Network) (text : List ℕ) (sets added : List LinkSet) → Holds set_of sets_header text (Ok sets) → added ≡ sets → apply_all old (flat_map set_events added) ≡ Ok new → AddsSets old text new
@@ -52,8 +52,8 @@ says_all points sets routes ni start one two net e a b c =
     let plans = c.built.plans in
     let last : apply_all two (map plan_event plans) ≡ Ok net = c.built.built.all in
     let later : apply_all one (flat_map set_events b.sets ++ map plan_event plans) ≡ Ok net = apply_append one two (flat_map set_events b.sets) (map plan_event plans) b.built.all ∙ last in
-    let pairs : apply_all start ((map point_event a.points ++ pair_events [] a.points) ++ (flat_map set_events b.sets ++ map plan_event plans)) ≡ Ok net =
-    apply_append start one (map point_event a.points ++ pair_events [] a.points) (flat_map set_events b.sets ++ map plan_event plans) a.built.all ∙ later in
+    let pairs : apply_all start ((map point_event a.points ++ pair_events_after [] a.points) ++ (flat_map set_events b.sets ++ map plan_event plans)) ≡ Ok net =
+    apply_append start one (map point_event a.points ++ pair_events_after [] a.points) (flat_map set_events b.sets ++ map plan_event plans) a.built.all ∙ later in
     record {
       points = a.points;
       sets = b.sets;
@@ -63,6 +63,6 @@ says_all points sets routes ni start one two net e a b c =
       routes_told = subst (λ rs. Holds route_of routes_header routes (Ok rs)) (sym c.built.told) c.told;
       plans_apart = c.built.apart;
       plans_ranked = subst (λ ps. All (IsRankedPlan ps) plans) (sym c.built.kept) c.built.ranked;
-      built = ap (apply_all (empty_net ni)) (sym (append_assoc (map point_event a.points) (pair_events [] a.points) (flat_map set_events b.sets ++ map plan_event plans)))
-          ∙ ap (λ n. apply_all n ((map point_event a.points ++ pair_events [] a.points) ++ (flat_map set_events b.sets ++ map plan_event plans))) (sym e) ∙ pairs;
+      built = ap (apply_all (empty_net ni)) (sym (append_assoc (map point_event a.points) (pair_events_after [] a.points) (flat_map set_events b.sets ++ map plan_event plans)))
+          ∙ ap (λ n. apply_all n ((map point_event a.points ++ pair_events_after [] a.points) ++ (flat_map set_events b.sets ++ map plan_event plans))) (sym e) ∙ pairs;
     }

@@ -7,7 +7,7 @@ use Rattle.csv.specs.Reading.{AreRecords, default_config, strip_bom}
 use Rattle.csv.specs.Records.{Row, field_at, fields_of}
 use Rattle.csv.specs.declared.parser.State.TheVariants.{StartRecord}
 use Rattle.net_sheets.specs.Tables.{Fields}
-use Rattle.net_sheets.proofs.WritingLemmas.{rest_whole}
+use Rattle.tokens.proofs.JoinLemmas.{rest_all}
 use Rattle.net_sheets.specs.Records.{IsTable, field}
 
 -- records with the same fields at all places
@@ -27,7 +27,7 @@ first_fields header (r ∷ rs) first some is e = ap (λ fs. fs ∷ map fields_of
 
 pub all_others : {X : Type 0} (P : X → Type 0) (xs : List X) → 1 ≤ length xs → All P (take (length xs - 1) (drop 1 xs)) → All P (drop 1 xs)
 all_others P [] some all = absurd (omega arith)
-all_others P (x ∷ xs) some all = subst (All P) (rest_whole x xs) all
+all_others P (x ∷ xs) some all = subst (All P) (rest_all x xs) all
 
 -- a table by its header and the width of its records
 pub table_made : (names : List (Bor (List ℕ))) (text : List ℕ) (rows told : List Row) → told ≡ rows → AreRecords default_config StartRecord (strip_bom text) (map fields_of rows)

@@ -3,27 +3,16 @@ use Rattle.std.proofs.Common.{take, drop, length, get_or, ◌+◌, ◌-◌, ◌<
 use Rattle.std.specs.List.{flat_map, join_with_byte}
 use Rattle.std.proofs.lemmas.Grind.{flat_map-append}
 use Rattle.std.proofs.lemmas.List.Folds.{flat_map-map}
+use Rattle.tokens.proofs.JoinLemmas.{join_tails, rest_all}
 use Rattle.net_sheets.specs.declared.routes.Route.TheVariants.{Via}
 use Rattle.net_sheets.specs.declared.routes.Route.{Route}
 use Rattle.net_sheets.specs.Tables.{line_text, route_record, class_routes}
-
--- joined, as the first and the others each after the byte
-pub join_tails : {A : Type 0} (c : ℕ) (f : A → List ℕ) (first : List ℕ) (xs : List A) → first ++ flat_map (λ x. c ∷ f x) xs ≡ join_with_byte c (first ∷ map f xs)
-join_tails c f first [] = append-nil first
-join_tails c f first (x ∷ xs) = ap (λ t. first ++ (c ∷ t)) (join_tails c f (f x) xs)
-
-take_whole : {A : Type 0} (xs : List A) → take (length xs) xs ≡ xs
-take_whole [] = refl
-take_whole (x ∷ xs) = ap (λ l. x ∷ l) (take_whole xs)
-
-pub rest_whole : {A : Type 0} (x : A) (xs : List A) → take (length (x ∷ xs) - 1) xs ≡ xs
-rest_whole x xs = let e : length (x ∷ xs) - 1 ≡ length xs = omega arith in ap (λ n. take n xs) e ∙ take_whole xs
 
 -- a list in text, by its first and its other elements
 pub tails_made : {A : Type 0} (c : ℕ) (f : A → List ℕ) (ss : List A) (d : A) (t0 t1 : List ℕ) → 1 ≤ length ss → t0 ≡ f (get_or ss 0 d) → t1 ≡ t0 ++ flat_map (λ x. c ∷ f x) (take (length ss - 1) (drop 1 ss)) → t1 ≡ join_with_byte c (map f ss)
 tails_made c f [] d t0 t1 some h0 h1 = absurd (omega arith)
 tails_made c f (x ∷ xs) d t0 t1 some h0 h1 =
-    h1 ∙ ap (λ l. t0 ++ flat_map (λ x. c ∷ f x) l) (rest_whole x xs) ∙ ap (λ t. t ++ flat_map (λ x. c ∷ f x) xs) h0 ∙ join_tails c f (f x) xs
+    h1 ∙ ap (λ l. t0 ++ flat_map (λ x. c ∷ f x) l) (rest_all x xs) ∙ ap (λ t. t ++ flat_map (λ x. c ∷ f x) xs) h0 ∙ join_tails c f (f x) xs
 
 -- the line of a way
 abbrev pub route_line : Route → List ℕ

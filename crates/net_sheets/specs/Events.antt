@@ -6,15 +6,12 @@ use Rattle.net_items.specs.declared.items.Point.{Point}
 use Rattle.net_items.specs.declared.items.LinkSet.{LinkSet}
 use Rattle.net_items.specs.declared.items.Plan.{Plan}
 use Rattle.net_items.specs.declared.lists.Row.{Row}
-use Rattle.net_items.specs.declared.links.Link.{Link}
-use Rattle.link_state.specs.declared.marks.End.TheVariants.{First, Second}
-use Rattle.link_state.specs.declared.marks.LinkChange.TheVariants.{Restore, Block, Inhibit}
 use Rattle.net_sets.specs.Sets.{is_distinct}
 use Rattle.net_data.specs.declared.events.Event.{Event}
 use Rattle.net_data.specs.declared.events.Event.TheVariants as on
 use Rattle.net_data.specs.Network.{Network}
 use Rattle.net_data.specs.Edits.{apply_all}
-use Rattle.net_building.specs.Building.{point_event, changes_of, set_events, plan_event}
+use Rattle.net_building.specs.Building.{point_event, set_events, plan_event}
 use Rattle.net_sheets.specs.Ranks.{IsLeast, with_ranks}
 use Rattle.net_sheets.specs.declared.routes.Route.{Route}
 use Rattle.net_sheets.specs.Tables.{points_header, sets_header, routes_header, routes_of}
@@ -29,21 +26,13 @@ abbrev pub pair_event : List Point → Point → List Event
 pair_event earlier p = option_map_or (λ m. if is_named earlier m p.code then [] else on.Pair p.code m ∷ []) p.mate []
 
 -- the mated pairs of points that come after those
-abbrev pub pair_events : List Point → List Point → List Event
-pair_events earlier [] = []
-pair_events earlier (p ∷ ps) = pair_event earlier p ++ pair_events (earlier ++ p ∷ []) ps
-
--- the event that adds a set, whose links are failed alone
-abbrev pub added_set : LinkSet → Event
-added_set s = on.AddSet s.id s.a s.b (map (λ (l : Link). l.slc) s.links)
-
--- the changes that give the links of a new set their marks
-abbrev pub mark_events : LinkSet → List Event
-mark_events s = flat_map (changes_of s.id s.links) (Restore ∷ Block First ∷ Block Second ∷ Inhibit First ∷ Inhibit Second ∷ [])
+abbrev pub pair_events_after : List Point → List Point → List Event
+pair_events_after earlier [] = []
+pair_events_after earlier (p ∷ ps) = pair_event earlier p ++ pair_events_after (earlier ++ p ∷ []) ps
 
 -- the events of three tables: each point, each mated pair, each set with its links' marks, each plan
 abbrev pub events_of_sheets : List Point → List LinkSet → List Plan → List Event
-events_of_sheets points sets plans = map point_event points ++ (pair_events [] points ++ (flat_map set_events sets ++ map plan_event plans))
+events_of_sheets points sets plans = map point_event points ++ (pair_events_after [] points ++ (flat_map set_events sets ++ map plan_event plans))
 
 -- the empty network of a network indicator
 abbrev pub empty_net : ℕ → Network
@@ -89,7 +78,7 @@ pub record AddsPlans (old : Network) (routes : List Route) (new : Network) : Typ
 pub record AddsPoints (old : Network) (text : List ℕ) (new : Network) : Type 0 where
   pub points : List Point
   pub told : Holds point_of points_header text (Ok points)
-  pub built : Leads old (map point_event points ++ pair_events [] points) new
+  pub built : Leads old (map point_event points ++ pair_events_after [] points) new
 
 -- the sets of a text lead from one network to another
 pub record AddsSets (old : Network) (text : List ℕ) (new : Network) : Type 0 where

@@ -17,7 +17,7 @@ use Rattle.net_sheets.specs.Ranks.{HasNoRanks, IsLeast, with_ranks}
 use Rattle.net_sheets.specs.Loops.{is_loop}
 use Rattle.net_sheets.specs.Tables.{Fields, points_header, sets_header, routes_header, row_routes}
 use Rattle.net_sheets.specs.Values.{Read, point_of, set_of, route_of, Holds}
-use Rattle.net_sheets.specs.Events.{pair_events, empty_net, AddsPoints, AddsSets, AddsPlans}
+use Rattle.net_sheets.specs.Events.{pair_events_after, empty_net, AddsPoints, AddsSets, AddsPlans}
 
 -- a column is the one that is wrong in the first record that has no value
 abbrev pub IsFieldFault : {A : Type 0} → Read (List A) → Reason → Type 0
@@ -91,7 +91,7 @@ IsTextFault {A} of header fault text reason = (values : List A) × Holds of head
 
 -- a fault of the table of points, of the table of sets, and of the table of routes, each with what is there before
 abbrev pub IsPointsFault : Network → List ℕ → Reason → Type 0
-IsPointsFault old text reason = IsTextFault point_of points_header (λ points. IsRefusal (apply_all old (map point_event points ++ pair_events [] points))) text reason
+IsPointsFault old text reason = IsTextFault point_of points_header (λ points. IsRefusal (apply_all old (map point_event points ++ pair_events_after [] points))) text reason
 
 abbrev pub IsSetsFault : Network → List ℕ → Reason → Type 0
 IsSetsFault old text reason = IsTextFault set_of sets_header (λ sets. IsRefusal (apply_all old (flat_map set_events sets))) text reason

@@ -1,35 +1,22 @@
 //! A network in text, as three tables.
 
-ghost use Rattle.std.specs.Prelude.{◌≡◌, ◌++◌, ◌+◌, ◌∷◌, map, IfOk, OnOk, string_bytes};
+ghost use Rattle.std.specs.Prelude.{◌≡◌, ◌++◌, IfOk, OnOk, string_bytes};
 ghost use Rattle.std.specs.List.{flat_map};
-ghost use Rattle.tokens.specs.Kinds.{kind_text};
-ghost use Rattle.tokens.specs.Marked.{marked_text};
-ghost use Rattle.tokens.specs.declared.marked.Format.TheVariants.{Two};
 ghost use Rattle.net_sheets.specs.Tables.{line_text, point_record, set_record, route_record, class_routes, row_routes, plan_routes, routes_of, links_text, points_text, sets_text, routes_text};
 
 use crate::routes::Route;
 use net_data::{Net, Plans};
-use net_items::{Kind, Link, LinkSet, Plan, Point, Row, Vias};
+use net_items::{Link, LinkSet, Plan, Point, Row, Vias};
 use point_codes::PointCode;
 use std::alloc::{AllocError, Global};
-use tokens::write_marked;
-
-/// A kind in text.
-fn kind_word(kind: Kind) -> &'static str
-    ensures { result.now ≡ kind_text kind }
-{
-    match kind {
-        Kind::Sep => "sep",
-        Kind::Stp => "stp",
-    }
-}
+use tokens::{point_kind_word, put_links, write_marked};
 
 /// The line of a point.
 fn point_line(alloc: Global, point: &Point) -> Result<String, AllocError>
     ensures { IfOk result (λ text. string_bytes text ≡ line_text (point_record point.now)) }
 {
     let code = point.code;
-    let kind = kind_word(point.kind);
+    let kind = point_kind_word(point.kind);
     match point.mate {
         Some(mate) => {
             let line = format!(in alloc; "{code},{kind},{mate}\n")?;
@@ -40,18 +27,6 @@ fn point_line(alloc: Global, point: &Point) -> Result<String, AllocError>
             Ok(line)
         }
     }
-}
-
-/// Adds links with their marks, each after a space.
-fn put_links(alloc: Global, text: &mut String, links: &[Link]) -> Result<(), AllocError>
-    ensures { OnOk result (string_bytes text.new ≡ string_bytes text.old ++ flat_map (λ x. 32 ∷ marked_text Two x) links.now) }
-{
-    for link in links {
-        let word = write_marked(alloc, link)?;
-        text.push_str(" ")?;
-        text.push_str(word.as_str())?;
-    }
-    Ok(())
 }
 
 /// Links with their marks, between spaces.

@@ -1,13 +1,9 @@
 -- The entries of a network text, as events.
-use Rattle.std.specs.Prelude.{ℕ, ◌==◌, length, if◌then◌else◌, List, [], ◌∷◌, Option, None, option_map, option_and_then, map}
-use Rattle.std.specs.List.{flat_map}
+use Rattle.std.specs.Prelude.{ℕ, ◌==◌, length, if◌then◌else◌, List, [], ◌∷◌, Option, None, option_map, option_and_then}
 use Rattle.net_items.specs.declared.items.LinkSet.{LinkSet}
-use Rattle.link_state.specs.declared.marks.End.TheVariants.{First, Second}
 use Rattle.net_items.specs.declared.links.Link.{Link}
-use Rattle.link_state.specs.declared.marks.LinkChange.TheVariants.{Restore, Block, Inhibit}
 use Rattle.net_data.specs.declared.events.Event.{Event}
-use Rattle.net_data.specs.declared.events.Event.TheVariants as on
-pub use Rattle.net_building.specs.Building.{is_needed, changes_of, set_events}
+use Rattle.net_building.specs.Building.{set_events}
 use Rattle.tokens.specs.Words.{words_of}
 use Rattle.tokens.specs.Numbers.{id_of}
 use Rattle.point_codes.specs.Codes.{code_of}
@@ -28,26 +24,18 @@ set_of format (id ∷ a ∷ b ∷ links) =
     if length links == 0 then None else option_and_then (λ ls. set_from ls (id_of id) (code_of a) (code_of b)) (all_of (marked_of format) links)
 set_of format _ = None
 
--- one event
-abbrev pub alone : Event → List Event
-alone e = e ∷ []
-
--- the event that adds a set, whose links are failed alone
-abbrev pub added_set : LinkSet → Event
-added_set s = on.AddSet s.id s.a s.b (map (λ (l : Link). l.slc) s.links)
-
--- the changes that give the links of a new set their marks
-abbrev pub mark_events : LinkSet → List Event
-mark_events s = flat_map (changes_of s.id s.links) (Restore ∷ Block First ∷ Block Second ∷ Inhibit First ∷ Inhibit Second ∷ [])
+-- that event and no other
+abbrev pub only_event : Event → List Event
+only_event e = e ∷ []
 
 -- the events that the words of an entry say
-abbrev pub events_by : Key → Format → List (List ℕ) → Option (List Event)
-events_by Points format words = option_map alone (added_point_of words)
-events_by Pairs format words = option_map alone (pair_of words)
-events_by Sets format words = option_map set_events (set_of format words)
-events_by Plans format words = option_map alone (plan_of words)
-events_by _ format words = None
+abbrev pub events_of_words : Key → Format → List (List ℕ) → Option (List Event)
+events_of_words Points format words = option_map only_event (added_point_of words)
+events_of_words Pairs format words = option_map only_event (pair_of words)
+events_of_words Sets format words = option_map set_events (set_of format words)
+events_of_words Plans format words = option_map only_event (plan_of words)
+events_of_words _ format words = None
 
 -- the events that an entry says
 abbrev pub entry_of : Key → Format → List ℕ → Option (List Event)
-entry_of key format text = events_by key format (words_of text)
+entry_of key format text = events_of_words key format (words_of text)

@@ -2,10 +2,12 @@
 
 ghost use Rattle.std.specs.Prelude.{◌≡◌, map, option_map, IfOk};
 ghost use Rattle.script_words.specs.Events.{plan_of};
-ghost use Rattle.net_text.specs.Entries.{set_of, alone, set_events, events_by, entry_of};
+ghost use Rattle.net_building.specs.Building.{set_events};
+ghost use Rattle.net_text.specs.Entries.{set_of, only_event, events_of_words, entry_of};
 
 use crate::faults::Key;
-use crate::sets::{events_of_set, read_set};
+use crate::sets::read_set;
+use net_building::events_of_set;
 use net_data::Event;
 use script_words::{read_added_point, read_pair, read_plan};
 use std::alloc::{AllocError, Global};
@@ -13,7 +15,7 @@ use tokens::{Format, split_words};
 
 /// One event, if there is one.
 fn one_event(alloc: Global, event: Option<Event>) -> Result<Option<Vec<Event>>, AllocError>
-    ensures { IfOk result (λ events. option_map (λ v. v.items) events ≡ option_map alone event) }
+    ensures { IfOk result (λ events. option_map (λ v. v.items) events ≡ option_map only_event event) }
 {
     match event {
         Some(event) => {
@@ -41,7 +43,7 @@ fn read_set_events(
 
 /// The event of an entry of a plan.
 fn read_plan_event(alloc: Global, words: &[&[u8]]) -> Result<Option<Vec<Event>>, AllocError>
-    ensures { IfOk result (λ events. option_map (λ v. v.items) events ≡ option_map alone (plan_of (map (λ w. w.now) words.now))) }
+    ensures { IfOk result (λ events. option_map (λ v. v.items) events ≡ option_map only_event (plan_of (map (λ w. w.now) words.now))) }
 {
     let plan = read_plan(alloc, words)?;
     one_event(alloc, plan)
@@ -54,7 +56,7 @@ fn read_words(
     format: Format,
     words: &[&[u8]],
 ) -> Result<Option<Vec<Event>>, AllocError>
-    ensures { IfOk result (λ events. option_map (λ v. v.items) events ≡ events_by key format (map (λ w. w.now) words.now)) }
+    ensures { IfOk result (λ events. option_map (λ v. v.items) events ≡ events_of_words key format (map (λ w. w.now) words.now)) }
 {
     match key {
         Key::Points => one_event(alloc, read_added_point(words)),

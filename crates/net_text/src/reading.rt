@@ -3,7 +3,6 @@
 ghost use Rattle.std.specs.Prelude.{◌≡◌, ◌≢◌, ◌≤◌, map, Some, Ok, Err, IfOk, IfErr, OnOk, unwrap_or, codes};
 ghost use Rattle.toml.specs.Data.{no_items, get_member, as_array};
 ghost use Rattle.toml.specs.View.{view, table_view, items_view};
-ghost use Rattle.net_data.specs.Edits.{apply_all};
 ghost use Rattle.net_text.specs.Keys.{Held, held, held_by, text_of, texts_from};
 ghost use Rattle.net_text.specs.Entries.{entry_of};
 ghost use Rattle.net_text.specs.Reading.{IsDocument, Says, network_of, apply_entry as entry_applied, apply_entries as entries_applied, apply_parts as parts_applied, start as started};
@@ -11,21 +10,11 @@ ghost use Rattle.net_text.specs.Reading.{IsDocument, Says, network_of, apply_ent
 use crate::entries::read_entry;
 use crate::faults::{Key, LoadFault};
 use crate::keys::{Fields, read_fields, text_in};
+use net_building::apply_events;
 use net_data::{Event, Net, Refusal};
 use std::alloc::Global;
 use tokens::Format;
 use toml::{Table, Value};
-
-/// Applies each event in turn, up to the first refusal.
-fn apply_events(alloc: Global, net: &mut Net, events: Vec<Event>) -> Result<(), Refusal>
-    ensures ok { OnOk result (apply_all net.old events.items ≡ Ok net.new) }
-    ensures err { IfErr result (λ e. e ≢ Refusal.OutOfMemory → apply_all net.old events.items ≡ Err e) }
-{
-    for event in events {
-        net.apply_owned(alloc, event)?;
-    }
-    Ok(())
-}
 
 /// Applies one entry: `BadLine` if it can't be read, `Refused` where an event of it is refused.
 fn apply_entry(

@@ -16,8 +16,8 @@ use Rattle.pictures.specs.declared.places.Place.{Place}
 -- ---- what belongs together
 
 -- the lower code of a transfer point and its mate, which stands for both
-abbrev pub head_of : List Point → ℕ → ℕ
-head_of points c = option_map_or (λ m. if nat_lt m c then m else c) (mate_of points c) c
+abbrev pub lower_of_mates : List Point → ℕ → ℕ
+lower_of_mates points c = option_map_or (λ m. if nat_lt m c then m else c) (mate_of points c) c
 
 -- a set joins a transfer point to y
 abbrev pub reaches_stp : List Point → ℕ → LinkSet → Bool
@@ -28,12 +28,12 @@ abbrev pub first_stp : Network → ℕ → Option ℕ
 first_stp net y = option_and_then (other_end_of y) (find (reaches_stp net.points y) net.sets)
 
 -- the pair that a point belongs to: its own, or that of the first transfer point that an end point is joined to
-abbrev pub pair_of : Network → Point → Option ℕ
-pair_of net p = if kind_is_stp p.kind then Some (head_of net.points p.code) else option_map (head_of net.points) (first_stp net p.code)
+abbrev pub head_of_pair : Network → Point → Option ℕ
+head_of_pair net p = if kind_is_stp p.kind then Some (lower_of_mates net.points p.code) else option_map (lower_of_mates net.points) (first_stp net p.code)
 
 -- a point with its pair
 abbrev pub stand_of : Network → Point → Stand
-stand_of net p = record { point = p; pair = pair_of net p }
+stand_of net p = record { point = p; pair = head_of_pair net p }
 
 -- all points with their pairs, in rising code
 abbrev pub stands_of : Network → List Stand
@@ -194,12 +194,12 @@ unfoldable pub spot_of : FrameValue → List Stand → Stand → Spot
 spot_of f stands s = option_map_or (paired_spot f stands s.point) s.pair (lone_spot f (ends_before stands None s.point.code))
 
 -- a point with its place
-abbrev pub place_of : FrameValue → List Stand → Stand → Place
-place_of f stands s = record { code = s.point.code; spot = spot_of f stands s }
+abbrev pub placed : FrameValue → List Stand → Stand → Place
+placed f stands s = record { code = s.point.code; spot = spot_of f stands s }
 
 -- all points with their places, in rising code
 abbrev pub places_of : List Stand → List Place
-places_of stands = map (place_of (frame_of stands) stands) stands
+places_of stands = map (placed (frame_of stands) stands) stands
 
 -- the place of a point
 abbrev pub spot_at : List Place → ℕ → Spot

@@ -50,20 +50,20 @@ hex_text colour.Prohibited = codes "#d55e00"
 hex_text colour.White = codes "#ffffff"
 
 -- y has a row, and z is a member of its choice: y leads traffic to the destination over z
-abbrev pub leads : Source → ℕ → ℕ → Bool
-leads src y z = option_map_or (λ row. is_member z (choice src row)) (source_row src y) false
+abbrev pub is_member_of_choice : Source → ℕ → ℕ → Bool
+is_member_of_choice src y z = option_map_or (λ row. is_member z (choice src row)) (source_row src y) false
 
 -- how many of the vias that carry the sixteen signalling link selections of a row by a choice are z
 unfoldable pub row_share : Row → Choice → ℕ → ℕ
 row_share row c z = count_by (is_at z) (map (carrier row c) (range_with_len 0 16))
 
 -- how many of them y leads over z, towards the destination
-abbrev pub share_of : Source → ℕ → ℕ → ℕ
-share_of src y z = option_map_or (λ row. row_share row (choice src row) z) (source_row src y) 0
+abbrev pub selections_over : Source → ℕ → ℕ → ℕ
+selections_over src y z = option_map_or (λ row. row_share row (choice src row) z) (source_row src y) 0
 
 -- `: CODE N/16`: y leads so many signalling link selections over z; nothing if it leads none
 abbrev pub part_text : Source → ℕ → ℕ → List ℕ
-part_text src y z = if leads src y z then codes ": " ++ (code_text y ++ (codes " " ++ (decimal (share_of src y z) ++ codes "/16"))) else []
+part_text src y z = if is_member_of_choice src y z then codes ": " ++ (code_text y ++ (codes " " ++ (decimal (selections_over src y z) ++ codes "/16"))) else []
 
 -- how the ends of a set lead traffic over it to a destination
 abbrev pub parts_text : Source → LinkSet → List ℕ
@@ -75,7 +75,7 @@ label_text about set = decimal set.id ++ option_map_or (λ x. parts_text (source
 
 -- a set is bold if an end leads traffic over it
 abbrev pub is_bold : Option ExcerptValue → LinkSet → Bool
-is_bold about set = option_map_or (λ x. leads (source_of x) set.a set.b || leads (source_of x) set.b set.a) about false
+is_bold about set = option_map_or (λ x. is_member_of_choice (source_of x) set.a set.b || is_member_of_choice (source_of x) set.b set.a) about false
 
 -- what a picture is asked about: the excerpt of the destination, if one is given
 abbrev pub shown_of : Network → Option ℕ → Option ExcerptValue
@@ -86,5 +86,5 @@ abbrev pub lacks_plan : Network → Option ℕ → Bool
 lacks_plan net about = option_map_or (λ x. not (is_some (excerpt_at net x))) about false
 
 -- why there is no picture: that plan, or else memory
-abbrev pub fault_of : Network → Option ℕ → PictureFault
-fault_of net about = if lacks_plan net about then fault.NoPlan else fault.OutOfMemory
+abbrev pub picture_fault : Network → Option ℕ → PictureFault
+picture_fault net about = if lacks_plan net about then fault.NoPlan else fault.OutOfMemory

@@ -3,7 +3,7 @@
 ghost use Rattle.std.specs.Prelude.{◌≡◌, ◌++◌, false, IfOk, IfErr, OnOk, string_bytes};
 ghost use Rattle.std.specs.List.{flat_map};
 ghost use Rattle.pictures.specs.Dot.{dot_text, dot_of, dot_begin, dot_about, dot_head, dot_lines, dot_legend, dot_point, dot_pair, dot_set, dot_ends, dot_attributes, dot_width, dot_style, shape_text};
-ghost use Rattle.pictures.specs.Shown.{fault_of, lacks_plan};
+ghost use Rattle.pictures.specs.Shown.{picture_fault, lacks_plan};
 
 use crate::faults::PictureFault;
 use crate::shown::Shown;
@@ -215,7 +215,7 @@ pub fn write_dot(
 ) -> Result<String, PictureFault>
     ensures text { IfOk result (λ text. string_bytes text ≡ dot_text net.now about) }
     ensures planned { IfOk result (λ _. lacks_plan net.now about ≡ false) }
-    ensures fault { IfErr result (λ fault. fault ≡ fault_of net.now about) }
+    ensures fault { IfErr result (λ fault. fault ≡ picture_fault net.now about) }
 {
     let shown = Shown::of(alloc, net, about)?;
     match write_shown(alloc, net.net(), &shown) {

@@ -3,30 +3,14 @@
 ghost use Rattle.std.specs.Prelude.{◌≡◌, ◌<◌};
 ghost use Rattle.profile.specs.Local.{is_at as is_at_of};
 ghost use Rattle.profile.specs.Valid.{IsSmall};
-ghost use Rattle.profile.specs.Whole.{carrier as carrier_of, size_of as size_by};
+ghost use Rattle.profile.specs.Whole.{carrier as carrier_of};
 ghost use Rattle.pictures.specs.Shown.{row_share};
 
 use net_items::Row;
 use point_codes::PointCode;
 use route_choice::Choice;
 use sls_share::member_for;
-
-/// The configured number of vias of a class; the mate counts as one.
-fn size_of(row: &Row, class: u8) -> u8
-    requires { IsSmall row.now }
-    ensures { result ≡ size_by row.now class }
-{
-    if class == 5 {
-        return 1;
-    }
-    let position = usize::from(class).saturating_sub(1);
-    let classes = row.classes.as_slice();
-    if position < classes.len() {
-        classes[position].as_slice().len() as u8
-    } else {
-        0
-    }
-}
+use transfer_state::size_of;
 
 /// The via that carries a signalling link selection, 0 to 15.
 fn carrier(row: &Row, choice: &Choice, s: u8) -> Option<PointCode>

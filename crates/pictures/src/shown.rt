@@ -2,7 +2,7 @@
 
 ghost use Rattle.std.specs.Prelude.{◌≡◌, ◌++◌, Some, false, is_some, IfOk, IfErr, OnOk, string_bytes};
 ghost use Rattle.excerpts.specs.Excerpt.{excerpt_at, source_of};
-ghost use Rattle.pictures.specs.Shown.{colour_of as the_colour, colour_towards, fault_of, is_bold as is_bold_of, lacks_plan, label_text, leads as leads_of, part_text, parts_text, share_of, shown_of};
+ghost use Rattle.pictures.specs.Shown.{colour_of as the_colour, colour_towards, picture_fault, is_bold as is_bold_of, lacks_plan, label_text, is_member_of_choice as leads_of, part_text, parts_text, selections_over, shown_of};
 
 use crate::faults::PictureFault;
 use crate::shares::share_over;
@@ -18,7 +18,7 @@ use transfer_state::{Routing, is_member};
 /// The excerpt of a destination, with the faults of a picture.
 fn excerpt_of(net: &Frozen, dest: PointCode) -> Result<Excerpt, PictureFault>
     ensures ok { IfOk result (λ e. excerpt_at net.now dest ≡ Some e) }
-    ensures err { IfErr result (λ fault. fault ≡ fault_of net.now (Some dest)) }
+    ensures err { IfErr result (λ fault. fault ≡ picture_fault net.now (Some dest)) }
     ensures there { IfOk result (λ e. lacks_plan net.now (Some dest) ≡ false) }
 {
     match Excerpt::of(net, dest) {
@@ -54,7 +54,7 @@ impl Shown {
     ) -> Result<Shown, PictureFault>
         ensures ok { IfOk result (λ shown. shown ≡ shown_of net.now about) }
         ensures planned { IfOk result (λ _. lacks_plan net.now about ≡ false) }
-        ensures err { IfErr result (λ fault. fault ≡ fault_of net.now about) }
+        ensures err { IfErr result (λ fault. fault ≡ picture_fault net.now about) }
     {
         let Some(dest) = about else {
             return Ok(Shown { routing: None });
@@ -139,7 +139,7 @@ fn leads(routing: &Routing, point: PointCode, other: PointCode) -> bool
 /// How many of the sixteen signalling link selections a point leads over another.
 #[tactic(auto, using(transfer_state::proofs::RouteLemmas::row_none))]
 fn share(routing: &Routing, point: PointCode, other: PointCode) -> u64
-    ensures { result ≡ share_of (source_of routing.now.excerpt) point other }
+    ensures { result ≡ selections_over (source_of routing.now.excerpt) point other }
 {
     match routing.row(point) {
         Some((row, choice)) => share_over(row, &choice, other),

@@ -2,11 +2,11 @@
 
 ghost use Rattle.std.specs.Prelude.{◌≡◌, ◌≤◌, IfOk, find, length};
 ghost use Rattle.net_items.specs.Lookups.{kind_is_stp};
-ghost use Rattle.link_sets.specs.Neighbours.{other_end_of};
 ghost use Rattle.std.specs.Option.{option_copied};
-ghost use Rattle.pictures.specs.Layout.{end_count as end_count_of, ends_before as ends_before_of, first_stp as first_stp_of, head_of as the_head, heads_of as heads_in, is_head_in, is_end_of as is_end_in, is_same_pair as is_same, pair_of as the_pair, reaches_stp as reaches, stands_of as the_stands};
+ghost use Rattle.pictures.specs.Layout.{end_count as end_count_of, ends_before as ends_before_of, first_stp as first_stp_of, lower_of_mates as the_head, heads_of as heads_in, is_head_in, is_end_of as is_end_in, is_same_pair as is_same, head_of_pair as the_pair, reaches_stp as reaches, stands_of as the_stands};
 
 use crate::shares::is_at;
+use link_sets::other_end;
 use net_data::Net;
 use net_items::lookups::is_stp;
 use net_items::{Kind, LinkSet, Point};
@@ -39,19 +39,6 @@ fn head_of(net: &Net, code: PointCode) -> PointCode
     match net.mate_of(code) {
         Some(mate) if mate.number() < code.number() => mate,
         _ => code,
-    }
-}
-
-/// The point that a set joins to another.
-fn other_end(set: &LinkSet, point: PointCode) -> Option<PointCode>
-    ensures { result ≡ other_end_of point set.now }
-{
-    if set.a == point {
-        Some(set.b)
-    } else if set.b == point {
-        Some(set.a)
-    } else {
-        None
     }
 }
 

@@ -2,7 +2,7 @@
 
 ghost use Rattle.std.specs.Prelude.{◌≡◌, ◌≤◌, ◌++◌, false, IfOk, IfErr, OnOk, length, string_bytes};
 ghost use Rattle.std.specs.List.{flat_map};
-ghost use Rattle.pictures.specs.Shown.{fault_of, lacks_plan};
+ghost use Rattle.pictures.specs.Shown.{picture_fault, lacks_plan};
 ghost use Rattle.pictures.specs.Svg.{svg_at, svg_begin, svg_body, svg_bold, svg_curve, svg_drawing, svg_label, svg_of, svg_open, svg_paper, svg_placed, svg_point, svg_rules, svg_set, svg_shape, svg_style, svg_text};
 
 use crate::curves::{Line, bend_of, label_spot, line_of};
@@ -290,7 +290,7 @@ pub fn write_svg(
 ) -> Result<String, PictureFault>
     ensures text { IfOk result (λ text. string_bytes text ≡ svg_text net.now about) }
     ensures planned { IfOk result (λ _. lacks_plan net.now about ≡ false) }
-    ensures fault { IfErr result (λ fault. fault ≡ fault_of net.now about) }
+    ensures fault { IfErr result (λ fault. fault ≡ picture_fault net.now about) }
 {
     let shown = Shown::of(alloc, net, about)?;
     match write_shown(alloc, net.net(), &shown) {

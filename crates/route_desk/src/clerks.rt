@@ -4,8 +4,9 @@ use crate::files::{Devices, save_text};
 use crate::notes::Notes;
 use crate::reasons::write_reason;
 use crate::streams::Seen;
-use answers::{Answer, Asked};
+use answers::{Answer, Asked, Reason};
 use json_answers::Clerk;
+use net_data::Net;
 use std::alloc::{AllocError, Global};
 use std::cell::RefCell;
 use std::io;
@@ -53,6 +54,7 @@ pub fn put_picture(
 /// Who files the pictures of a script, counts its refused lines if that is wanted, and notes why each is refused if that is explained.
 #[derive(Drop)]
 pub struct ScriptClerk<'a> {
+    /// What the files are written by.
     pub rt: &'a HostRuntime,
     /// Where refused lines are counted, none if they aren't.
     pub counted: Option<&'a Seen>,
@@ -61,10 +63,20 @@ pub struct ScriptClerk<'a> {
 }
 
 impl<'a> Clerk for ScriptClerk<'a> {
+    fn explains(&self) -> bool {
+        self.notes.is_some()
+    }
+
+    fn explain(&self, _alloc: Global, asked: Asked<'_>, why: Reason, net: &Net) {
+        if let Some(Ok(mut notes)) = self.notes.map(|notes| notes.try_borrow_mut()) {
+            notes.explain(asked, why, net);
+        }
+    }
+
     fn put(
         &self,
         alloc: Global,
-        _asked: Asked<'_>,
+        asked: Asked<'_>,
         file: &str,
         picture: &str,
     ) -> Result<bool, AllocError> {
@@ -72,7 +84,7 @@ impl<'a> Clerk for ScriptClerk<'a> {
             return Ok(true);
         };
         if let Some(Ok(mut notes)) = self.notes.map(|notes| notes.try_borrow_mut()) {
-            notes.explain(write_reason(alloc, file, &error));
+            notes.give_reason(asked, write_reason(alloc, file, &error));
         }
         Ok(false)
     }

@@ -1,23 +1,19 @@
 //! What there is to say of the lines of a script that are refused.
 
-use crate::sentences::{event_in, sentence_of, write_sentence};
-use answers::{Answer, Asked, Reason, Reply};
+use crate::sentences::{sentence_of, write_sentence};
+use answers::{Answer, Asked, Reason};
 use net_data::Net;
-use script_words::{Command, read_line};
-use sessions::load_text;
 use std::alloc::{AllocError, Global};
 use std::mem::replace;
 
-/// Notes of a script: the network that its lines have made, and what there is to say of those that were refused.
+/// Notes of a script: what there is to say of its refused lines.
 #[derive(Drop)]
 pub struct Notes {
     alloc: Global,
     /// What was read of an input that starts with a network text, until its first line is answered; none of a script.
     read: Option<Vec<u8>>,
-    /// The network after all events that were taken, if it is known.
-    net: Option<Box<Net>>,
-    /// Why the answer that comes next is a refusal, if that is known already.
-    reason: Option<String>,
+    /// The sentence for the line whose answer comes next, if it is known already.
+    sentence: Option<String>,
     /// What there is to say, in lines, and wasn't said yet.
     unsaid: String,
 }
@@ -27,14 +23,6 @@ fn without_return(line: &[u8]) -> &[u8] {
     match line {
         [front @ .., b'\r'] => front,
         _ => line,
-    }
-}
-
-/// A copy of a network in a box, none if there is no memory for it.
-fn boxed_copy(alloc: Global, net: &Net) -> Option<Box<Net>> {
-    match net.copy(alloc) {
-        Ok(net) => Box::new(alloc, net).ok(),
-        Err(_) => None,
     }
 }
 
@@ -50,22 +38,13 @@ fn text_in(read: &[u8]) -> &[u8] {
     read
 }
 
-/// The network that a text says, in a box, none if there is no memory for it.
-fn boxed_of(alloc: Global, text: &[u8]) -> Option<Box<Net>> {
-    match load_text(alloc, text) {
-        Ok(net) => Box::new(alloc, net).ok(),
-        Err(_) => None,
-    }
-}
-
 impl Notes {
-    /// Notes of a script that starts from a network.
-    pub fn of_script(alloc: Global, net: &Net) -> Notes {
+    /// Notes of a script.
+    pub fn of_script(alloc: Global) -> Notes {
         Notes {
             alloc,
             read: None,
-            net: boxed_copy(alloc, net),
-            reason: None,
+            sentence: None,
             unsaid: String::new(alloc),
         }
     }
@@ -75,15 +54,9 @@ impl Notes {
         Notes {
             alloc,
             read: Some(Vec::new(alloc)),
-            net: None,
-            reason: None,
+            sentence: None,
             unsaid: String::new(alloc),
         }
-    }
-
-    /// Notes why the answer that comes next is a refusal, if there was memory for the reason.
-    pub fn explain(&mut self, reason: Result<String, AllocError>) {
-        self.reason = reason.ok();
     }
 
     /// The network text of an input, of which no line was answered.
@@ -94,7 +67,7 @@ impl Notes {
         }
     }
 
-    /// Takes what was read of an input, until its first line is answered. Where there is no memory for it, its network isn't known.
+    /// Takes what was read of an input, until its first line is answered, while there is memory for it.
     pub fn read(&mut self, bytes: &[u8]) {
         if let Some(read) = &mut self.read {
             if read.extend_from_slice(bytes).is_err() {
@@ -103,55 +76,37 @@ impl Notes {
         }
     }
 
-    /// Begins the script of an input with the network that its text says.
-    fn begin(&mut self) {
-        if let Some(read) = self.read.take() {
-            self.net = boxed_of(self.alloc, text_in(read.as_slice()));
-        }
+    /// Explains a line that is refused, by the network after all accepted events, if there is memory for it.
+    pub fn explain(&mut self, asked: Asked<'_>, why: Reason, net: &Net) {
+        self.sentence = sentence_of(self.alloc, asked, why, Some(net)).ok();
     }
 
-    /// Makes the event of a command that was taken. If there is no memory for it, the network isn't known any more.
-    fn make(&mut self, command: &Command) {
-        if let (Some(net), Some(event)) = (&mut self.net, event_in(command)) {
-            if net.apply(self.alloc, event).is_err() {
-                self.net = None;
-            }
-        }
+    /// Explains a line that is refused by the reason for it, if there was memory for that.
+    pub fn give_reason(&mut self, asked: Asked<'_>, reason: Result<String, AllocError>) {
+        self.sentence = match reason {
+            Ok(reason) => write_sentence(self.alloc, asked.number, reason.as_str()).ok(),
+            Err(_) => None,
+        };
     }
 
-    /// Makes the event of a line that was taken.
-    fn take(&mut self, line: &[u8]) {
-        match read_line(self.alloc, line) {
-            Ok(Some(command)) => self.make(&command),
-            Ok(None) => {}
-            Err(_) => self.net = None,
-        }
-    }
-
-    /// The sentence for a refused line, by what is noted of it or by why it is refused.
+    /// The sentence for a refused line: the one that is known already, or what its refusal means.
     fn sentence(&mut self, asked: Asked<'_>, why: Reason) -> Result<String, AllocError> {
-        if let Some(reason) = self.reason.take() {
-            return write_sentence(self.alloc, asked.number, reason.as_str());
+        match self.sentence.take() {
+            Some(sentence) => Ok(sentence),
+            None => sentence_of(self.alloc, asked, why, None),
         }
-        sentence_of(self.alloc, asked, why, self.net.as_deref())
     }
 
-    /// Notes what there is to say of a refused line, if there is memory for it.
-    fn refuse(&mut self, asked: Asked<'_>, why: Reason) {
-        if let Ok(sentence) = self.sentence(asked, why) {
+    /// Notes what there is to say of a line that is answered, if it is refused and there is memory for that.
+    pub fn see(&mut self, asked: Asked<'_>, answer: &Answer) {
+        self.read = None;
+        let Answer::Refused(why) = answer else {
+            return;
+        };
+        if let Ok(sentence) = self.sentence(asked, *why) {
             if self.unsaid.push_str(sentence.as_str()).is_ok() {
                 let _ = self.unsaid.push('\n');
             }
-        }
-    }
-
-    /// Sees the answer to a line.
-    pub fn see(&mut self, asked: Asked<'_>, answer: &Answer) {
-        self.begin();
-        match answer {
-            Answer::Reply(Reply::Taken(_)) => self.take(asked.line.unwrap_or(&[])),
-            Answer::Refused(why) => self.refuse(asked, *why),
-            _ => {}
         }
     }
 

@@ -50,10 +50,10 @@ impl Ended {
     }
 }
 
-/// Notes of a script that starts from a network, if refused lines are to be explained.
-fn script_notes(alloc: Global, net: &Net, explained: bool) -> Option<RefCell<Notes>> {
+/// Notes of a script, if refused lines are to be explained.
+fn script_notes(alloc: Global, explained: bool) -> Option<RefCell<Notes>> {
     if explained {
-        return Some(RefCell::new(Notes::of_script(alloc, net)));
+        return Some(RefCell::new(Notes::of_script(alloc)));
     }
     None
 }
@@ -138,7 +138,7 @@ fn run_from(
     if wanted {
         greet(rt, &net);
     }
-    let notes = script_notes(alloc, &net, manner.explained);
+    let notes = script_notes(alloc, manner.explained);
     let seen = Seen::new();
     let input = SeenReader::new(&seen, Prompting::new(rt, rt.reader(), wanted));
     let reader = input;
@@ -203,7 +203,7 @@ fn play_seen<R: io::Read + Drop>(
     seen: &Seen,
     manner: Manner,
 ) -> ScriptEnd {
-    let notes = script_notes(rt.alloc(), &net, manner.explained);
+    let notes = script_notes(rt.alloc(), manner.explained);
     let mut reader = script;
     let mut writer = output_of(rt, notes.as_ref(), seen);
     let telling = telling_of(rt, notes.as_ref(), seen, manner);

@@ -1,13 +1,16 @@
 //! Where the answers of a seat go, and who files its pictures.
 
 use crate::clerks::{Pictures, put_picture};
+use crate::notes::Notes;
 use crate::reasons::write_reason;
 use crate::saying::say;
 use crate::seat_files::OutputKind;
 use crate::seat_text::SeatEntry;
-use answers::{Answer, Asked};
+use answers::{Answer, Asked, Reason};
 use json_answers::Clerk;
+use net_data::Net;
 use std::alloc::{AllocError, Global};
+use std::cell::{RefCell, RefMut};
 use std::fs::{File, OpenOptions};
 use std::io;
 use std::io::{ErrorKind, Printer, Write};
@@ -75,39 +78,59 @@ impl<'a> io::Write for SeatOutput<'a> {
     }
 }
 
-/// Who files the pictures of a seat, and says why one isn't written, if that is wanted.
+/// Who files the pictures of a seat, and says why its lines are refused, if that is explained.
 #[derive(Drop)]
 pub struct SeatClerk<'a> {
+    /// What the files are written by.
     pub rt: &'a HostRuntime,
     /// What is done with pictures.
     pub pictures: Pictures,
-    /// The name of the seat, none if nothing is said.
-    pub seat: Option<&'a str>,
+    /// The name of the seat.
+    pub seat: &'a str,
+    /// What there is to say of the seat's refused lines, if they are explained.
+    pub notes: Option<RefCell<Notes>>,
 }
 
 impl<'a> SeatClerk<'a> {
-    /// Says why a picture isn't written to its file.
-    fn tell(&self, file: &str, error: &io::Error) {
-        if let (Some(seat), Ok(reason)) = (self.seat, write_reason(self.rt.alloc(), file, error)) {
-            say(self.rt, &[seat, ": ", reason.as_str()]);
-        }
+    /// The notes of the seat, if its lines are explained.
+    fn notes(&self) -> Option<RefMut<'_, Notes>> {
+        self.notes.as_ref()?.try_borrow_mut().ok()
     }
 }
 
 impl<'a> Clerk for SeatClerk<'a> {
+    fn explains(&self) -> bool {
+        self.notes.is_some()
+    }
+
+    fn explain(&self, _alloc: Global, asked: Asked<'_>, why: Reason, net: &Net) {
+        if let Some(mut notes) = self.notes() {
+            notes.explain(asked, why, net);
+        }
+    }
+
     fn put(
         &self,
-        _alloc: Global,
-        _asked: Asked<'_>,
+        alloc: Global,
+        asked: Asked<'_>,
         file: &str,
         picture: &str,
     ) -> Result<bool, AllocError> {
         let Some(error) = put_picture(self.rt, self.pictures, file, picture)? else {
             return Ok(true);
         };
-        self.tell(file, &error);
+        if let Some(mut notes) = self.notes() {
+            notes.give_reason(asked, write_reason(alloc, file, &error));
+        }
         Ok(false)
     }
 
-    fn see(&self, _alloc: Global, _asked: Asked<'_>, _answer: &Answer) {}
+    fn see(&self, _alloc: Global, asked: Asked<'_>, answer: &Answer) {
+        if let Some(mut notes) = self.notes() {
+            notes.see(asked, answer);
+            for sentence in notes.take_unsaid().as_str().lines() {
+                say(self.rt, &[self.seat, ": ", sentence]);
+            }
+        }
+    }
 }

@@ -5,6 +5,7 @@ ghost use Rattle.std.specs.Prelude.{◌≤◌};
 use crate::clerks::Pictures;
 use crate::endings::{Saving, save_net};
 use crate::loading::load_file;
+use crate::notes::Notes;
 use crate::reasons::explain_file;
 use crate::reports::report;
 use crate::seat_ends::SeatEnds;
@@ -19,6 +20,7 @@ use json_answers::{Filing, Form};
 use net_data::Net;
 use serving::{Channel, DeskEnd, Farewell, run_seats};
 use std::alloc::{AllocError, Global};
+use std::cell::RefCell;
 use std::io::ErrorKind;
 use std::process::ExitCode;
 use std::sync::Wait;
@@ -29,7 +31,7 @@ use worker_pool::Plain;
 /// How the sessions of a desk tell what they do.
 #[derive(Clone, Copy)]
 pub struct SeatManner {
-    /// Whether a fault is explained on standard error.
+    /// Whether each refused line and a fault is explained on standard error.
     pub explained: bool,
     /// The form of the answers, if a seat doesn't say it otherwise.
     pub form: Form,
@@ -66,6 +68,14 @@ fn output_of<'a>(
     SeenWriter::new(seen, SeatOutput::new(rt, entry, kind))
 }
 
+/// Notes of the script of a seat, if refused lines are to be explained.
+fn notes_of(alloc: Global, manner: SeatManner) -> Option<RefCell<Notes>> {
+    if manner.explained {
+        return Some(RefCell::new(Notes::of_script(alloc)));
+    }
+    None
+}
+
 /// Who tells the answers of a seat.
 fn telling_of<'a>(
     rt: &'a HostRuntime,
@@ -77,7 +87,8 @@ fn telling_of<'a>(
         clerk: SeatClerk {
             rt,
             pictures: manner.pictures,
-            seat: manner.explained.then_some(entry.name.as_str()),
+            seat: entry.name.as_str(),
+            notes: notes_of(rt.alloc(), manner),
         },
     }
 }

@@ -4,11 +4,11 @@ use crate::missing::put_missing_row;
 use crate::saying::write_bytes;
 use crate::standing::put_standing;
 use crate::tried::write_tried;
-use answers::{Answer, Asked, Reason, answer_other};
+use answers::{Asked, Reason};
 use explanations::explain_reason;
 use net_data::{Event, Net};
 use point_codes::PointCode;
-use script_words::{Command, read_line};
+use script_words::{Command, Form, form_of, read_line};
 use std::alloc::{AllocError, Global};
 
 /// What a script begins with that some editors put there.
@@ -120,15 +120,18 @@ fn write_expected(alloc: Global, form: &str, line: &str) -> Result<String, Alloc
     format!(in alloc; "the form is {form}")
 }
 
-/// What was expected of a line by the text that `help` has for its first word: the form of its commands, and an example.
-fn write_by_help(alloc: Global, told: &str, word: &str, line: &str) -> Result<String, AllocError> {
-    let form = told
-        .strip_prefix("help ")
-        .and_then(|form| form.split_once(", as "));
+/// What was expected of a line whose first word has this form in the table of words, with the form's example.
+fn write_by_form(
+    alloc: Global,
+    form: Option<&Form>,
+    word: &str,
+    line: &str,
+) -> Result<String, AllocError> {
     match form {
-        Some((form, example)) => {
-            let expected = write_expected(alloc, form, line)?;
+        Some(form) => {
+            let expected = write_expected(alloc, form.form, line)?;
             let expected = expected.as_str();
+            let example = form.example;
             format!(in alloc; "{expected}, as {example}")
         }
         None => format!(in alloc; "no command begins with {word}; help tells the words"),
@@ -137,11 +140,7 @@ fn write_by_help(alloc: Global, told: &str, word: &str, line: &str) -> Result<St
 
 /// What was expected of a line that begins with a word.
 fn write_by_word(alloc: Global, word: &str, line: &str) -> Result<String, AllocError> {
-    let question = format!(in alloc; "help {word}")?;
-    match answer_other(alloc, question.as_bytes())? {
-        Answer::Help(told) => write_by_help(alloc, told.as_str(), front_of(word), line),
-        _ => write_by_help(alloc, "", front_of(word), line),
-    }
+    write_by_form(alloc, form_of(word.as_bytes()), front_of(word), line)
 }
 
 /// Why a line is no command.
@@ -175,7 +174,7 @@ fn write_bad_line(alloc: Global, line: &str) -> Result<String, AllocError> {
 }
 
 /// The event of a command, if it has just one.
-pub fn event_in(command: &Command) -> Option<&Event> {
+fn event_in(command: &Command) -> Option<&Event> {
     match command {
         Command::Event(event) | Command::Post(_, _, event) => Some(event),
         _ => None,

@@ -5,3 +5,4 @@ pub mod VerbLemmas
 pub mod CommandLemmas
 pub mod NumberLemmas
 pub mod PieceLemmas
+pub mod FormTableLemmas

@@ -2,3 +2,4 @@ pub mod Events
 pub mod EventWords
 pub mod Numbers
 pub mod Commands
+pub mod Forms

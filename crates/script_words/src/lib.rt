@@ -27,8 +27,10 @@
 //!     at least one EVENT.
 //! 13. Words are read exactly if they are what is written of their event or command: no other word, and none too many or
 //!     too few. Only a change of the first end has two forms, with `a` and without.
+//! 14. One table has each word that begins a command, the form of its commands and an example, and `help` besides, which begins
+//!     none. A new command is a new entry, and `forms_law` isn't proved without it.
 //!
-//! Stands on `net_data`, `tokens`. A change here also changes specs/ (Commands, EventWords, Events, Numbers), proofs/ and
+//! Stands on `net_data`, `tokens`. A change here also changes specs/ (Commands, EventWords, Events, Forms, Numbers), proofs/ and
 //! must-fail/.
 #![tactic(auto)]
 
@@ -37,6 +39,7 @@ mod command_words;
 mod commands;
 mod edits;
 mod events;
+mod form_table;
 pub mod laws;
 mod lines;
 mod lists;
@@ -51,6 +54,7 @@ mod words;
 pub use commands::{Command, Events, FileName};
 pub use edits::{read_added_point, read_pair, read_plan};
 pub use events::read_event;
-pub use laws::{event_law, sequence_law};
+pub use form_table::{Form, form_of, forms};
+pub use laws::{event_law, forms_law, sequence_law};
 pub use lines::read_line;
 pub use questions::Question;

@@ -28,8 +28,8 @@ use Rattle.beside.specs.Beside.{BesideValue, StartsBeside}
 use Rattle.beside.specs.Seats.{Came, CamePosting, Goes, posted_by}
 use Rattle.beside.specs.Right.{Moment, told_in}
 use Rattle.serving.specs.Seated.{CommandsAs, CommandsSeated, KeepsRules, LosesSeated, SeatedValue}
-use Rattle.serving.specs.Served.{AreSeen, AreTold, AreWritten, IsLost, IsToldSession, lines_in, taken_in}
-use Rattle.serving.specs.Sittings.{Sits, fault_of}
+use Rattle.serving.specs.Served.{AreSeen, AreTold, AreWritten, IsLost, IsToldSession, lines_in, taken_of}
+use Rattle.serving.specs.Sittings.{Sits, final_fault}
 use Rattle.beside.proofs.BesideLemmas.{prefix_then}
 use Rattle.serving.proofs.LineLemmas.{LineTold, history_done, line_told, saw_came, saw_left}
 
@@ -55,7 +55,7 @@ record Made (seats : ℕ) (posts : Bool) (collector : ℕ) (b : BesideValue) (li
   asked : lines ≡ lines_in moments
   are_told : told ≡ told_in moments
   grows : Grows b new
-  own : own_events b.seat.me new.seat.saw ≡ own_events b.seat.me b.seat.saw ++ taken_in moments
+  own : own_events b.seat.me new.seat.saw ≡ own_events b.seat.me b.seat.saw ++ taken_of moments
   each : (all : List Authored) → IsPrefix (authored_in new.seat.saw) all → AreTold seats posts collector all b.seat.me b moments
   views : (shown : List VersionValue) → IsPrefix new.seen shown → AreSeen shown moments
 
@@ -112,8 +112,8 @@ module _ (start : Network) (seats : ℕ) (posts : Bool) (collector : ℕ) where
         own =
             ap (λ n. own_events n new.beside.seat.saw) (sym l.me)
             ∙ rest.own
-            ∙ ap (λ (es : List Event). es ++ taken_in rest.moments) (ap (λ n. own_events n mid.beside.seat.saw) l.me ∙ l.own)
-            ∙ append_assoc (own_events s.beside.seat.me s.beside.seat.saw) (taken_at (trimmed line) first) (taken_in rest.moments);
+            ∙ ap (λ (es : List Event). es ++ taken_of rest.moments) (ap (λ n. own_events n mid.beside.seat.saw) l.me ∙ l.own)
+            ∙ append_assoc (own_events s.beside.seat.me s.beside.seat.saw) (taken_at (trimmed line) first) (taken_of rest.moments);
         each = λ all prefix. (
           record {
             replies = asked;
@@ -215,7 +215,7 @@ record Lines (Tells : Answer → List ℕ → Type 0) (seats : ℕ) (posts : Boo
   moments : List Moment
   lost : List Event
   grows : Grows b after
-  own : own_events b.seat.me after.seat.saw ≡ own_events b.seat.me b.seat.saw ++ (taken_in moments ++ lost)
+  own : own_events b.seat.me after.seat.saw ≡ own_events b.seat.me b.seat.saw ++ (taken_of moments ++ lost)
   each : (all : List Authored) → IsPrefix (authored_in after.seat.saw) all → AreTold seats posts collector all b.seat.me b moments
   views : (shown : List VersionValue) → IsPrefix after.seen shown → AreSeen shown moments
   outcome : AreWritten Tells ended left read written moments lost
@@ -235,7 +235,7 @@ module _ (Tells : Answer → List ℕ → Type 0) (start : Network) (seats : ℕ
         moments = m.moments;
         lost = [];
         grows = m.grows;
-        own = m.own ∙ ap (λ (es : List Event). own_events b.seat.me b.seat.saw ++ es) (sym (append-nil (taken_in m.moments)));
+        own = m.own ∙ ap (λ (es : List Event). own_events b.seat.me b.seat.saw ++ es) (sym (append-nil (taken_of m.moments)));
         each = m.each;
         views = m.views;
         outcome = outcome m.moments m.asked (subst (λ (t : List (Option Answer)). AreTexts Tells t written) m.are_told answered.2);
@@ -261,7 +261,7 @@ module _ (Tells : Answer → List ℕ → Type 0) (start : Network) (seats : ℕ
             ap (λ n. own_events n after.beside.seat.saw) (sym m.grows.me)
             ∙ l.own
             ∙ ap (λ (es : List Event). es ++ l.lost) (ap (λ n. own_events n cut.mid.beside.seat.saw) m.grows.me ∙ m.own)
-            ∙ append_assoc (own_events b.seat.me b.seat.saw) (taken_in m.moments) l.lost;
+            ∙ append_assoc (own_events b.seat.me b.seat.saw) (taken_of m.moments) l.lost;
         each = λ all prefix.
             m.each all (prefix_then (authored_in cut.mid.beside.seat.saw) (authored_in after.beside.seat.saw) all
             (authored_grown cut.mid.beside.seat.saw after.beside.seat.saw m.grows.history l.grows.saw) prefix);
@@ -331,7 +331,7 @@ session_told Tells start seats posts collector b unread left held holds fault li
     me : seat.me ≡ b.seat.me
     me = ap (λ (s : SeatValue DeskAndChain). s.me) comes.saw ∙ l.grows.me
 
-    own : events_by b.seat.me (authored_in log) ≡ taken_in l.moments ++ l.lost
+    own : events_by b.seat.me (authored_in log) ≡ taken_of l.moments ++ l.lost
     own =
         ap (λ n. own_events n log) (sym me)
         ∙ others_leave seat.me seat.saw log comes.history since
@@ -339,7 +339,7 @@ session_told Tells start seats posts collector b unread left held holds fault li
         ∙ come_own seats after.seat seat found l.grows.history comes
         ∙ ap (λ n. own_events n after.seat.saw) l.grows.me
         ∙ l.own
-        ∙ ap (λ (saw : List (Sight DeskAndChain)). own_events b.seat.me saw ++ (taken_in l.moments ++ l.lost)) opens.seat
+        ∙ ap (λ (saw : List (Sight DeskAndChain)). own_events b.seat.me saw ++ (taken_of l.moments ++ l.lost)) opens.seat
 
     end : IsEnded start seats log state
     end = ended start seats log state (opened_later start b.seat.saw log opened (prefix_then b.seat.saw after.seat.saw log l.grows.saw to_log)) whole
@@ -352,10 +352,10 @@ session_told Tells start seats posts collector b unread left held holds fault li
         prefix_then found.shown.chain (left_at log).shown.chain state.shown.chain
         (subst (λ (x : DeskAndChain × List (Sight DeskAndChain)). IsPrefix x.0.shown.chain (left_at x.1).shown.chain) (λ i. (came_last seats after.seat found seat comes i, sym since.whole i)) part.chain) end.chain
 
-    seen_by : fault ≢ Some NoPlace → (told : Result (Unit {0}) Fault) → OnOk told (IsPrefix after.seen found.shown.chain) → OnErr told (told ≡ Err NoPlace) → fault ≡ fault_of told sits.ended → IsPrefix after.seen state.shown.chain
+    seen_by : fault ≢ Some NoPlace → (told : Result (Unit {0}) Fault) → OnOk told (IsPrefix after.seen found.shown.chain) → OnErr told (told ≡ Err NoPlace) → fault ≡ final_fault told sits.ended → IsPrefix after.seen state.shown.chain
     seen_by apart (Ok done) seen bad is = prefix_then after.seen found.shown.chain state.shown.chain seen shown
-    seen_by apart (Err e) seen bad is = absurd (apart (is ∙ ap (λ (r : Result (Unit {0}) Fault). fault_of r sits.ended) bad))
+    seen_by apart (Err e) seen bad is = absurd (apart (is ∙ ap (λ (r : Result (Unit {0}) Fault). final_fault r sits.ended) bad))
 
-    cause_is : (told : Result (Unit {0}) Fault) → OnErr told (told ≡ Err NoPlace) → fault ≡ fault_of told sits.ended → (fault ≡ sits.ended) ⊎ (fault ≡ Some NoPlace)
+    cause_is : (told : Result (Unit {0}) Fault) → OnErr told (told ≡ Err NoPlace) → fault ≡ final_fault told sits.ended → (fault ≡ sits.ended) ⊎ (fault ≡ Some NoPlace)
     cause_is (Ok done) bad is = inl is
-    cause_is (Err e) bad is = inr (is ∙ ap (λ (r : Result (Unit {0}) Fault). fault_of r sits.ended) bad)
+    cause_is (Err e) bad is = inr (is ∙ ap (λ (r : Result (Unit {0}) Fault). final_fault r sits.ended) bad)

@@ -15,7 +15,7 @@ use Rattle.sessions.specs.Lines.{line_count, lines_of, trimmed, whole_lines}
 use Rattle.sessions.specs.Replies.{AreTexts, Replies}
 use Rattle.sessions.specs.Run.{IsFrontOf}
 use Rattle.sessions.specs.declared.faults.Fault.{Fault}
-use Rattle.sessions.specs.declared.faults.Fault.TheVariants.{NoPlace, Read, Load}
+use Rattle.sessions.specs.declared.faults.Fault.TheVariants.{NoPlace, OutOfMemory, Read, Load}
 use Rattle.histories.specs.Histories.{AreOfSeats, Authored, IsNth, events_by, events_in}
 use Rattle.histories.specs.Right.{AreRight}
 use Rattle.beside.specs.Beside.{BesideValue, StartsBeside}
@@ -48,9 +48,9 @@ AreSeen shown [] = Unit {0}
 AreSeen shown (m ∷ moments) = IsPrefix m.after.seen shown × AreSeen shown moments
 
 -- the events that lines were answered `taken` for
-abbrev pub taken_in : List Moment → List Event
-taken_in [] = []
-taken_in (m ∷ moments) = taken_at (trimmed m.line) m.told ++ taken_in moments
+abbrev pub taken_of : List Moment → List Event
+taken_of [] = []
+taken_of (m ∷ moments) = taken_at (trimmed m.line) m.told ++ taken_of moments
 
 -- the lines of moments
 abbrev pub lines_in : List Moment → List (List ℕ)
@@ -84,7 +84,7 @@ pub record IsToldSession (Tells : Answer → List ℕ → Type 0) (start : Netwo
   pub each : AreTold seats posts collector all me opening moments
   pub seen : fault ≢ Some NoPlace → AreSeen shown moments
   pub lost : List Event
-  pub own : events_by me all ≡ taken_in moments ++ lost
+  pub own : events_by me all ≡ taken_of moments ++ lost
   pub ended : Option Fault
   pub cause : (fault ≡ ended) ⊎ (fault ≡ Some NoPlace)
   pub outcome : AreWritten Tells ended left read written moments lost
@@ -93,6 +93,12 @@ pub record IsToldSession (Tells : Answer → List ℕ → Type 0) (start : Netwo
 pub record IsOneHistory (start : Network) (seats : ℕ) (all : List Authored) (shown : List VersionValue) : Type 0 where
   pub authors : AreOfSeats seats all
   pub right : AreRight (new_desk start) (events_in all) None shown
+
+-- why the sessions of a desk can't begin: memory or places for them are refused
+abbrev pub CannotBegin : Fault → Type 0
+CannotBegin OutOfMemory = Unit {0}
+CannotBegin NoPlace = Unit {0}
+CannotBegin fault = ⊥
 
 module _ {R W T : Type 0} (remaining : R → Option (List ℕ)) (contents : W → Option (List ℕ)) (tells : T → Answer → List ℕ → Type 0) where
   -- the session of a number, of those that were given, was told parts of the one history, and ended so

@@ -16,9 +16,9 @@ use Rattle.serving.specs.declared.channels.SessionEnd.{SessionEnd}
 use Rattle.serving.specs.Seated.{CommandsSeated, LosesSeated, SeatedValue}
 
 -- the fault of a session: that of its last visit, else that of its lines
-abbrev pub fault_of : Result (Unit {0}) Fault → Option Fault → Option Fault
-fault_of (Ok done) ended = ended
-fault_of (Err fault) ended = Some fault
+abbrev pub final_fault : Result (Unit {0}) Fault → Option Fault → Option Fault
+final_fault (Ok done) ended = ended
+final_fault (Err fault) ended = Some fault
 
 -- a session was run: its lines were read and answered, and then it came to the hub for the last time
 pub record Sits (Tells : Answer → List ℕ → Type 0) (seats : ℕ) (posts : Bool) (collector : ℕ) (start : BesideValue) (unread left held holds : Option (List ℕ)) (fault : Option Fault) (lines : ℕ) (seat : SeatValue DeskAndChain) : Type 0 where
@@ -27,7 +27,7 @@ pub record Sits (Tells : Answer → List ℕ → Type 0) (seats : ℕ) (posts : 
   pub ran : RanTo Tells (CommandsSeated seats) (LosesSeated seats) (Unit {0}) (record { beside = start; posts = posts; collector = collector }) unread left held holds ended lines after
   pub told : Result (Unit {0}) Fault
   pub parts : Parts seats after.beside told seat
-  pub fault_is : fault ≡ fault_of told ended
+  pub fault_is : fault ≡ final_fault told ended
 
 -- a session at its seat: before it runs with who comes to the hub, and then with the seat alone
 pub record SittingValue (R W T : Type 0) : Type 0 where

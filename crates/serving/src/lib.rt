@@ -8,7 +8,8 @@
 //! 4. One list of accepted events explains what every session was told: each `taken N` is the N-th event of it, and came through
 //!    that session; each of its events was told so once; and every version that was published or seen is the one of its number.
 //!
-//! Stands on `beside`. A change here also changes specs/, proofs/ and must-fail/.
+//! Stands on `beside`. A change here also changes specs/ (Seated, Served, Sittings), proofs/ and
+//! must-fail/.
 #![tactic(auto)]
 
 mod channels;

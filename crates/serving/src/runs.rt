@@ -1,9 +1,9 @@
 //! Runs of many sessions at one desk.
 
-ghost use Rattle.std.specs.Prelude.{◌≡◌, ◌+◌, ◌<◌, ◌≤◌, ◌∷◌, ◌++◌, [], ℕ, List, Err, Some, IfOk, length, slice_index_or, vec_capacity, vec_len};
+ghost use Rattle.std.specs.Prelude.{◌≡◌, ◌+◌, ◌<◌, ◌≤◌, ◌∷◌, ◌++◌, [], ℕ, List, Err, Some, IfErr, IfOk, length, slice_index_or, vec_capacity, vec_len};
 ghost use Rattle.net_data.specs.Network.{Network};
 ghost use Rattle.histories.specs.Histories.{IsOpening};
-ghost use Rattle.serving.specs.Served.{IsServed};
+ghost use Rattle.serving.specs.Served.{CannotBegin, IsServed};
 ghost use Rattle.serving.specs.Sittings.{AreSat, AreSeated, IsSat, seat_at};
 
 use crate::channels::{Channel, DeskEnd, Farewell, SessionEnd};
@@ -214,7 +214,8 @@ fn run_at<
     requires first { first ≡ seat_at N.table hub.state 0 }
     requires seats { (j : ℕ) (d : _) → j < vec_len seats → slice_index_or seats.items j d ≡ seat_at N.table hub.state (j + 1) }
     requires count { (vec_len channels ≡ vec_len seats + 1) × (vec_len channels ≡ N.seats) }
-    ensures { (net : Network) → IsOpening net hub.state → IfOk result (λ end. IsServed R.remaining W.contents L.tells net channels.items end.ends.items end.net) }
+    ensures served { (net : Network) → IsOpening net hub.state → IfOk result (λ end. IsServed R.remaining W.contents L.tells net channels.items end.ends.items end.net) }
+    ensures fault { IfErr result CannotBegin }
 {
     match seat_with_room(alloc, &hub, first, seats, channels) {
         Ok((sittings, room)) => Ok(run_sittings(rt, alloc, n, gate, farewell, hub, sittings, room)),
@@ -245,7 +246,8 @@ fn run_named<
     requires workers { n ≤ 32 }
     requires seats { (j : ℕ) (d : _) → j < vec_len seats → slice_index_or seats.items j d ≡ seat_at unnamed.table unnamed.state (j + 1) }
     requires count { (vec_len channels ≡ vec_len seats + 1) × (unnamed.seats ≡ vec_len channels) }
-    ensures { (net : Network) → IsOpening net unnamed.state → IfOk result (λ end. IsServed R.remaining W.contents L.tells net channels.items end.ends.items end.net) }
+    ensures served { (net : Network) → IsOpening net unnamed.state → IfOk result (λ end. IsServed R.remaining W.contents L.tells net channels.items end.ends.items end.net) }
+    ensures fault { IfErr result CannotBegin }
 {
     match unnamed.named::<N>(alloc) {
         Ok((hub, first)) => run_at(rt, alloc, n, gate, farewell, hub, first, seats, channels),
@@ -272,7 +274,8 @@ fn run_unnamed<
 ) -> Result<DeskEnd<R, W>, Fault>
     requires workers { n ≤ 32 }
     requires one { (0 < vec_len channels) × (unnamed.seats ≡ 1) }
-    ensures { (net : Network) → IsOpening net unnamed.state → IfOk result (λ end. IsServed R.remaining W.contents L.tells net channels.items end.ends.items end.net) }
+    ensures served { (net : Network) → IsOpening net unnamed.state → IfOk result (λ end. IsServed R.remaining W.contents L.tells net channels.items end.ends.items end.net) }
+    ensures fault { IfErr result CannotBegin }
 {
     match admit_more(alloc, &mut unnamed, channels.len() - 1) {
         Ok(seats) => run_named::<Brand, _, _, _, _, _, _>(
@@ -308,7 +311,8 @@ pub fn run_seats<
 ) -> Result<DeskEnd<R, W>, Fault>
     requires workers { n ≤ 32 }
     requires one { 0 < vec_len channels }
-    ensures { IfOk result (λ end. IsServed R.remaining W.contents L.tells net channels.items end.ends.items end.net) }
+    ensures served { IfOk result (λ end. IsServed R.remaining W.contents L.tells net channels.items end.ends.items end.net) }
+    ensures fault { IfErr result CannotBegin }
 {
     match open_hub(rt, alloc, net) {
         Ok(unnamed) => run_unnamed(rt, alloc, n, gate, farewell, unnamed, channels),

@@ -7,7 +7,7 @@ ghost use Rattle.sessions.specs.Run.{CutsOff};
 ghost use Rattle.beside.specs.Seats.{Goes};
 ghost use Rattle.serving.specs.Seated.{DoesSeated, KeepsRules, is_event, is_post};
 
-use answers::{Answer, Reason, answer_other};
+use answers::{Answer, Asked, Reason, Telling, answer_other};
 use beside::Beside;
 use net_data::{Event, Net};
 use script_words::{Command, read_line};
@@ -113,6 +113,10 @@ impl<'a, N: Naming, R: Wait> Answering for Seated<'a, N, R> {
             Some(command) => self.obey(alloc, command),
             None => Ok(answer_other(alloc, line)?),
         }
+    }
+
+    fn show_net<T: Telling>(&self, alloc: Global, telling: &T, asked: Asked<'_>, why: Reason) {
+        self.beside.show_net(alloc, telling, asked, why);
     }
 
     fn into_net(self, alloc: Global) -> Result<Net, Fault> {

@@ -1,8 +1,9 @@
 //! Sessions at their seats, before they begin.
 
-ghost use Rattle.std.specs.Prelude.{◌≡◌, ◌+◌, ◌<◌, ◌≤◌, ◌∷◌, ◌++◌, [], ℕ, Err, Some, IfOk, OnOk, slice_index_or, vec_capacity, vec_len};
+ghost use Rattle.std.specs.Prelude.{◌≡◌, ◌+◌, ◌<◌, ◌≤◌, ◌∷◌, ◌++◌, [], ℕ, Err, Some, IfErr, IfOk, OnOk, slice_index_or, vec_capacity, vec_len};
 ghost use Rattle.versions.specs.Working.{left_at};
 ghost use Rattle.beside.specs.Beside.{newcomer};
+ghost use Rattle.serving.specs.Served.{CannotBegin};
 ghost use Rattle.serving.specs.Sittings.{AreSeated, AreSeatedTo, HasAdmitted, SeatsLast, seat_at, unbegun};
 
 use crate::channels::{Channel, SessionEnd};
@@ -15,7 +16,8 @@ use versions::{BySeats, DeskAndChain, Guest, Hub, Naming, UnnamedWithSeats};
 
 /// Adds to the end of a list.
 pub(crate) fn push<T: Drop>(list: &mut Vec<T>, item: T) -> Result<(), Fault>
-    ensures { OnOk result (list.new.items ≡ list.old.items ++ item ∷ []) }
+    ensures added { OnOk result (list.new.items ≡ list.old.items ++ item ∷ []) }
+    ensures fault { IfErr result CannotBegin }
 {
     match list.push(item) {
         Ok(()) => Ok(()),
@@ -38,7 +40,8 @@ pub(crate) fn admit_more(
     more: usize,
 ) -> Result<Vec<Seat<DeskAndChain>>, Fault>
     requires { unnamed.old.seats ≡ 1 }
-    ensures { IfOk result (λ v. HasAdmitted unnamed.old unnamed.new more v.items) }
+    ensures admitted { IfOk result (λ v. HasAdmitted unnamed.old unnamed.new more v.items) }
+    ensures fault { IfErr result CannotBegin }
 {
     let mut seats = Vec::with_capacity(alloc, more)?;
     for at in 0..more {
@@ -55,7 +58,8 @@ fn seat_one<N: Naming, R: Drop, W: Drop, L: Drop>(
     channel: Channel<R, W, L>,
 ) -> Result<Sitting<N, R, W, L>, Fault>
     requires { left_at guest.saw ≡ hub.now.state }
-    ensures { IfOk result (λ s. s ≡ unbegun (newcomer guest hub.now.state) channel) }
+    ensures seated { IfOk result (λ s. s ≡ unbegun (newcomer guest hub.now.state) channel) }
+    ensures fault { IfErr result CannotBegin }
 {
     match Visitor::new(hub, guest) {
         Ok(visitor) => Ok(Sitting {
@@ -77,7 +81,8 @@ fn seat_next<N: Naming, R: Drop, W: Drop, L: Drop>(
     sittings: &mut Vec<Sitting<N, R, W, L>>,
 ) -> Result<(), Fault>
     requires { left_at guest.saw ≡ hub.now.state }
-    ensures { OnOk result (sittings.new.items ≡ sittings.old.items ++ unbegun (newcomer guest hub.now.state) channel ∷ []) }
+    ensures seated { OnOk result (sittings.new.items ≡ sittings.old.items ++ unbegun (newcomer guest hub.now.state) channel ∷ []) }
+    ensures fault { IfErr result CannotBegin }
 {
     match seat_one(hub, guest, channel) {
         Ok(sitting) => push(sittings, sitting),
@@ -93,7 +98,8 @@ fn seat_last<N: Naming, R: Drop, W: Drop, L: Drop>(
     sittings: &mut Vec<Sitting<N, R, W, L>>,
 ) -> Result<(), Fault>
     requires { left_at guest.saw ≡ hub.now.state }
-    ensures { OnOk result (SeatsLast (newcomer guest hub.now.state) channels.old.items channels.new.items sittings.old.items sittings.new.items) }
+    ensures seated { OnOk result (SeatsLast (newcomer guest hub.now.state) channels.old.items channels.new.items sittings.old.items sittings.new.items) }
+    ensures fault { IfErr result CannotBegin }
 {
     match channels.pop() {
         Some(channel) => seat_next(hub, guest, channel, sittings),
@@ -110,7 +116,8 @@ fn seat_more<N: Naming, R: Drop, W: Drop, L: Drop>(
 ) -> Result<(), Fault>
     requires seats { (j : ℕ) (d : _) → j < vec_len seats → slice_index_or seats.items j d ≡ seat_at N.table hub.now.state (j + 1) }
     requires count { (vec_len channels.old ≡ vec_len seats + 1) × (vec_len sittings.old ≡ 0) }
-    ensures { OnOk result (AreSeatedTo 1 N.table hub.now.state channels.old.items channels.new.items sittings.new.items) }
+    ensures seated { OnOk result (AreSeatedTo 1 N.table hub.now.state channels.old.items channels.new.items sittings.new.items) }
+    ensures fault { IfErr result CannotBegin }
 {
     while let Some(seat) = seats.pop() {
         if let Err(fault) = seat_last(hub, Guest::over(seat), channels, sittings) {
@@ -131,7 +138,8 @@ fn seat_all<N: Naming, R: Drop, W: Drop, L: Drop>(
     requires first { first ≡ seat_at N.table hub.now.state 0 }
     requires seats { (j : ℕ) (d : _) → j < vec_len seats → slice_index_or seats.items j d ≡ seat_at N.table hub.now.state (j + 1) }
     requires count { vec_len channels ≡ vec_len seats + 1 }
-    ensures { IfOk result (λ v. AreSeated N.table hub.now.state channels.items v.items) }
+    ensures seated { IfOk result (λ v. AreSeated N.table hub.now.state channels.items v.items) }
+    ensures fault { IfErr result CannotBegin }
 {
     let mut sittings = Vec::new(alloc);
     if let Err(fault) = seat_more(hub, seats, &mut channels, &mut sittings) {
@@ -156,6 +164,7 @@ pub(crate) fn seat_with_room<N: Naming, R: Drop, W: Drop, L: Drop>(
     requires count { vec_len channels ≡ vec_len seats + 1 }
     ensures seated { IfOk result (λ both. AreSeated N.table hub.now.state channels.items both.0.items) }
     ensures room { IfOk result (λ both. (vec_len both.1 ≡ 0) × (vec_len both.0 ≤ vec_capacity both.1)) }
+    ensures fault { IfErr result CannotBegin }
 {
     let sittings = seat_all(alloc, hub, first, seats, channels)?;
     let room = Vec::with_capacity(alloc, sittings.len())?;

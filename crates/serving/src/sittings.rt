@@ -2,7 +2,7 @@
 
 ghost use Rattle.std.specs.Prelude.{◌≡◌, Some};
 ghost use Rattle.beside.specs.Beside.{BesideValue};
-ghost use Rattle.serving.specs.Sittings.{IsSat, Sits, fault_of};
+ghost use Rattle.serving.specs.Sittings.{IsSat, Sits, final_fault};
 
 use crate::channels::Channel;
 use crate::seated::Seated;
@@ -50,7 +50,7 @@ impl<N: Naming, R, W, L> Model for Sitting<N, R, W, L> {
 
 /// The fault of a session: that of its last visit, else that of its lines.
 fn fault_of(told: Result<(), Fault>, ended: Option<Fault>) -> Option<Fault>
-    ensures { result ≡ fault_of told ended }
+    ensures { result ≡ final_fault told ended }
 {
     match told {
         Ok(()) => ended,

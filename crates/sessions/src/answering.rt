@@ -1,7 +1,7 @@
 //! Who answers the lines of a script.
 
 use crate::faults::Fault;
-use answers::Answer;
+use answers::{Answer, Asked, Reason, Telling};
 use net_data::Net;
 use std::alloc::Global;
 
@@ -33,6 +33,9 @@ pub trait Answering: Drop {
         ensures command { IfOk result (λ answer. commands line.now self.old answer self.new) }
         ensures lost { OnErr result (fails line.now self.old self.new) }
         ensures fault { IfErr result (CutsOff needs_place) };
+
+    /// Shows the network after all accepted events to who explains why a line is refused.
+    fn show_net<T: Telling>(&self, alloc: Global, telling: &T, asked: Asked<'_>, why: Reason);
 
     /// The network that is left after the last line, given away.
     ///

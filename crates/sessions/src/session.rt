@@ -102,6 +102,21 @@ fn tell_bad_line<T: Telling>(
     )
 }
 
+/// Shows the network to who explains why a line is refused, if its answer says so.
+fn show_if_refused<A: Answering, T: Telling>(
+    alloc: Global,
+    state: &A,
+    telling: &T,
+    asked: Asked<'_>,
+    answer: &Answer,
+) {
+    if let Answer::Refused(why) = answer {
+        if telling.explains() {
+            state.show_net(alloc, telling, asked, *why);
+        }
+    }
+}
+
 /// Writes the answer to a line, which is neither too long nor silent.
 fn answer_line<A: Answering, T: Telling>(
     alloc: Global,
@@ -121,6 +136,7 @@ fn answer_line<A: Answering, T: Telling>(
         number,
         line: Some(line),
     };
+    show_if_refused(alloc, state, telling, asked, &answer);
     Ok(tell(alloc, telling, asked, answer, text)?)
 }
 
@@ -174,6 +190,7 @@ impl<A: Answering> Session<A> {
         ensures line { IsLine result.line [] }
         ensures answers { result.answers.items ≡ [] }
         ensures lines { result.lines ≡ 0 }
+        ensures number { result.number ≡ number }
     {
         Session {
             state,

@@ -1,6 +1,6 @@
 //! How often a run reads at most.
 
-use answers::{Answer, Reason};
+use answers::{Answer, Asked, Reason, Telling};
 use json_answers::Form;
 use net_data::Net;
 use sessions::{Answering, Fault, Session};
@@ -23,6 +23,8 @@ impl Answering for Mute {
     fn answer(&mut self, _alloc: Global, _line: &[u8]) -> Result<Answer, Fault> {
         Ok(Answer::Refused(Reason::BadLine))
     }
+
+    fn show_net<T: Telling>(&self, _alloc: Global, _telling: &T, _asked: Asked<'_>, _why: Reason) {}
 
     fn into_net(self, _alloc: Global) -> Result<Net, Fault> {
         Err(Fault::OutOfMemory)

@@ -2,3 +2,4 @@ pub mod PiecesLemmas
 pub mod MarkedLemmas
 pub mod RowLemmas
 pub mod WordsLemmas
+pub mod JoinLemmas

@@ -4,3 +4,4 @@ pub mod Kinds
 pub mod Marked
 pub mod Pieces
 pub mod Rows
+pub mod Entries

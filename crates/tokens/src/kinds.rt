@@ -2,7 +2,7 @@
 
 ghost use Rattle.std.specs.Prelude.{◌≡◌, Some};
 ghost use Rattle.net_items.specs.declared.items.Kind.{Kind};
-ghost use Rattle.tokens.specs.Kinds.{kind_of};
+ghost use Rattle.tokens.specs.Kinds.{kind_of, kind_text};
 
 use net_items::Kind;
 
@@ -17,4 +17,14 @@ pub fn read_kind(word: &[u8]) -> Option<Kind>
         return Some(Kind::Stp);
     }
     None
+}
+
+/// KIND: `sep` or `stp` (Q.705).
+pub fn point_kind_word(kind: Kind) -> &'static str
+    ensures { result.now ≡ kind_text kind }
+{
+    match kind {
+        Kind::Sep => "sep",
+        Kind::Stp => "stp",
+    }
 }

@@ -9,10 +9,11 @@
 //!    classes joined by `/`; a class is one or more CODEs joined by `+`.
 //! 6. Each token is read exactly if it is what is written of its value, so no value has two tokens.
 //!
-//! Stands on `net_items`, `smallvec`. A change here also changes specs/ (Kinds, Marked, Numbers, Pieces, Rows, Words),
+//! Stands on `net_items`, `smallvec`. A change here also changes specs/ (Entries, Kinds, Marked, Numbers, Pieces, Rows, Words),
 //! proofs/ and must-fail/.
 #![tactic(auto)]
 
+pub mod entries;
 pub mod kinds;
 pub mod laws;
 pub mod marked;
@@ -20,9 +21,10 @@ pub mod numbers;
 pub mod rows;
 pub mod words;
 
-pub use kinds::read_kind;
+pub use entries::{write_pair, write_plan, write_point, write_set};
+pub use kinds::{point_kind_word, read_kind};
 pub use laws::{id_law, kind_law, marked_law, rank_law, row_law, slc_law, words_law};
-pub use marked::{Format, read_marked, write_marked};
+pub use marked::{Format, put_links, read_marked, write_marked};
 pub use numbers::{read_code, read_id, read_rank, read_slc};
 pub use rows::read_row;
 pub use words::{put_if, split_words};

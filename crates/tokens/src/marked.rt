@@ -1,7 +1,8 @@
 //! MARKED: a link with its marks, in the two formats of a network text.
 
-ghost use Rattle.std.specs.Prelude.{◌≡◌, ◌<◌, ◌≤◌, ◌++◌, not, length, drop, if◌then◌else◌, Some, IfOk, IfSome, OnOk, position, string_bytes};
+ghost use Rattle.std.specs.Prelude.{◌≡◌, ◌<◌, ◌≤◌, ◌∷◌, ◌++◌, not, length, drop, if◌then◌else◌, Some, IfOk, IfSome, OnOk, position, string_bytes};
 ghost use Rattle.std.specs.Char.{is_ascii_digit};
+ghost use Rattle.std.specs.List.{flat_map};
 ghost use Rattle.net_items.specs.declared.links.Link.{Link};
 ghost use Rattle.tokens.specs.Marked.{starts_with, marks_in_one, marks_in_two, digits_len, marked_of, marks_text, marked_text};
 ghost use Rattle.tokens.specs.declared.marked.Format.TheVariants.{Two};
@@ -125,4 +126,20 @@ pub fn write_marked(alloc: Global, link: &Link) -> Result<String, AllocError>
     let mut text = format!(in alloc; "{slc}")?;
     put_marks(&mut text, link.marks)?;
     Ok(text)
+}
+
+/// Adds links with their marks, each after a space, as format 2 writes them.
+///
+/// # Errors
+///
+/// `AllocError` if memory is refused; some of the links may stand in the text then.
+pub fn put_links(alloc: Global, text: &mut String, links: &[Link]) -> Result<(), AllocError>
+    ensures { OnOk result (string_bytes text.new ≡ string_bytes text.old ++ flat_map (λ x. 32 ∷ marked_text Two x) links.now) }
+{
+    for link in links {
+        let word = write_marked(alloc, link)?;
+        text.push_str(" ")?;
+        text.push_str(word.as_str())?;
+    }
+    Ok(())
 }

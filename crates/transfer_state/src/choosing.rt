@@ -46,7 +46,7 @@ pub(crate) fn far_by_choices(e: &Excerpt, choices: &[Kept], code: PointCode) -> 
     if code == e.dest() {
         return Far::Allowed;
     }
-    match e.place_by_code(code) {
+    match e.position_by_code(code) {
         Ok(at) => choices[at].status(),
         Err(_) => Far::Prohibited,
     }

@@ -65,7 +65,7 @@ fn mark_row(e: &Excerpt, marks: &mut Vec<usize>, point: PointCode) -> Result<(),
     ensures marked { OnOk result (HasMark e.now marks.new.items point) }
 {
     e.validity();
-    match e.place_of_row(point) {
+    match e.position_of_row(point) {
         Ok(at) => mark_found(e, marks, point, at),
         Err(_) => Ok(()),
     }
@@ -141,7 +141,7 @@ fn mark_ends(e: &Excerpt, marks: &mut Vec<usize>, ends: &Ends) -> Result<(), All
     ensures kept { OnOk result (KeepsMarks marks.old.items marks.new.items) }
     ensures marked { OnOk result (HasMarksOf e.now marks.new.items ends.now.point ends.now.other) }
 {
-    match e.place_leading(ends.point, ends.other, ends.transfers) {
+    match e.position_leading(ends.point, ends.other, ends.transfers) {
         Some(at) => {
             mark_found(e, marks, ends.point, at)?;
             mark_mate(e, marks, ends.point)
@@ -276,8 +276,8 @@ fn followed(
     Ok(None)
 }
 
-/// How many rows at the ends of sets that turned stand where they are expected, by their codes.
-fn count_expected(e: &Excerpt, turned: &[Ends]) -> usize {
+/// Reads ahead the codes of rows at the ends of sets that turned: how many of these rows stand where they are expected.
+fn read_codes_ahead(e: &Excerpt, turned: &[Ends]) -> usize {
     let mut count = 0usize;
     for ends in turned {
         if ends.transfers {
@@ -287,8 +287,8 @@ fn count_expected(e: &Excerpt, turned: &[Ends]) -> usize {
     count
 }
 
-/// How many of them stand near there.
-fn count_near(e: &Excerpt, turned: &[Ends]) -> usize {
+/// Reads ahead these rows: how many of them stand near where they are expected.
+fn read_rows_ahead(e: &Excerpt, turned: &[Ends]) -> usize {
     let mut count = 0usize;
     for ends in turned {
         if ends.transfers {
@@ -298,11 +298,11 @@ fn count_near(e: &Excerpt, turned: &[Ends]) -> usize {
     count
 }
 
-/// About how many rows will be marked. One pass reads their codes and the next one the rows, so that what comes from memory comes at
-/// once, and not one row after the other while they are marked.
-fn expected_marks(e: &Excerpt, turned: &[Ends]) -> usize {
-    let expected = count_expected(e, turned);
-    expected.max(count_near(e, turned))
+/// Reads ahead what will be marked: about how many rows that are. One pass reads their codes and the next one the rows, so that what comes
+/// from memory comes at once, and not one row after the other while they are marked.
+fn read_ahead(e: &Excerpt, turned: &[Ends]) -> usize {
+    let expected = read_codes_ahead(e, turned);
+    expected.max(read_rows_ahead(e, turned))
 }
 
 /// The places of the rows that rest on a set between the two points of any of these pairs.
@@ -311,7 +311,7 @@ fn marks_of(alloc: Global, e: &Excerpt, turned: &[Ends]) -> Result<Vec<usize>, A
     ensures within { IfOk result (λ marks. AreMarks e.now marks.items) }
     ensures marked { IfOk result (λ marks. (y z : ℕ) → has_ends turned.now y z ≡ true → HasMarksOf e.now marks.items y z) }
 {
-    let mut marks = Vec::with_capacity(alloc, expected_marks(e, turned))?;
+    let mut marks = Vec::with_capacity(alloc, read_ahead(e, turned))?;
     mark_turned(e, &mut marks, turned)?;
     Ok(marks)
 }

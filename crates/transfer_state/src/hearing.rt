@@ -84,7 +84,7 @@ fn heard_from(e: &Excerpt, heard: &Heard<'_>, point: PointCode, neighbour: Point
     ensures { result ≡ heard_from_of (heard_table (source_of e.now) heard.now) point neighbour }
 {
     e.validity();
-    match e.place_of_row(neighbour) {
+    match e.position_of_row(neighbour) {
         Ok(at) => heard_in_place(e, heard, at, point),
         Err(_) => Far::Prohibited,
     }

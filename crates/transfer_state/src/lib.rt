@@ -37,5 +37,5 @@ pub use complaints::{Clause, Complaint, check};
 pub use kept::Kept;
 pub use profile::tables::{LinkRef, Message, Messages, RowLinks, RowState, RowStates, Table};
 pub use routing::{Routing, RoutingSlot};
-pub use states::is_member;
+pub use states::{is_member, size_of};
 pub use table::table_of;

@@ -33,7 +33,7 @@ pub(crate) fn found<'a>(
 {
     e.validity();
     let rows = rows_of(e);
-    match e.place_of_row(point) {
+    match e.position_of_row(point) {
         Ok(at) => {
             let row = &rows[at];
             Some((row, opened_choice(e, row, choices[at])))
@@ -50,7 +50,7 @@ pub(crate) fn row_status_at(e: &Excerpt, choices: &[Kept], point: PointCode) -> 
 {
     e.validity();
     let rows = rows_of(e);
-    match e.place_by_code(point) {
+    match e.position_by_code(point) {
         Ok(at) => {
             // The proof reads the row from this.
             let _row = &rows[at];

@@ -16,8 +16,8 @@ use route_choice::{Choice, Far};
 use sls_share::Carried;
 use std::alloc::{AllocError, Global};
 
-/// The configured number of vias of a class; the mate counts as one.
-pub(crate) fn size_of(row: &Row, class: u8) -> u8
+/// The configured number of vias of a class of a row, 1 to 5, 0 if the row has none; the mate, class 5, counts as one.
+pub fn size_of(row: &Row, class: u8) -> u8
     requires { IsSmall row.now }
     ensures { result ≡ size_by row.now class }
 {

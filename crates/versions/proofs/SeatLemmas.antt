@@ -8,14 +8,14 @@ use Rattle.work_units.specs.declared.replies.Posted.{Posted}
 use Rattle.work_units.specs.declared.replies.Refusal.{Refusal}
 use Rattle.desk_core.specs.Steps.{Posts}
 use Rattle.versions.specs.declared.state.DeskAndChain.{DeskAndChain}
-use Rattle.versions.specs.Working.{AreKept, Comes, ComesAndDoes, Follow, IsAgreed, IsCall, IsGuest, IsHistory, IsWorkedOn, Leads, last_sight, leaving, left_at}
+use Rattle.versions.specs.Working.{AreKept, Comes, ComesAndDoes, Follow, IsAgreed, IsCall, IsGuest, IsHistory, IsWorkedOn, StepsTo, last_sight, leaving, left_at}
 
 -- no step
 pub stays : (s : DeskAndChain) → IsWorkedOn s s
 stays s = ([], [], refl)
 
 -- one sight more
-follow_push : (x : Sight DeskAndChain) (xs : List (Sight DeskAndChain)) (y : Sight DeskAndChain) → Follow x xs → Leads (last_sight x xs) y → Follow x (xs ++ y ∷ [])
+follow_push : (x : Sight DeskAndChain) (xs : List (Sight DeskAndChain)) (y : Sight DeskAndChain) → Follow x xs → StepsTo (last_sight x xs) y → Follow x (xs ++ y ∷ [])
 follow_push x [] y are is = (is, tt)
 follow_push x (z ∷ zs) y are is = (are.0, follow_push z zs y are.1 is)
 
@@ -37,7 +37,7 @@ pub did : (log : List (Sight DeskAndChain)) (me : ℕ) (found left : DeskAndChai
 did [] me found left is call = (inr (refl, call), tt)
 did (x ∷ xs) me found left is call =
     follow_push x (xs ++ sight me found ∷ []) (sight me left) is
-    (subst (λ (s : Sight DeskAndChain). Leads s (sight me left)) (sym (last_push x xs (sight me found))) (inr (refl, call)))
+    (subst (λ (s : Sight DeskAndChain). StepsTo s (sight me left)) (sym (last_push x xs (sight me found))) (inr (refl, call)))
 
 -- whoever was last there has left the minutes so
 after_last : (table : TableId) (seats : ℕ) (minutes : MinutesValue DeskAndChain) (log : List (Sight DeskAndChain)) (me : ℕ) (state : DeskAndChain) → minutes.table ≡ table → minutes.seats ≡ seats

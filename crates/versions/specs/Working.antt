@@ -66,13 +66,13 @@ pub record IsCall (old new : DeskAndChain) : Type 0 where
   pub shown : new.shown ≡ old.shown
 
 -- from one sight to the next workers made steps, or the one who was there posted
-abbrev pub Leads : Sight DeskAndChain → Sight DeskAndChain → Type 0
-Leads one next = IsWorkedOn one.state next.state ⊎ ((next.by ≡ one.by) × IsCall one.state next.state)
+abbrev pub StepsTo : Sight DeskAndChain → Sight DeskAndChain → Type 0
+StepsTo one next = IsWorkedOn one.state next.state ⊎ ((next.by ≡ one.by) × IsCall one.state next.state)
 
 -- so does each of these to the next, from this one on
 abbrev pub Follow : Sight DeskAndChain → List (Sight DeskAndChain) → Type 0
 Follow one [] = Unit {0}
-Follow one (next ∷ later) = Leads one next × Follow next later
+Follow one (next ∷ later) = StepsTo one next × Follow next later
 
 -- the last of these, this one if there is none
 abbrev pub last_sight : Sight DeskAndChain → List (Sight DeskAndChain) → Sight DeskAndChain

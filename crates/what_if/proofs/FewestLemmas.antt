@@ -18,7 +18,7 @@ use Rattle.profile.specs.Walk.{Walk, arrive, by_via, by_mate}
 use Rattle.profile.proofs.UnfoldingLemmas.{row_valid, rank_is, via_lower, mate_row_has, mate_row_valid}
 use Rattle.profile.proofs.WalkLemmas.{reached_walk, walk_reached}
 use Rattle.what_if.specs.declared.mending.SetLink.{SetLink}
-use Rattle.what_if.specs.Mending.{names, restored, between, over, fewer, fewest_of, over_vias, over_mate, row_mend, mend, Reaches, IsMend}
+use Rattle.what_if.specs.Mending.{names, restored, between, over, fewer, fewest_of, over_vias, mend_over_mate, row_mend, mend, Reaches, IsMend}
 use Rattle.what_if.proofs.MendUnfoldingLemmas.{All-vias, mend_is, mend_of_dest, mend_of_row}
 use Rattle.what_if.proofs.RestoringLemmas.{names_of, opened_cases, between_opens, restored_valid}
 
@@ -380,7 +380,7 @@ module _ (src : Source) (valid : IsValidSource src) (rising : IsRising (λ (set 
         whole = subst (λ (o : Option (List SetLink)). IsWithin o (count (both_up_to src (source_rank src y)) list)) (sym (mend_of_row src valid y row planned))
             (within_more (row_mend src (mend src) row) (count (not_both src (source_rank src y)) list) (count (both_up_to src (source_rank src y)) list)
             (count_weaker (not_both src (source_rank src y)) (both_up_to src (source_rank src y)) (less (source_rank src y)) list)
-            (fewer_first (over_vias src (mend src) row) (over_mate src (mend src) row) (count (not_both src (source_rank src y)) list) vias));
+            (fewer_first (over_vias src (mend src) row) (mend_over_mate src (mend src) row) (count (not_both src (source_rank src y)) list) vias));
         on = inr (row, planned, inr vias);
       }
   walk_costs {y = y} (by_mate row mate planned flag paired mate_planned joined rest) =
@@ -399,11 +399,11 @@ module _ (src : Source) (valid : IsValidSource src) (rising : IsRising (λ (set 
         ]
       ] in
       let here : IsWithin (over src row.point mate.point (over_vias src (mend src) mate)) (count (both_up_to src (source_rank src row.point)) list) = over_even row.point mate.point (over_vias src (mend src) mate) even joined vias in
-      let needs : over_mate src (mend src) row ≡ over src row.point mate.point (over_vias src (mend src) mate) = rw is_mate refl in
+      let needs : mend_over_mate src (mend src) row ≡ over src row.point mate.point (over_vias src (mend src) mate) = rw is_mate refl in
       record {
         whole = subst (λ (o : Option (List SetLink)). IsWithin o (count (both_up_to src (source_rank src y)) list)) (sym (mend_of_row src valid y row planned))
-            (fewer_second (over_vias src (mend src) row) (over_mate src (mend src) row) (count (both_up_to src (source_rank src y)) list)
-            (subst (λ n. IsWithin (over_mate src (mend src) row) (count (both_up_to src n) list)) at
+            (fewer_second (over_vias src (mend src) row) (mend_over_mate src (mend src) row) (count (both_up_to src (source_rank src y)) list)
+            (subst (λ n. IsWithin (mend_over_mate src (mend src) row) (count (both_up_to src n) list)) at
             (subst (λ (o : Option (List SetLink)). IsWithin o (count (both_up_to src (source_rank src row.point)) list)) (sym needs) here)));
         on = inr (row, planned, inl refl);
       }
@@ -448,14 +448,14 @@ module _ (src : Source) (valid : IsValidSource src) (rising : IsRising (λ (set 
           let lower : (z : ℕ) (back : List SetLink) → source_rank src z < row.rank → mend src z ≡ Some back → All Named back → Walk (restored list src) true z
           = λ z back l up named. vias z back (omega (arith, l, rank)) up named in
           let needs : row_mend src (mend src) row ≡ Some needed = sym (mend_of_row src valid y row f) ∙ e in
-          elim (fewer_cases (over_vias src (mend src) row) (over_mate src (mend src) row) needed needs) [
+          elim (fewer_cases (over_vias src (mend src) row) (mend_over_mate src (mend src) row) needed needs) [
             | inl over_via ↦ walk_over_vias row true y needed f r.1 lower over_via named
             | inr over_the_mate ↦ mated row y r.1 f lower over_the_mate (mate_row src row) refl
           ]
         where
           mated : (row : Row) (y : ℕ) → IsValidRow src row → source_row src y ≡ Some row
               → ((z : ℕ) (back : List SetLink) → source_rank src z < row.rank → mend src z ≡ Some back → All Named back → Walk (restored list src) true z)
-              → over_mate src (mend src) row ≡ Some needed → (o : Option Row) → mate_row src row ≡ o → Walk (restored list src) true y
+              → mend_over_mate src (mend src) row ≡ Some needed → (o : Option Row) → mate_row src row ≡ o → Walk (restored list src) true y
           mated row y ok planned lower is None none = let no : None ≡ Some needed = rw none at is in cc
           mated row y ok planned lower is (Some mate) m =
               let has = mate_row_has src valid row mate ok m in

@@ -9,7 +9,7 @@ use Rattle.profile.specs.Status.{Source, source_row, source_rank, mate_row}
 use Rattle.profile.specs.Valid.{IsVia, IsValidRow, IsValidSource}
 use Rattle.profile.proofs.UnfoldingLemmas.{row_valid, rank_is, via_lower, mate_row_valid}
 use Rattle.what_if.specs.declared.mending.SetLink.{SetLink}
-use Rattle.what_if.specs.Mending.{over, fewest_of, over_vias, over_mate, row_mend, mend_by, mend_within, mend}
+use Rattle.what_if.specs.Mending.{over, fewest_of, over_vias, mend_over_mate, row_mend, mend_by, mend_within, mend}
 
 -- two tellings agree below a rank
 pub record MendsAgree (src : Source) (n : ℕ) (f g : ℕ → Option (List SetLink)) : Type 0 where
@@ -27,10 +27,10 @@ module _ (src : Source) (valid : IsValidSource src) where
       (All-weaker (IsVia src row) (λ z. over src row.point z (f z) ≡ over src row.point z (g z))
       (λ z via. ap (over src row.point z) (same.agree z (via_lower src valid row z ok via))) (vias_of row) (All-vias (IsVia src row) row.classes ok.vias)))
 
-  pub over_mate_same : (f g : ℕ → Option (List SetLink)) (row : Row) → IsValidRow src row → MendsAgree src row.rank f g → over_mate src f row ≡ over_mate src g row
+  pub over_mate_same : (f g : ℕ → Option (List SetLink)) (row : Row) → IsValidRow src row → MendsAgree src row.rank f g → mend_over_mate src f row ≡ mend_over_mate src g row
   over_mate_same f g row ok same = go (mate_row src row) refl
     where
-      go : (o : Option Row) → mate_row src row ≡ o → over_mate src f row ≡ over_mate src g row
+      go : (o : Option Row) → mate_row src row ≡ o → mend_over_mate src f row ≡ mend_over_mate src g row
       go None e = rw e refl
       go (Some mate) e =
           let m = mate_row_valid src valid row mate ok e in

@@ -14,7 +14,7 @@ use Rattle.link_sets.proofs.ListLemmas.{and_first}
 use Rattle.profile.specs.Status.{Source}
 use Rattle.profile.specs.Valid.{IsLower, HasMate, IsVia, IsValidRow, IsValidSource}
 use Rattle.what_if.specs.declared.mending.SetLink.{SetLink}
-use Rattle.what_if.specs.Mending.{names, no_marks, restored_link, restored_set, restored, first_of, between}
+use Rattle.what_if.specs.Mending.{names, no_marks, restored_link, restored_set, restored, first_link, between}
 
 -- a list names some link of the set of this id
 abbrev pub names_of : List SetLink → ℕ → Bool
@@ -77,7 +77,7 @@ named_of (l ∷ list) id link e = elim (or_cases (eqb l.id id && eqb l.link.slc 
 
 -- a set that is available once links are restored was so before, or a link of it is named
 pub links_were : (list : List SetLink) (id : ℕ) (links : List Link) → list_any link_available (map (restored_link list id) links) ≡ true
-    → (list_any link_available links ≡ true) ⊎ ((names_of list id ≡ true) × ((first : Link) × (first_of id links ≡ Some (record { id = id; link = first } ∷ []))))
+    → (list_any link_available links ≡ true) ⊎ ((names_of list id ≡ true) × ((first : Link) × (first_link id links ≡ Some (record { id = id; link = first } ∷ []))))
 links_were list id [] up = inl up
 links_were list id (link ∷ links) up = elim (or_cases (link_available (restored_link list id link)) (list_any link_available (map (restored_link list id) links)) up) [
   | inl here ↦ elim (link_was list id link here) [
@@ -125,7 +125,7 @@ opened_cases src list y z up = go (connected src.sets y z) refl
 pub between_opens : (src : Source) (list : List SetLink) (y z : ℕ) (front : List SetLink) → between src y z ≡ Some front → All (λ (l : SetLink). names list l.id l.link ≡ true) front → connected (restored list src).sets y z ≡ true
 between_opens src list y z front is named = go (connected src.sets y z) refl
   where
-    set_opens : (set : LinkSet) (links : List Link) → first_of set.id links ≡ Some front → list_any link_available (map (restored_link list set.id) links) ≡ true
+    set_opens : (set : LinkSet) (links : List Link) → first_link set.id links ≡ Some front → list_any link_available (map (restored_link list set.id) links) ≡ true
     set_opens set [] e = let none : None ≡ Some front = e in cc
     set_opens set (link ∷ links) e =
         let same : record { id = set.id; link = link } ∷ [] ≡ front = same_Some (record { id = set.id; link = link } ∷ []) front e in
@@ -133,14 +133,14 @@ between_opens src list y z front is named = go (connected src.sets y z) refl
         or_left (link_available (restored_link list set.id link)) (list_any link_available (map (restored_link list set.id) links))
         (restored_available list set.id link (All-head (λ (l : SetLink). names list l.id l.link ≡ true) (record { id = set.id; link = link }) [] all))
 
-    down : (o : Option LinkSet) → set_between src.sets y z ≡ o → option_and_then (λ (set : LinkSet). first_of set.id set.links) o ≡ Some front → option_map_or set_available (option_map (restored_set list) o) false ≡ true
+    down : (o : Option LinkSet) → set_between src.sets y z ≡ o → option_and_then (λ (set : LinkSet). first_link set.id set.links) o ≡ Some front → option_map_or set_available (option_map (restored_set list) o) false ≡ true
     down None e f = let none : None ≡ Some front = f in cc
     down (Some set) e f = set_opens set set.links f
 
     go : (b : Bool) → connected src.sets y z ≡ b → connected (restored list src).sets y z ≡ true
     go true e = connected_kept list src.sets y z e
     go false e =
-        let shut : option_and_then (λ (set : LinkSet). first_of set.id set.links) (set_between src.sets y z) ≡ Some front = rw e at is in
+        let shut : option_and_then (λ (set : LinkSet). first_link set.id set.links) (set_between src.sets y z) ≡ Some front = rw e at is in
         ap (λ (o : Option LinkSet). option_map_or set_available o false) (set_between_restored list src.sets y z) ∙ down (set_between src.sets y z) refl shut
 
 -- a set that is there stays there

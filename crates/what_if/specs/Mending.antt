@@ -51,13 +51,13 @@ IsMend src y (Some list) = IsFewest src y list
 -- ---- which of them is told
 
 -- the first link of a set
-abbrev pub first_of : ℕ → List Link → Option (List SetLink)
-first_of id [] = None
-first_of id (link ∷ links) = Some (record { id = id; link = link } ∷ [])
+abbrev pub first_link : ℕ → List Link → Option (List SetLink)
+first_link id [] = None
+first_link id (link ∷ links) = Some (record { id = id; link = link } ∷ [])
 
 -- what has to be restored between two points: nothing if an available set joins them (Q.704 clause 3.2), else the set's first link
 abbrev pub between : Source → ℕ → ℕ → Option (List SetLink)
-between src y z = if connected src.sets y z then Some [] else option_and_then (λ (set : LinkSet). first_of set.id set.links) (set_between src.sets y z)
+between src y z = if connected src.sets y z then Some [] else option_and_then (λ (set : LinkSet). first_link set.id set.links) (set_between src.sets y z)
 
 -- what has to be restored for a point to reach the destination over an adjacent one, of which this has to be
 abbrev pub over : Source → ℕ → ℕ → Option (List SetLink) → Option (List SetLink)
@@ -79,12 +79,12 @@ abbrev pub over_vias : Source → (ℕ → Option (List SetLink)) → Row → Op
 over_vias src mend row = fewest_of (map (λ z. over src row.point z (mend z)) (vias_of row))
 
 -- over the mate, if the row may use it, and the mate's vias
-abbrev pub over_mate : Source → (ℕ → Option (List SetLink)) → Row → Option (List SetLink)
-over_mate src mend row = option_and_then (λ (mate : Row). over src row.point mate.point (over_vias src mend mate)) (mate_row src row)
+abbrev pub mend_over_mate : Source → (ℕ → Option (List SetLink)) → Row → Option (List SetLink)
+mend_over_mate src mend row = option_and_then (λ (mate : Row). over src row.point mate.point (over_vias src mend mate)) (mate_row src row)
 
 -- what a row needs: the vias come before the mate
 abbrev pub row_mend : Source → (ℕ → Option (List SetLink)) → Row → Option (List SetLink)
-row_mend src mend row = fewer (over_vias src mend row) (over_mate src mend row)
+row_mend src mend row = fewer (over_vias src mend row) (mend_over_mate src mend row)
 
 -- what a point needs, where `mend` tells what those of lower rank need: nothing at the destination
 abbrev pub mend_by : Source → (ℕ → Option (List SetLink)) → ℕ → Option (List SetLink)

@@ -6,7 +6,7 @@ ghost use Rattle.excerpts.specs.Excerpt.{source_of};
 ghost use Rattle.profile.specs.Status.{mate_row as the_mate_row, source_row, status};
 ghost use Rattle.profile.specs.Valid.{IsValidRow};
 ghost use Rattle.route_choice.specs.declared.choices.Far.TheVariants.{Prohibited};
-ghost use Rattle.what_if.specs.Mending.{IsKnown, IsMend, KnowsMends, between as the_between, fewer, fewest_of, mend as the_mend, over, over_mate as the_over_mate, over_vias as the_over_vias, row_mend as the_row_mend};
+ghost use Rattle.what_if.specs.Mending.{IsKnown, IsMend, KnowsMends, between as the_between, fewer, fewest_of, mend as the_mend, over, mend_over_mate as the_over_mate, over_vias as the_over_vias, row_mend as the_row_mend};
 
 use excerpts::Excerpt;
 use net_items::{Link, Row};
@@ -86,8 +86,8 @@ fn between(excerpt: &Excerpt, point: PointCode, other: PointCode) -> Option<Opti
     }))
 }
 
-/// What a point needs, where that of the rows stands in their places: nothing at the destination.
-fn known<'a>(
+/// What a point needs, if that of the rows stands at their positions: nothing at the destination.
+fn mend_of<'a>(
     excerpt: &Excerpt,
     mends: &'a [Option<Mend>],
     point: PointCode,
@@ -100,7 +100,7 @@ fn known<'a>(
     if point == excerpt.dest() {
         return Some(&[]);
     }
-    match excerpt.place_of_row(point) {
+    match excerpt.position_of_row(point) {
         Ok(at) => match &mends[at] {
             Some(mend) => Some(mend.as_slice()),
             None => None,
@@ -154,7 +154,7 @@ fn add_via(
     let Some(front) = between(excerpt, point, via) else {
         return Ok(());
     };
-    match known(excerpt, mends, via) {
+    match mend_of(excerpt, mends, via) {
         Some(back) => take_fewer(alloc, least, front, back),
         None => Ok(()),
     }

@@ -1,7 +1,7 @@
 use Rattle.std.proofs.Common.{◌≡◌, take, map}
 use Rattle.toml.specs.Data.{string}
 use Rattle.toml.specs.View.{view}
-use Rattle.net_saving.specs.Writing.{set_text}
+use Rattle.tokens.specs.Entries.{set_text}
 use Rattle.net_saving.proofs.entries.write_sets.Given as goal
 
 abbrev pub invariant-loop-set : goal.invariant-loop-set

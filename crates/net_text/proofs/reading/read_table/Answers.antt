@@ -1,4 +1,4 @@
-use Rattle.std.proofs.Common.{◌≡◌, ◌∙◌, Ok, map, rules}
+use Rattle.std.proofs.Common.{◌∙◌, map, rules}
 use Rattle.toml.specs.View.{view, table_view}
 use Rattle.net_text.specs.Keys.{text_of}
 use Rattle.net_text.proofs.PlanLemmas.{plans_last}

@@ -1,5 +1,0 @@
-use Rattle.net_saving.proofs.JoinLemmas.{plan_tails}
-use Rattle.net_saving.proofs.writing.write_plan.Goals as goal
-
-pub returns : goal.returns
-returns c = plan_tails c.args.plan.now.dest c.args.plan.now.rows _ _ _ c.in_ok-text.ensures.ok c.as_slice.ensures c.in_ok-put_rows.ensures
