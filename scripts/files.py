@@ -194,10 +194,63 @@ def a_device_is_saved_to(folder):
 
 
 def a_picture_goes_to_no_device_and_no_pipe(folder):
-    os.mkfifo(os.path.join(folder, "pipe"))
-    got = run(["run", NETWORK, "--explain"], "picture /dev/null\npicture pipe\n", cwd=folder)
-    reasons = "line 1: /dev/null: a device isn't written\nline 2: pipe: a pipe isn't written\n"
+    os.mkfifo(os.path.join(folder, "pipe.dot"))
+    os.symlink("/dev/null", os.path.join(folder, "nothing.dot"))
+    got = run(["run", NETWORK, "--explain"], "picture nothing.dot\npicture pipe.dot\n", cwd=folder)
+    reasons = "line 1: nothing.dot: a device isn't written\nline 2: pipe.dot: a pipe isn't written\n"
     want(got == ("refused 64 Write\n" * 2, reasons, 0), f"the run: {got}")
+
+
+def a_picture_has_the_ending_of_one(folder):
+    names = ("now", "now.png", "now.toml", "svg", ".svg", "now.svg/..", "/dev/stdout")
+    got = run(["run", NETWORK, "--explain"], "".join(f"picture {name}\n" for name in names), cwd=folder)
+    reasons = "".join(f"line {at}: {name}: a picture's name ends in .svg, .dot or .gv\n" for at, name in enumerate(names, 1))
+    want(got == ("refused 64 Write\n" * len(names), reasons, 0), f"the run: {got}")
+    want(os.listdir(folder) == [], "no file")
+
+
+def endings_are_read_in_either_case(folder):
+    got = run(["run", NETWORK], "picture one.SVG\npicture two.Dot\npicture three.gv\n", cwd=folder)
+    want(got == ("picture one.SVG\npicture two.Dot\npicture three.gv\n", "", 0), f"the run: {got}")
+    want(read(folder, "one.SVG") == run(["picture", NETWORK, "--svg"])[0], "an SVG document")
+    want(read(folder, "two.Dot") == read(folder, "three.gv") == run(["picture", NETWORK])[0], "a DOT text")
+
+
+KEPT = "this run reads it, or writes its answers to it"
+
+
+def a_picture_takes_the_place_of_no_file_of_its_run(folder):
+    with open(NETWORK, encoding="utf-8") as it:
+        text = it.read()
+    write(folder, "net.dot", text)
+    os.symlink("net.dot", os.path.join(folder, "link.dot"))
+    script = "picture net.dot\npicture link.dot\npicture ./answers.dot\nversion\n"
+    with open(os.path.join(folder, "answers.dot"), "w", encoding="utf-8") as answers:
+        ran = subprocess.run([PROGRAM, "run", "net.dot", "--explain"], input=script, stdout=answers, stderr=subprocess.PIPE, text=True, timeout=60, cwd=folder)
+    names = ("net.dot", "link.dot", "./answers.dot")
+    want(ran.stderr == "".join(f"line {at}: {name}: {KEPT}\n" for at, name in enumerate(names, 1)), f"the reasons: {ran.stderr}")
+    want(read(folder, "answers.dot") == "refused 64 Write\n" * 3 + "version 0 accepted 0\n", "the answers")
+    want(read(folder, "net.dot") == text, "the network")
+    write(folder, "steps.dot", "picture steps.dot\n")
+    want(run(["play", "net.dot", "steps.dot"], cwd=folder) == ("refused 64 Write\n", "", 0), "a script that is played")
+    want(read(folder, "steps.dot") == "picture steps.dot\n", "the script")
+
+
+def a_picture_takes_the_place_of_no_file_of_a_seat(folder):
+    names = ("net.dot", "seats.dot", "one.dot", "two.dot", "two.gv", "three.dot")
+    with open(NETWORK, encoding="utf-8") as it:
+        texts = {"net.dot": it.read()}
+    texts["seats.dot"] = ('[[seat]]\nname = "a"\nin = "one.dot"\nout = "answers"\n'
+                          '[[seat]]\nname = "b"\nin = "two.dot"\nout = "two.gv"\n')
+    texts["one.dot"] = "".join(f"picture {name}\n" for name in names)
+    texts["two.dot"] = "version\n"
+    for name, text in texts.items():
+        write(folder, name, text)
+    got = run(["serve", "net.dot", "seats.dot"], cwd=folder)
+    want(got == ("", "", 0), f"the run: {got}")
+    want(read(folder, "answers") == "refused 64 Write\n" * 5 + "picture three.dot\n", "the answers")
+    want(all(read(folder, name) == text for name, text in texts.items()), "what is read")
+    want(read(folder, "two.gv") == "version 0 accepted 0\n", "the answers of the other seat")
 
 
 def a_table_goes_to_no_pipe(folder):

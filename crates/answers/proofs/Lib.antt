@@ -1,3 +1,4 @@
 pub mod DigitLemmas
 pub mod HelpLemmas
 pub mod RowLemmas
+pub mod ShownLemmas

@@ -10,6 +10,7 @@ use Rattle.answers.specs.DeskRefusals.{desk_name, desk_values}
 use Rattle.answers.specs.Links.{links_text}
 use Rattle.answers.specs.Mend.{mend_text}
 use Rattle.answers.specs.Messages.{messages_text, octets_text}
+use Rattle.answers.specs.Shown.{shown_text}
 use Rattle.answers.specs.Status.{status_text}
 use Rattle.answers.specs.Traces.{trace_text}
 use Rattle.answers.specs.Refusals.{refusal_name, refusal_values}
@@ -97,6 +98,7 @@ answer_text (answer.Reply r) = reply_text r
 answer_text (answer.Publication p) = publication_text p
 answer_text (answer.Row r) = row_text r
 answer_text (answer.Net n) = net_text n
+answer_text (answer.Shown what) = shown_text what
 answer_text (answer.Help text) = text
 answer_text (answer.Refused why) = reason_text why
 

@@ -13,5 +13,6 @@ pub mod Changes
 pub mod Audits
 pub mod Replies
 pub mod Help
+pub mod Shown
 pub mod Answers
 pub mod Filed

@@ -1,5 +1,6 @@
 //! What is answered to a line, with its values.
 
+use crate::shown::ShownBox;
 use crate::text::Text;
 use crate::ways::Ways;
 use point_codes::PointCode;
@@ -103,6 +104,8 @@ pub enum Answer {
     Row(RowAnswer),
     /// What is told of the whole network.
     Net(NetAnswer),
+    /// What is shown of the network.
+    Shown(ShownBox),
     /// What `help` tells.
     Help(Text),
     /// Why the line is refused.

@@ -21,18 +21,22 @@
 //!     what-if; nothing if there is no version before. `watch on` and `watch off` are answered so.
 //! 11. A check of every table by the local rule: `audit ok P` for P tables, or `audit bad X Y c` for the first wrong
 //!    one: its destination, and the point and the letter of the first complaint.
-//! 12. Replies of the desk: a post is answered `taken N`, or `again N` if it was accepted before; an opening `opened T
+//! 12. What is shown of the published network: `show points N sets N links N down N plans N tfr on`; `show down` and `ID:MARKED` for each
+//!     link that isn't available; `show set`, `show point` and `show plan` with an entry of a network text, that of a point with its mate
+//!     and its sets; `statuses allowed N restricted N prohibited N` and `Y:STATUS` for each row of a plan. They are refused 17 NoSet, 10
+//!     NoPoint and 26 NoPlan where there is none.
+//! 13. Replies of the desk: a post is answered `taken N`, or `again N` if it was accepted before; an opening `opened T
 //!    waiting W`; the taking of a job `job V CODE`; a result `given`; an abandonment `abandoned`; a publication `published
 //!    N`; `synced N` and `version P accepted N` tell what is published and accepted.
-//! 13. A refusal is `refused`, its number, its name and its values. An answer is told in one line, but that what a publication changed
+//! 14. A refusal is `refused`, its number, its name and its values. An answer is told in one line, but that what a publication changed
 //!     stands behind it on a line of its own, with `*` at its front.
-//! 14. A line that is no command is refused 62 BadLine, but for `help`: it tells every word that begins a command, and `help
+//! 15. A line that is no command is refused 62 BadLine, but for `help`: it tells every word that begins a command, and `help
 //!     WORD` the form of that word's commands, with an example: `help FORM, as EXAMPLE`. Both are of the table of `script_words`.
-//! 15. Who tells the answers to a script is `Telling`: it says in which texts an answer may be told, and makes them. It may explain why a
+//! 16. Who tells the answers to a script is `Telling`: it says in which texts an answer may be told, and makes them. It may explain why a
 //!     line is refused, by the network after all accepted events.
 //!
 //! Stands on `work_units`, `path_trace`, `what_if`, `tokens`, `script_words`, `itoa`. A change here also changes specs/ (Answers, Audits,
-//! Changes, DeskRefusals, Filed, Help, Links, Mend, Messages, Refusals, Replies, Rows, Status, Traces, Ways, WhatIfs, Why), proofs/ and
+//! Changes, DeskRefusals, Filed, Help, Links, Mend, Messages, Refusals, Replies, Rows, Shown, Status, Traces, Ways, WhatIfs, Why), proofs/ and
 //! must-fail/.
 #![tactic(auto)]
 
@@ -49,6 +53,9 @@ pub mod printing;
 pub mod refusals;
 pub mod replies;
 pub mod rows;
+mod showing;
+pub mod shown;
+mod shown_text;
 mod status;
 pub mod telling;
 pub mod text;
@@ -66,6 +73,10 @@ pub use printing::{print_answer, put_answer, reason_title};
 pub use refusals::{cause_word, put_refusal};
 pub use replies::{answer_abandoned, answer_given, answer_job, answer_open, answer_post};
 pub use rows::answer_about;
+pub use showing::answer_shown;
+pub use shown::{
+    DownLinks, NetSize, PointStatus, SetNumbers, Shown, ShownBox, StatusCounts, Statuses,
+};
 pub use status::far_word;
 pub use telling::{Asked, Telling};
 pub use text::Text;

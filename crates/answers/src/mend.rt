@@ -22,7 +22,11 @@ fn put_set_link(alloc: Global, text: &mut String, link: SetLink) -> Result<(), A
 }
 
 /// Adds links with their sets and marks, each after a space.
-fn put_set_links(alloc: Global, text: &mut String, links: &[SetLink]) -> Result<(), AllocError>
+pub(crate) fn put_set_links(
+    alloc: Global,
+    text: &mut String,
+    links: &[SetLink],
+) -> Result<(), AllocError>
     ensures { OnOk result (string_bytes text.new ≡ string_bytes text.old ++ flat_map set_link_word links.now) }
 {
     for link in links {

@@ -12,6 +12,7 @@ use crate::mend::put_mend;
 use crate::messages::{put_messages, put_octets};
 use crate::refusals::refusal_title;
 use crate::replies::put_reply;
+use crate::shown_text::put_shown;
 use crate::status::put_status;
 use crate::text::Text;
 use crate::traces::put_trace;
@@ -98,6 +99,7 @@ pub fn put_answer(alloc: Global, text: &mut String, answer: &Answer) -> Result<(
         Answer::Publication(publication) => put_publication(alloc, text, publication),
         Answer::Row(row) => put_row(alloc, text, row),
         Answer::Net(net) => put_net(alloc, text, net),
+        Answer::Shown(shown) => put_shown(alloc, text, shown.as_shown()),
         Answer::Help(told) => text.push_str(told.as_str()),
         Answer::Refused(reason) => put_reason(alloc, text, reason),
     }

@@ -9,6 +9,7 @@ use Rattle.net_versions.specs.Versions.{VersionValue, settled_version}
 use Rattle.path_trace.specs.Traces.{trace_at}
 use Rattle.tokens.specs.Words.{words_of}
 use Rattle.answers.specs.Help.{other_answer}
+use Rattle.answers.specs.Shown.{shown_answer}
 use Rattle.script_words.specs.Commands.{command_of}
 use Rattle.script_words.specs.declared.commands.Command.{Command}
 use Rattle.script_words.specs.declared.commands.Command.TheVariants as command
@@ -343,6 +344,7 @@ module _ (start : DeskValue) (steady : IsSteadyDesk start) (es more : List Event
     obeys_same other (Some (command.WhatIf events)) may is at = asks_same (λ net. what_if_answer (report_of net events)) is.0 may is.1 is.2 at.0 at.1 is.3
     obeys_same other (Some command.Audit) may is at = asks_same (λ net. audit_answer (length net.plans)) is.0 may is.1 is.2 at.0 at.1 is.3
     obeys_same other (Some (command.Picture file about)) may is at = asks_same (λ net. picture_told file net about) is.0 may is.1 is.2 at.0 at.1 is.3
+    obeys_same other (Some (command.Show what)) may is at = asks_same (shown_answer what) is.0 may is.1 is.2 at.0 at.1 is.3
     obeys_same other (Some command.Changes) may is at = changes_same is at
     obeys_same other (Some (command.Watch is_on)) may is at = watches_same is_on is at
 

@@ -69,6 +69,7 @@ asked_does (command.Trace y x s) c a is said = (said, refl)
 asked_does (command.WhatIf events) c a is said = (said, refl)
 asked_does command.Audit c a is said = (said, refl)
 asked_does (command.Picture file about) c a is said = (said, refl)
+asked_does (command.Show what) c a is said = (said, refl)
 asked_does done c a is said = absurd (cc)
 
 -- nothing is taken by a line whose command posts nothing
@@ -115,6 +116,7 @@ module _ (line : List ℕ) (c : ConsoleValue) (a : Answer) (new : ConsoleValue) 
   command_runs (command.WhatIf events) here is = told (rw here refl) is.1
   command_runs command.Audit here is = told (rw here refl) is.1
   command_runs (command.Picture file about) here is = told (rw here refl) is.1
+  command_runs (command.Show what) here is = told (rw here refl) is.1
   command_runs command.Changes here is = told (rw here refl) is.1
   command_runs (command.Watch is_on) here is = silent (rw here refl) (unmoved c.desk new.desk (ap (λ (d : ConsoleValue). d.desk) is.1))
 

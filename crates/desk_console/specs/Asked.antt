@@ -5,6 +5,7 @@ use Rattle.path_trace.specs.Traces.{trace_at}
 use Rattle.what_if.specs.Reports.{report_of}
 use Rattle.answers.specs.Audits.{audit_answer}
 use Rattle.answers.specs.Rows.{answer_about}
+use Rattle.answers.specs.Shown.{shown_answer}
 use Rattle.answers.specs.Traces.{trace_answer}
 use Rattle.answers.specs.WhatIfs.{what_if_answer}
 use Rattle.answers.specs.declared.answer.Answer.{Answer}
@@ -21,6 +22,7 @@ is_asked (command.Trace y x s) = true
 is_asked (command.WhatIf events) = true
 is_asked command.Audit = true
 is_asked (command.Picture file about) = true
+is_asked (command.Show what) = true
 is_asked _ = false
 
 -- its answer; one that asks nothing is no question
@@ -35,4 +37,6 @@ asked_answer (command.WhatIf events) net = what_if_answer (report_of net events)
 asked_answer command.Audit net = audit_answer (length net.plans)
 -- `picture FILE` and `picture FILE X`
 asked_answer (command.Picture file about) net = picture_told file net about
+-- `show`, `show down`, `show set ID`, `show point CODE`, `show plan X` and `statuses X`
+asked_answer (command.Show what) net = shown_answer what net
 asked_answer _ net = answer.Refused reason.BadLine

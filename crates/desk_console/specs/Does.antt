@@ -142,6 +142,7 @@ Does (command.Trace y x s) c = Asks (command.Trace y x s) c
 Does (command.WhatIf events) c = Asks (command.WhatIf events) c
 Does command.Audit c = Asks command.Audit c
 Does (command.Picture file about) c = Asks (command.Picture file about) c
+Does (command.Show what) c = Asks (command.Show what) c
 -- `changes`
 Does command.Changes c = Tells (changes_told c.watch c.desk.published) c
 -- `watch on` and `watch off`

@@ -1,6 +1,7 @@
 -- What `picture` tells (own): a picture of a network, and the file that it is for.
-use Rattle.std.specs.Prelude.{ℕ, ◌==◌, Bool, if◌then◌else◌, List, Option, codes}
-use Rattle.std.specs.List.{ends_with}
+use Rattle.std.specs.Prelude.{ℕ, Bool, false, if◌then◌else◌, List, Option, None, Some, codes}
+use Rattle.std.specs.Path.{path_extension}
+use Rattle.std.specs.Str.{str_eq_ignore_ascii_case}
 use Rattle.net_data.specs.Network.{Network}
 use Rattle.pictures.specs.Dot.{dot_text}
 use Rattle.pictures.specs.Shown.{lacks_plan}
@@ -10,9 +11,14 @@ use Rattle.answers.specs.declared.answer.Answer.TheVariants as answer
 use Rattle.answers.specs.declared.answer.NetAnswer.TheVariants as net_answer
 use Rattle.answers.specs.declared.answer.Reason.TheVariants as reason
 
--- whether the name of a file ends in `.svg`
+-- whether an ending is `svg`, in small letters or in capitals
+abbrev pub is_svg_ending : Option (List ℕ) → Bool
+is_svg_ending None = false
+is_svg_ending (Some ending) = str_eq_ignore_ascii_case ending (codes "svg")
+
+-- whether the name of a file ends in `.svg`, in small letters or in capitals
 abbrev pub is_svg : List ℕ → Bool
-is_svg file = ends_with (λ a b. a == b) file (codes ".svg")
+is_svg file = is_svg_ending (path_extension file)
 
 -- the picture for a file: an SVG document if its name ends so, else a DOT text
 abbrev pub picture_for : List ℕ → Network → Option ℕ → List ℕ

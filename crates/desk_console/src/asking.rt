@@ -5,7 +5,7 @@ ghost use Rattle.script_words.specs.Commands.{IsWithin};
 ghost use Rattle.desk_console.specs.Asked.{asked_answer, is_asked};
 
 use crate::picturing::answer_picture;
-use answers::{Answer, answer_about, answer_audit, answer_trace, answer_what_if};
+use answers::{Answer, answer_about, answer_audit, answer_shown, answer_trace, answer_what_if};
 use net_versions::Version;
 use script_words::Command;
 use std::alloc::{AllocError, Global};
@@ -26,6 +26,7 @@ pub fn answer_asked(
         Command::WhatIf(events) => answer_what_if(alloc, version, events.as_slice()),
         Command::Audit => Ok(answer_audit(version)),
         Command::Picture(file, about) => answer_picture(alloc, version, file.as_str(), *about),
+        Command::Show(what) => answer_shown(alloc, version, *what),
         _ => unreachable!(),
     }
 }

@@ -16,7 +16,8 @@
 //!    published when the last `publish` or `sync` came that published something. After `watch on` each `publish` and `sync` that
 //!    publishes something tells it too, behind its reply; `watch off` ends that.
 //! 6. `picture FILE` gives a picture of the published network, for who tells the answers to put into that file: an SVG document if
-//!    the file's name ends in `.svg`, else a DOT text; `picture FILE X` tells one about the destination X.
+//!    the file's name ends in `.svg`, in small letters or in capitals, else a DOT text; `picture FILE X` tells one about the
+//!    destination X.
 //! 7. A line that is no command is answered `refused 62 BadLine`, but for `help` and `help WORD`.
 //!
 //! Stands on `answers`, `pictures`. A change here also changes specs/ (Asked, Commands, Console, Does, Pictures, Right, Settling, Syncing, Taken,

@@ -10,15 +10,19 @@ use net_versions::Version;
 use pictures::{PictureFault, write_dot, write_svg};
 use point_codes::PointCode;
 use std::alloc::{AllocError, Global};
+use std::path::Path;
 
-/// Whether the name of a file ends in `.svg`.
+/// Whether the name of a file ends in `.svg`, in small letters or in capitals.
 fn is_svg(file: &str) -> bool
     ensures { result ≡ ends_in_svg file.now }
 {
-    file.as_bytes().ends_with(b".svg")
+    match Path::new(file).extension() {
+        Some(ending) => ending.eq_ignore_ascii_case("svg"),
+        None => false,
+    }
 }
 
-/// The picture for a file: an SVG document if its name ends in `.svg`, else a DOT text.
+/// The picture for a file: an SVG document if its name ends in `.svg`, in either case, else a DOT text.
 fn draw(
     alloc: Global,
     file: &str,

@@ -34,8 +34,14 @@ use Rattle.work_units.specs.declared.replies.Refusal.{Refusal as DeskRefusal}
 use Rattle.work_units.specs.declared.replies.Refusal.TheVariants as desk
 use Rattle.json_answers.specs.Members.{Member, object_members, object_with}
 use Rattle.json_answers.specs.Values.{list_member}
+use Rattle.answers.specs.declared.shown.Shown.{Shown}
+use Rattle.answers.specs.declared.shown.Shown.TheVariants as shown
+use Rattle.net_items.specs.declared.items.LinkSet.{LinkSet}
+use Rattle.net_items.specs.declared.items.Point.{Point}
+use Rattle.json_answers.specs.Shown.{code_if, id_value, point_members, point_status_members, set_members, shown_members}
 use Rattle.json_answers.specs.Refusals.{desk_members, edit_values, number_if, value_members}
-use Rattle.json_answers.specs.Objects.{answer_members, answer_object, change_members, choice_members, hop_members, link_items, link_members, links_value, marked_value, mend_member, mend_members, message_members, net_values, octet_value, octets_value, offer_members, publication_members, reply_members, row_values, status_value, trace_members, unused_members, used_members, via_items, way_members}
+use Rattle.json_answers.specs.Objects.{answer_members, answer_object, change_members, choice_members, hop_members, link_items, link_members, links_value, mend_member, message_members, net_values, octet_value, octets_value, offer_members, publication_members, reply_members, row_values, status_value, trace_members, unused_members, used_members, via_items, way_members}
+use Rattle.json_answers.specs.Marked.{marked_value, mend_members}
 
 -- no value of these members is deeper than this
 abbrev AreShallow : ℕ → List Member → Type 0
@@ -168,6 +174,25 @@ net_shallow (net.Wrong dest complaint) = (flat 3, (flat 3, (flat 3, (flat 3, tt)
 net_shallow (net.Picture file picture) = (flat 3, tt)
 net_shallow (net.Drawn file) = (flat 3, tt)
 
+code_shallow : (o : Option ℕ) → depth (code_if o) ≤ 3
+code_shallow None = flat 3
+code_shallow (Some code) = flat 3
+
+set_shallow : (s : LinkSet) → AreShallow 3 (set_members s)
+set_shallow s = (flat 3, (flat 3, (flat 3, (mapped 2 marked_value (λ link. flat 2) s.links, tt))))
+
+point_shallow : (p : Point) (ids : List ℕ) → AreShallow 3 (point_members p ids)
+point_shallow p ids = (flat 3, (flat 3, (code_shallow p.mate, (mapped 2 id_value (λ id. flat 2) ids, tt))))
+
+shown_shallow : (s : Shown) → AreShallow 3 (shown_members s)
+shown_shallow (shown.Size size) = (flat 3, (flat 3, (flat 3, (flat 3, (flat 3, (flat 3, (flat 3, (flat 3, tt))))))))
+shown_shallow (shown.Down links) = (flat 3, (flat 3, (listed mend_members (λ l. (flat 1, (flat 1, tt))) links, tt)))
+shown_shallow (shown.Set s) = (flat 3, (flat 3, set_shallow s))
+shown_shallow (shown.Point p ids) = (flat 3, (flat 3, point_shallow p ids))
+shown_shallow (shown.Plan text) = (flat 3, (flat 3, (flat 3, tt)))
+shown_shallow (shown.Statuses counts statuses) =
+    (flat 3, (flat 3, (flat 3, (flat 3, (listed point_status_members (λ s. (flat 1, (flat 1, tt))) statuses, tt)))))
+
 edit_shallow : (r : Refusal) → AreShallow 3 (edit_values r)
 edit_shallow (edit.Joined id) = (flat 3, tt)
 edit_shallow (edit.BadRow point why) = (flat 3, (flat 3, tt))
@@ -195,6 +220,7 @@ answer_shallow (answer.Reply r) = reply_shallow r
 answer_shallow (answer.Publication p) = publication_shallow p
 answer_shallow (answer.Row r) = (flat 3, row_shallow r)
 answer_shallow (answer.Net n) = (flat 3, net_shallow n)
+answer_shallow (answer.Shown what) = shown_shallow what
 answer_shallow (answer.Help text) = (flat 3, (flat 3, tt))
 answer_shallow (answer.Refused why) = (flat 3, (flat 3, reason_shallow why))
 

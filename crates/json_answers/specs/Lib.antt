@@ -1,6 +1,8 @@
 pub mod Members
 pub mod Values
 pub mod Refusals
+pub mod Marked
+pub mod Shown
 pub mod Objects
 pub mod Form
 pub mod Checks

@@ -36,7 +36,9 @@ use Rattle.answers.specs.declared.ways.Offer.{Offer}
 use Rattle.answers.specs.declared.ways.Offer.TheVariants as offer
 use Rattle.answers.specs.declared.ways.Way.{Way}
 use Rattle.json_answers.specs.Members.{Member, object_with}
+use Rattle.json_answers.specs.Marked.{marked_value, mend_members}
 use Rattle.json_answers.specs.Refusals.{reason_members}
+use Rattle.json_answers.specs.Shown.{shown_members}
 use Rattle.json_answers.specs.Values.{code_member, list_member, members_text, number_member, numbered_members, text_member, word_member}
 
 -- what the desk replies
@@ -113,10 +115,6 @@ abbrev pub octets_value : Option (List ℕ) → Json
 octets_value None = null
 octets_value (Some octets) = array (items_of (map octet_value octets))
 
--- a link that has to be restored: its set, and the link with its marks
-abbrev pub mend_members : SetLink → List Member
-mend_members l = number_member (codes "set") l.id ∷ text_member (codes "marked") (marked_text Two l.link) ∷ []
-
 -- the links that have to be restored, null if no restoring does it
 abbrev pub mend_member : Option (List SetLink) → Member
 mend_member None = (codes "links", null)
@@ -127,10 +125,6 @@ abbrev pub offer_reason : Far → List ℕ
 offer_reason Allowed = codes "ok"
 offer_reason Restricted = codes "restricted"
 offer_reason Prohibited = codes "prohibited"
-
--- a link with its marks
-abbrev pub marked_value : Link → Json
-marked_value link = string (marked_text Two link)
 
 -- the reason of a way: the status of the via, or the set that isn't available, with each of its links
 abbrev pub offer_members : Offer → List Member
@@ -220,6 +214,7 @@ answer_members (answer.Reply r) = reply_members r
 answer_members (answer.Publication p) = publication_members p
 answer_members (answer.Row r) = row_members r
 answer_members (answer.Net n) = net_members n
+answer_members (answer.Shown what) = shown_members what
 answer_members (answer.Help text) = help_members text
 answer_members (answer.Refused why) = reason_members why
 

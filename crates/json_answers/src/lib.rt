@@ -11,8 +11,8 @@
 //! 7. Who tells the answers to a script in a form may have a clerk put its pictures into files, explain why lines are refused, and see each
 //!    answer before it is told.
 //!
-//! Stands on `answers`, `tokens`, `json`. A change here also changes specs/ (Checks, Filing, Form, Members, Objects, Refusals, Values), proofs/ and
-//! must-fail/.
+//! Stands on `answers`, `tokens`, `json`. A change here also changes specs/ (Checks, Filing, Form, Marked, Members, Objects,
+//! Refusals, Shown, Values), proofs/ and must-fail/.
 #![tactic(auto)]
 
 pub mod checks;
@@ -24,6 +24,7 @@ pub mod objects;
 mod refusals;
 mod replies;
 mod rows;
+mod shown;
 pub mod texts;
 mod told;
 mod ways;

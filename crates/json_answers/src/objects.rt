@@ -15,6 +15,7 @@ use crate::nets::put_net;
 use crate::refusals::put_reason;
 use crate::replies::{put_publication, put_reply};
 use crate::rows::put_row;
+use crate::shown::put_shown;
 use crate::told::{Told, put_object};
 use answers::Answer;
 use json::Writer;
@@ -39,6 +40,7 @@ impl Told for Answer {
             Answer::Publication(publication) => put_publication(alloc, writer, publication),
             Answer::Row(row) => put_row(alloc, writer, row),
             Answer::Net(net) => put_net(alloc, writer, net),
+            Answer::Shown(shown) => put_shown(alloc, writer, shown.as_shown()),
             Answer::Help(text) => put_help(writer, text.as_str()),
             Answer::Refused(reason) => put_reason(alloc, writer, reason),
         }

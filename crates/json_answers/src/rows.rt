@@ -175,7 +175,7 @@ fn put_octets(
 }
 
 impl Told for SetLink {
-    ghost use Rattle.json_answers.specs.Objects.{mend_members};
+    ghost use Rattle.json_answers.specs.Marked.{mend_members};
 
     ghost members = { mend_members };
 

@@ -7,7 +7,8 @@ ghost use Rattle.json.specs.Value.{items_of};
 ghost use Rattle.answers.specs.Status.{far_text};
 ghost use Rattle.json_answers.specs.Members.{Adds, member_tokens};
 ghost use Rattle.json_answers.specs.Values.{list_member, text_member};
-ghost use Rattle.json_answers.specs.Objects.{offer_reason, marked_value, offer_members, way_members};
+ghost use Rattle.json_answers.specs.Objects.{offer_reason, offer_members, way_members};
+ghost use Rattle.json_answers.specs.Marked.{marked_value};
 
 use crate::members::{put_code, put_number, put_set, put_text};
 use crate::told::{Told, put_list};
@@ -49,7 +50,11 @@ fn put_each_marked(alloc: Global, writer: &mut Writer, links: &[Link]) -> Result
 }
 
 /// Writes the links of a set with their marks.
-fn put_marked_links(alloc: Global, writer: &mut Writer, links: &[Link]) -> Result<(), AllocError>
+pub fn put_marked_links(
+    alloc: Global,
+    writer: &mut Writer,
+    links: &[Link],
+) -> Result<(), AllocError>
     ensures { OnOk result (Adds writer.old writer.new (member_tokens ((codes "links", array (items_of (map marked_value links.now))) ∷ []))) }
 {
     writer.key("links")?;

@@ -4,6 +4,7 @@ use crate::files::{Devices, save_text};
 use crate::notes::Notes;
 use crate::reasons::write_reason;
 use crate::streams::Seen;
+use crate::targets::leads_to_any;
 use answers::{Answer, Asked, Reason};
 use json_answers::Clerk;
 use net_data::Net;
@@ -11,25 +12,70 @@ use std::alloc::{AllocError, Global};
 use std::cell::RefCell;
 use std::io;
 use std::io::ErrorKind;
+use std::path::Path;
+
+/// Where the answers of a script go, if no file is named for them.
+const STANDARD_OUTPUT: &str = "/dev/stdout";
 
 /// What is done with the pictures that are asked for.
-#[derive(Clone, Copy, PartialEq, Eq)]
-pub enum Pictures {
-    /// Each is written to its file.
-    Written,
+#[derive(Clone, Copy)]
+pub enum Pictures<'a> {
+    /// Each is written to its file, but none to a file of these names, which the run reads or writes itself.
+    Written(&'a [&'a str]),
     /// None is written.
     Refused,
+}
+
+impl<'a> Pictures<'a> {
+    /// The same, but that none is written to a file of these names.
+    pub fn sparing<'b>(self, names: &'b [&'b str]) -> Pictures<'b> {
+        match self {
+            Pictures::Written(_) => Pictures::Written(names),
+            Pictures::Refused => Pictures::Refused,
+        }
+    }
+}
+
+/// The endings of the names of pictures.
+const ENDINGS: &[&str] = &["svg", "dot", "gv"];
+
+/// Whether a file has the name of a picture.
+fn is_picture(file: &str) -> bool {
+    match Path::new(file).extension() {
+        Some(ending) => ENDINGS
+            .iter()
+            .any(|known| ending.eq_ignore_ascii_case(known)),
+        None => false,
+    }
+}
+
+/// Writes a picture to its file, unless that has another ending or is a file that the run reads or writes: one of these names, or
+/// standard output.
+fn write_sparing(rt: &HostRuntime, names: &[&str], file: &str, picture: &str) -> io::Result<()> {
+    if !is_picture(file) {
+        return Err(io::Error::new(
+            ErrorKind::InvalidInput,
+            "a picture's name ends in .svg, .dot or .gv",
+        ));
+    }
+    if leads_to_any(rt, file, names) || leads_to_any(rt, file, &[STANDARD_OUTPUT]) {
+        return Err(io::Error::new(
+            ErrorKind::PermissionDenied,
+            "this run reads it, or writes its answers to it",
+        ));
+    }
+    save_text(rt, file, picture, Devices::Refused)
 }
 
 /// Writes a picture to its file, if pictures are written.
 fn write_picture(
     rt: &HostRuntime,
-    pictures: Pictures,
+    pictures: Pictures<'_>,
     file: &str,
     picture: &str,
 ) -> io::Result<()> {
     match pictures {
-        Pictures::Written => save_text(rt, file, picture, Devices::Refused),
+        Pictures::Written(names) => write_sparing(rt, names, file, picture),
         Pictures::Refused => Err(io::Error::new(
             ErrorKind::PermissionDenied,
             "pictures aren't written: --no-files is given",
@@ -40,7 +86,7 @@ fn write_picture(
 /// Why a picture isn't in its file, none if it is. It fails if memory was refused.
 pub fn put_picture(
     rt: &HostRuntime,
-    pictures: Pictures,
+    pictures: Pictures<'_>,
     file: &str,
     picture: &str,
 ) -> Result<Option<io::Error>, AllocError> {
@@ -56,6 +102,8 @@ pub fn put_picture(
 pub struct ScriptClerk<'a> {
     /// What the files are written by.
     pub rt: &'a HostRuntime,
+    /// What is done with pictures.
+    pub pictures: Pictures<'a>,
     /// Where refused lines are counted, none if they aren't.
     pub counted: Option<&'a Seen>,
     /// Where it is noted why lines are refused, if that is explained.
@@ -80,7 +128,7 @@ impl<'a> Clerk for ScriptClerk<'a> {
         file: &str,
         picture: &str,
     ) -> Result<bool, AllocError> {
-        let Some(error) = put_picture(self.rt, Pictures::Written, file, picture)? else {
+        let Some(error) = put_picture(self.rt, self.pictures, file, picture)? else {
             return Ok(true);
         };
         if let Some(Ok(mut notes)) = self.notes.map(|notes| notes.try_borrow_mut()) {

@@ -166,11 +166,11 @@ fn play(
 }
 
 /// What is done with pictures, if files may be written or not.
-fn pictures_of(no_files: bool) -> Pictures {
+fn pictures_of(no_files: bool) -> Pictures<'static> {
     if no_files {
         return Pictures::Refused;
     }
-    Pictures::Written
+    Pictures::Written(&[])
 }
 
 /// The form of the answers, by whether they are to be objects of JSON.

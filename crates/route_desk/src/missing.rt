@@ -7,7 +7,11 @@ use net_items::Plan;
 use net_items::lookups::find_point;
 use plan_rows::Cause;
 use point_codes::PointCode;
+use script_words::Show;
 use std::alloc::{AllocError, Global};
+
+/// That a question is about what isn't published yet.
+const NOT_PUBLISHED: &str = "what was taken isn't published yet: use sync first";
 
 /// Adds that a point isn't in a network, if it isn't, and says whether it did.
 fn put_if_missing(
@@ -133,12 +137,42 @@ pub fn put_missing_row(
         return Ok(());
     }
     if has_row(net, point, dest) {
-        return text.push_str("what was taken isn't published yet: use sync first");
+        return text.push_str(NOT_PUBLISHED);
     }
     text.push_str("the plan of ")?;
     dest.put_text(alloc, text)?;
     text.push_str(" has no row of ")?;
     point.put_text(alloc, text)
+}
+
+/// Adds what a network lacks of what is to be shown of it; nothing if it has that.
+fn put_lacking(alloc: Global, text: &mut String, net: &Net, what: Show) -> Result<(), AllocError> {
+    match what {
+        Show::Set(id) => put_missing_set(alloc, text, net, id),
+        Show::Point(code) => {
+            put_if_missing(alloc, text, net, code)?;
+            Ok(())
+        }
+        Show::Plan(dest) | Show::Statuses(dest) => {
+            put_missing_plan(alloc, text, net, dest)?;
+            Ok(())
+        }
+        Show::Size | Show::Down => Ok(()),
+    }
+}
+
+/// Adds what is to be shown of a network that isn't in it, or that it isn't published yet.
+pub fn put_missing_shown(
+    alloc: Global,
+    text: &mut String,
+    net: &Net,
+    what: Show,
+) -> Result<(), AllocError> {
+    put_lacking(alloc, text, net, what)?;
+    if text.is_empty() {
+        return text.push_str(NOT_PUBLISHED);
+    }
+    Ok(())
 }
 
 /// Adds what is wrong with the row of a point.

@@ -12,6 +12,7 @@ use explanations::{Explanation, explanations, find, write_explanation, write_tit
 use json_answers::{write_right, write_texts, write_wrong};
 use net_data::Net;
 use net_saving::save;
+use script_words::{Form, form_of};
 use std::alloc::{AllocError, Global};
 use std::io;
 use std::process::ExitCode;
@@ -97,16 +98,48 @@ fn objects_of(alloc: Global, list: &[Explanation]) -> Result<Vec<u8>, AllocError
     Ok(objects)
 }
 
-/// Writes the explanation that a word calls.
+/// Says that nothing is called by a word.
+fn explain_nothing(rt: &HostRuntime, word: &str) -> io::Result<ExitCode> {
+    say(rt, &["route_desk: nothing is called ", word]);
+    Ok(ExitCode::from(2))
+}
+
+/// The form of a script's word, and an example, on a line.
+fn write_form(alloc: Global, form: &Form) -> Result<String, AllocError> {
+    let (form, example) = (form.form, form.example);
+    format!(in alloc; "{form}, as {example}\n")
+}
+
+/// The form of a script's word, and an example, as an object of JSON on a line.
+fn form_object(alloc: Global, form: &Form) -> Result<Vec<u8>, AllocError> {
+    write_texts(
+        Vec::new(alloc),
+        &[
+            ("word", "explain"),
+            ("title", form.word),
+            ("form", form.form),
+            ("example", form.example),
+        ],
+    )
+}
+
+/// Writes the form of a script's word.
+fn explain_form(rt: &HostRuntime, word: &str, json: bool) -> io::Result<ExitCode> {
+    let alloc = rt.alloc();
+    match form_of(word.as_bytes()) {
+        Some(form) if json => tell_bytes(rt, form_object(alloc, form), false),
+        Some(form) => tell(rt, write_form(alloc, form), false),
+        None => explain_nothing(rt, word),
+    }
+}
+
+/// Writes the explanation that a word calls; of a script's word that calls none its form.
 fn explain_word(rt: &HostRuntime, word: &str, json: bool) -> io::Result<ExitCode> {
     let alloc = rt.alloc();
     match find(word) {
         Some(explanation) if json => tell_bytes(rt, objects_of(alloc, &[*explanation]), false),
         Some(explanation) => tell(rt, write_explanation(alloc, explanation), false),
-        None => {
-            say(rt, &["route_desk: nothing is called ", word]);
-            Ok(ExitCode::from(2))
-        }
+        None => explain_form(rt, word, json),
     }
 }
 

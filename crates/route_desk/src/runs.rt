@@ -3,7 +3,7 @@
 
 ghost use Rattle.std.specs.Prelude.{◌≤◌};
 
-use crate::clerks::ScriptClerk;
+use crate::clerks::{Pictures, ScriptClerk};
 use crate::explaining::{ExplainingWriter, NotedReader};
 use crate::loading::{explain_input, load_file, open_file};
 use crate::notes::Notes;
@@ -78,9 +78,11 @@ fn output_of<'a>(
     ExplainingWriter::new(rt, notes, SeenWriter::new(seen, io::writer(rt)))
 }
 
-/// Who tells the answers of a run, with the notes of its script, and where it tells what is seen of it.
+/// Who tells the answers of a run that reads the files of these names, with the notes of its script, and where it tells what is seen
+/// of it.
 fn telling_of<'a>(
     rt: &'a HostRuntime,
+    names: &'a [&'a str],
     notes: Option<&'a RefCell<Notes>>,
     seen: &'a Seen,
     manner: Manner,
@@ -89,6 +91,7 @@ fn telling_of<'a>(
         form: manner.form,
         clerk: ScriptClerk {
             rt,
+            pictures: Pictures::Written(names),
             counted: manner.strict.then_some(seen),
             notes,
         },
@@ -123,10 +126,11 @@ fn run_over<T: Telling, R: io::Read + Drop, W: io::Write + Drop>(
     .end
 }
 
-/// Runs the script on standard input from a network, in line or beside that many workers.
+/// Runs the script on standard input from a network, which was read from the file of this name, in line or beside that many workers.
 fn run_from(
     rt: &HostRuntime,
     threads: &(impl Threads + Wait + Sync),
+    name: &str,
     net: Net,
     workers: u32,
     manner: Manner,
@@ -138,12 +142,13 @@ fn run_from(
     if wanted {
         greet(rt, &net);
     }
+    let names = [name];
     let notes = script_notes(alloc, manner.explained);
     let seen = Seen::new();
     let input = SeenReader::new(&seen, Prompting::new(rt, rt.reader(), wanted));
     let reader = input;
     let writer = output_of(rt, notes.as_ref(), &seen);
-    let telling = telling_of(rt, notes.as_ref(), &seen, manner);
+    let telling = telling_of(rt, &names, notes.as_ref(), &seen, manner);
     let end = run_over(rt, threads, net, workers, &telling, reader, writer);
     Ended::new(end, seen)
 }
@@ -187,7 +192,7 @@ fn run_whole(
     let seen = Seen::new();
     let reader = NotedReader::new(notes.as_ref(), SeenReader::new(&seen, rt.reader()));
     let writer = output_of(rt, notes.as_ref(), &seen);
-    let telling = telling_of(rt, notes.as_ref(), &seen, manner);
+    let telling = telling_of(rt, &[], notes.as_ref(), &seen, manner);
     let end = run_input_from(rt, threads, workers, &telling, reader, writer);
     if let (Some(notes), Some(Fault::Load(fault))) = (&notes, end.fault) {
         explain_input(rt, notes, Fault::Load(fault));
@@ -195,9 +200,10 @@ fn run_whole(
     Ended::new(end, seen)
 }
 
-/// Runs the script of a reader from a network, in line, of which it is seen how it goes.
+/// Runs the script of a reader from a network, in line, of which it is seen how it goes. No picture is written to a file of these names.
 fn play_seen<R: io::Read + Drop>(
     rt: &HostRuntime,
+    names: &[&str],
     net: Net,
     script: R,
     seen: &Seen,
@@ -206,14 +212,20 @@ fn play_seen<R: io::Read + Drop>(
     let notes = script_notes(rt.alloc(), manner.explained);
     let mut reader = script;
     let mut writer = output_of(rt, notes.as_ref(), seen);
-    let telling = telling_of(rt, notes.as_ref(), seen, manner);
+    let telling = telling_of(rt, names, notes.as_ref(), seen, manner);
     run_script(rt.alloc(), &telling, &mut reader, &mut writer, net)
 }
 
-/// Runs the script of a reader from a network, in line.
-fn play_from<R: io::Read + Drop>(rt: &HostRuntime, net: Net, script: R, manner: Manner) -> Ended {
+/// Runs the script of a reader from a network, in line. No picture is written to a file of these names.
+fn play_from<R: io::Read + Drop>(
+    rt: &HostRuntime,
+    names: &[&str],
+    net: Net,
+    script: R,
+    manner: Manner,
+) -> Ended {
     let seen = Seen::new();
-    let end = play_seen(rt, net, script, &seen, manner);
+    let end = play_seen(rt, names, net, script, &seen, manner);
     Ended::new(end, seen)
 }
 
@@ -226,7 +238,7 @@ pub fn play_file(
 ) -> Result<Ended, Fault> {
     let net = load_file(rt, name, manner.explained)?;
     let script = open_file(rt, steps, manner.explained)?;
-    Ok(play_from(rt, net, script, manner))
+    Ok(play_from(rt, &[name, steps], net, script, manner))
 }
 
 /// Runs the script on standard input, from the network of a file or from that of the text before the script.
@@ -242,6 +254,7 @@ pub fn run_net(
     if net == "-" {
         return Ok(run_whole(rt, threads, workers, manner));
     }
-    let net = load_file(rt, net, manner.explained)?;
-    Ok(run_from(rt, threads, net, workers, manner))
+    let name = net;
+    let net = load_file(rt, name, manner.explained)?;
+    Ok(run_from(rt, threads, name, net, workers, manner))
 }

@@ -84,7 +84,7 @@ pub struct SeatClerk<'a> {
     /// What the files are written by.
     pub rt: &'a HostRuntime,
     /// What is done with pictures.
-    pub pictures: Pictures,
+    pub pictures: Pictures<'a>,
     /// The name of the seat.
     pub seat: &'a str,
     /// What there is to say of the seat's refused lines, if they are explained.

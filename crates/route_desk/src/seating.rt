@@ -30,13 +30,13 @@ use worker_pool::Plain;
 
 /// How the sessions of a desk tell what they do.
 #[derive(Clone, Copy)]
-pub struct SeatManner {
+pub struct SeatManner<'a> {
     /// Whether each refused line and a fault is explained on standard error.
     pub explained: bool,
     /// The form of the answers, if a seat doesn't say it otherwise.
     pub form: Form,
     /// What is done with pictures.
-    pub pictures: Pictures,
+    pub pictures: Pictures<'a>,
 }
 
 /// The lines of a seat, of which it is seen why they can't be read.
@@ -69,7 +69,7 @@ fn output_of<'a>(
 }
 
 /// Notes of the script of a seat, if refused lines are to be explained.
-fn notes_of(alloc: Global, manner: SeatManner) -> Option<RefCell<Notes>> {
+fn notes_of(alloc: Global, manner: SeatManner<'_>) -> Option<RefCell<Notes>> {
     if manner.explained {
         return Some(RefCell::new(Notes::of_script(alloc)));
     }
@@ -80,7 +80,7 @@ fn notes_of(alloc: Global, manner: SeatManner) -> Option<RefCell<Notes>> {
 fn telling_of<'a>(
     rt: &'a HostRuntime,
     entry: &'a SeatEntry,
-    manner: SeatManner,
+    manner: SeatManner<'a>,
 ) -> Filing<SeatClerk<'a>> {
     Filing {
         form: entry.form.unwrap_or(manner.form),
@@ -100,7 +100,7 @@ fn channels_of<'a>(
     inputs: &[InputKind],
     outputs: Vec<OutputKind>,
     seen: &'a [Seen],
-    manner: SeatManner,
+    manner: SeatManner<'a>,
 ) -> Result<Vec<SeatChannel<'a>>, AllocError> {
     let mut channels = Vec::with_capacity(rt.alloc(), entries.len())?;
     let mut outputs = outputs.into_iter();
@@ -204,7 +204,7 @@ fn run_open(
     net: Net,
     workers: u32,
     saving: Option<Saving<'_>>,
-    manner: SeatManner,
+    manner: SeatManner<'_>,
 ) -> io::Result<ExitCode>
     requires { workers ≤ 32 }
 {
@@ -236,7 +236,7 @@ fn run_over(
     inputs: &[InputKind],
     workers: u32,
     saving: Option<Saving<'_>>,
-    manner: SeatManner,
+    manner: SeatManner<'_>,
 ) -> io::Result<ExitCode>
     requires { workers ≤ 32 }
 {
@@ -252,6 +252,23 @@ fn run_over(
     }
 }
 
+/// The names of the files that the seats of a text, the text and the network are read from or written to.
+fn names_of<'a>(
+    alloc: Global,
+    net: &'a str,
+    text: &'a str,
+    entries: &'a [SeatEntry],
+) -> Result<Vec<&'a str>, AllocError> {
+    let mut names = Vec::new(alloc);
+    names.push(net)?;
+    names.push(text)?;
+    for entry in entries {
+        names.push(entry.input.as_str())?;
+        names.push(entry.output.as_str())?;
+    }
+    Ok(names)
+}
+
 /// Runs the seats of a text over the network of a file.
 fn run_text(
     rt: &HostRuntime,
@@ -260,7 +277,7 @@ fn run_text(
     text: SeatsText<'_>,
     workers: u32,
     saving: Option<Saving<'_>>,
-    manner: SeatManner,
+    manner: SeatManner<'_>,
 ) -> io::Result<ExitCode>
     requires { workers ≤ 32 }
 {
@@ -269,6 +286,13 @@ fn run_text(
         Err(fault) => return refuse_text(rt, text, &fault, manner.explained),
     };
     let entries = entries.as_slice();
+    let Ok(names) = names_of(rt.alloc(), net, text.name, entries) else {
+        return report(rt, Some(Fault::OutOfMemory));
+    };
+    let manner = SeatManner {
+        pictures: manner.pictures.sparing(names.as_slice()),
+        ..manner
+    };
     match inputs_of(rt, entries) {
         Ok(inputs) => run_over(
             rt,
@@ -307,7 +331,7 @@ pub fn serve_seats(
     seats: &str,
     workers: u32,
     save: Option<&str>,
-    manner: SeatManner,
+    manner: SeatManner<'_>,
 ) -> io::Result<ExitCode>
     requires { workers ≤ 32 }
 {

@@ -1,6 +1,6 @@
 //! The sentence for a line that was refused.
 
-use crate::missing::put_missing_row;
+use crate::missing::{put_missing_row, put_missing_shown};
 use crate::saying::write_bytes;
 use crate::standing::put_standing;
 use crate::tried::write_tried;
@@ -8,7 +8,7 @@ use answers::{Asked, Reason};
 use explanations::explain_reason;
 use net_data::{Event, Net};
 use point_codes::PointCode;
-use script_words::{Command, Form, form_of, read_line};
+use script_words::{Command, Form, Show, form_of, read_line};
 use std::alloc::{AllocError, Global};
 
 /// What a script begins with that some editors put there.
@@ -204,11 +204,27 @@ fn write_missing(
     Ok(text)
 }
 
+/// What is to be shown of a network and isn't in it, in text.
+fn write_missing_shown(alloc: Global, net: &Net, what: Show) -> Result<String, AllocError> {
+    let mut text = String::new(alloc);
+    put_missing_shown(alloc, &mut text, net, what)?;
+    Ok(text)
+}
+
 /// The point and the destination that a question is about.
 fn asked_in(command: &Command) -> Option<(PointCode, PointCode)> {
     match command {
         Command::About(_, point, dest) => Some((*point, *dest)),
         Command::Trace(point, dest, _) => Some((*point, *dest)),
+        _ => None,
+    }
+}
+
+/// What a command asks to be shown; a picture about a destination shows its plan.
+fn shown_in(command: &Command) -> Option<Show> {
+    match command {
+        Command::Show(what) => Some(*what),
+        Command::Picture(_, Some(dest)) => Some(Show::Plan(*dest)),
         _ => None,
     }
 }
@@ -222,6 +238,9 @@ fn write_about(
 ) -> Result<String, AllocError> {
     if let (Command::WhatIf(events), Reason::Event(refused)) = (command, why) {
         return write_tried(alloc, net, events.as_slice(), &refused);
+    }
+    if let Some(what) = shown_in(command) {
+        return write_missing_shown(alloc, net, what);
     }
     match asked_in(command) {
         Some((point, dest)) => write_missing(alloc, net, point, dest),

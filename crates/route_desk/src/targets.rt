@@ -44,6 +44,19 @@ pub fn stamp_of(rt: &HostRuntime, name: &str) -> Option<Stamp> {
     }
 }
 
+/// Whether two names lead to the same file.
+fn is_same_file(rt: &HostRuntime, one: &str, other: &str) -> bool {
+    match (stamp_of(rt, one), stamp_of(rt, other)) {
+        (Some(one), Some(other)) => one.device == other.device && one.node == other.node,
+        _ => false,
+    }
+}
+
+/// Whether a name leads to the file that one of some names leads to.
+pub fn leads_to_any(rt: &HostRuntime, name: &str, names: &[&str]) -> bool {
+    names.iter().any(|other| is_same_file(rt, name, other))
+}
+
 /// The folder that a file stands in, by its name.
 pub fn folder_of(path: &str) -> &str {
     match path.rsplit_once('/') {

@@ -93,8 +93,8 @@ desk_word_found : (word : List ℕ) → IsSome (desk_word_of word) → IsFound w
 desk_word_found word =
     found_or word (codes "sync") _ _ refl (found_or word (codes "whatif") _ _ refl (found_or word (codes "post") _ _ refl (found_or word (codes "open") _ _ refl
     (found_or word (codes "take") _ _ refl (found_or word (codes "give") _ _ refl (found_or word (codes "abandon") _ _ refl (found_or word (codes "publish") _ _ refl
-    (found_or word (codes "version") _ _ refl (found_or word (codes "audit") _ _ refl (found_or word (codes "changes") _ _ refl (found_or word (codes "watch") _ _ refl
-    (found_or word (codes "picture") _ _ refl (none_found CommandWord word)))))))))))))
+    (found_or word (codes "version") _ _ refl (found_or word (codes "show") _ _ refl (found_or word (codes "statuses") _ _ refl (found_or word (codes "audit") _ _ refl
+    (found_or word (codes "changes") _ _ refl (found_or word (codes "watch") _ _ refl (found_or word (codes "picture") _ _ refl (none_found CommandWord word)))))))))))))))
 
 command_word_found : (word : List ℕ) → IsSome (command_word_of word) → IsFound word
 command_word_found word =

@@ -5,10 +5,13 @@ use Rattle.std.specs.Option.{option_map_or}
 use Rattle.std.specs.Str.{bytes_eq, is_utf8}
 use Rattle.point_codes.specs.Codes.{code_of}
 use Rattle.net_data.specs.declared.events.Event.{Event}
+use Rattle.tokens.specs.Numbers.{id_of}
 use Rattle.tokens.specs.Pieces.{all_of}
 use Rattle.script_words.specs.Events.{event_of}
 use Rattle.script_words.specs.declared.questions.Question.{Question}
 use Rattle.script_words.specs.declared.questions.Question.TheVariants.{Status, Links, Messages, Octets, Why, Mend}
+use Rattle.script_words.specs.declared.shows.Show.{Show}
+use Rattle.script_words.specs.declared.shows.Show.TheVariants as show
 use Rattle.script_words.specs.declared.commands.Command.{Command}
 use Rattle.script_words.specs.declared.command_words.CommandWord.{CommandWord}
 use Rattle.script_words.specs.declared.command_words.CommandWord.TheVariants as word
@@ -47,6 +50,26 @@ octets_of _ = None
 abbrev pub trace_of : List (List ℕ) → Option Command
 trace_of (y ∷ x ∷ s ∷ []) = option_and_then (λ y. option_and_then (λ x. option_map (λ s. Command.Trace y x s) (selection_of s)) (code_of x)) (code_of y)
 trace_of _ = None
+
+-- `set ID`, `point CODE` or `plan X`
+abbrev pub shown_by : List ℕ → List ℕ → Option Show
+shown_by what which =
+    if bytes_eq what (codes "set") then option_map (λ id. show.Set id) (id_of which)
+    else if bytes_eq what (codes "point") then option_map (λ y. show.Point y) (code_of which)
+    else if bytes_eq what (codes "plan") then option_map (λ x. show.Plan x) (code_of which)
+    else None
+
+-- nothing, `down`, `set ID`, `point CODE` or `plan X`
+abbrev pub show_of : List (List ℕ) → Option Show
+show_of [] = Some show.Size
+show_of (what ∷ []) = if bytes_eq what (codes "down") then Some show.Down else None
+show_of (what ∷ which ∷ []) = shown_by what which
+show_of _ = None
+
+-- `X`
+abbrev pub statuses_asked : List (List ℕ) → Option Show
+statuses_asked (x ∷ []) = option_map (λ x. show.Statuses x) (code_of x)
+statuses_asked _ = None
 
 -- `on` or `off`
 abbrev pub switch_of : List (List ℕ) → Option Bool
@@ -88,6 +111,8 @@ desk_word_of text =
     else if bytes_eq text (codes "abandon") then Some word.Abandon
     else if bytes_eq text (codes "publish") then Some word.Publish
     else if bytes_eq text (codes "version") then Some word.Version
+    else if bytes_eq text (codes "show") then Some word.Show
+    else if bytes_eq text (codes "statuses") then Some word.Statuses
     else if bytes_eq text (codes "audit") then Some word.Audit
     else if bytes_eq text (codes "changes") then Some word.Changes
     else if bytes_eq text (codes "watch") then Some word.Watch
@@ -122,6 +147,10 @@ command_by word.Why rest = about_of Why rest
 command_by word.Mend rest = about_of Mend rest
 -- `trace Y X S`
 command_by word.Trace rest = trace_of rest
+-- `show`, `show down`, `show set ID`, `show point CODE` and `show plan X`
+command_by word.Show rest = option_map (λ what. Command.Show what) (show_of rest)
+-- `statuses X`
+command_by word.Statuses rest = option_map (λ what. Command.Show what) (statuses_asked rest)
 -- `sync`
 command_by word.Sync rest = alone Command.Sync rest
 -- `whatif EVENT ; EVENT ..`

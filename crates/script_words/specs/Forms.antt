@@ -40,6 +40,8 @@ command_forms =
     record { word = codes "publish"; form = codes "publish"; example = codes "publish" } ∷
     record { word = codes "sync"; form = codes "sync"; example = codes "sync" } ∷
     record { word = codes "version"; form = codes "version"; example = codes "version" } ∷
+    record { word = codes "show"; form = codes "show or show down or show set ID or show point CODE or show plan X"; example = codes "show down" } ∷
+    record { word = codes "statuses"; form = codes "statuses X"; example = codes "statuses 2-1-2" } ∷
     record { word = codes "status"; form = codes "status Y X"; example = codes "status 2-1-1 2-1-2" } ∷
     record { word = codes "sls"; form = codes "sls Y X"; example = codes "sls 2-1-1 2-1-2" } ∷
     record { word = codes "messages"; form = codes "messages Y X"; example = codes "messages 2-10-1 2-1-2" } ∷

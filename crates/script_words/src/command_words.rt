@@ -40,6 +40,10 @@ pub enum CommandWord {
     Publish,
     /// `version`.
     Version,
+    /// `show`.
+    Show,
+    /// `statuses`.
+    Statuses,
     /// `audit`.
     Audit,
     /// `changes`.
@@ -64,6 +68,8 @@ fn read_desk_word(word: &[u8]) -> Option<CommandWord>
         _ if is_word(word, "abandon") => Some(CommandWord::Abandon),
         _ if is_word(word, "publish") => Some(CommandWord::Publish),
         _ if is_word(word, "version") => Some(CommandWord::Version),
+        _ if is_word(word, "show") => Some(CommandWord::Show),
+        _ if is_word(word, "statuses") => Some(CommandWord::Statuses),
         _ if is_word(word, "audit") => Some(CommandWord::Audit),
         _ if is_word(word, "changes") => Some(CommandWord::Changes),
         _ if is_word(word, "watch") => Some(CommandWord::Watch),

@@ -3,6 +3,7 @@
 ghost use Rattle.std.specs.Prelude.{◌≡◌, string_bytes};
 
 use crate::questions::Question;
+use crate::shows::Show;
 use net_data::Event;
 use point_codes::PointCode;
 use std::marker::Model;
@@ -105,6 +106,8 @@ pub enum Command {
     WhatIf(Events),
     /// A check of all tables is asked.
     Audit,
+    /// Something of the published network is to be shown.
+    Show(Show),
     /// What the last publication changed is asked.
     Changes,
     /// What each publication changes is told behind its reply from now on, or no more.

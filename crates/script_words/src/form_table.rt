@@ -123,6 +123,16 @@ const FORMS: &[Form] = &[
         example: "version",
     },
     Form {
+        word: "show",
+        form: "show or show down or show set ID or show point CODE or show plan X",
+        example: "show down",
+    },
+    Form {
+        word: "statuses",
+        form: "statuses X",
+        example: "statuses 2-1-2",
+    },
+    Form {
         word: "status",
         form: "status Y X",
         example: "status 2-1-1 2-1-2",

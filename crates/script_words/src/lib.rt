@@ -22,7 +22,8 @@
 //!     31; `watch on` and `watch off`.
 //! 11. `status Y X`, `sls Y X`, `messages Y X`, `octets Y Z X`, `why Y X` and `mend Y X`: a question about the row of the point Y
 //!     in the table of the destination X; `trace Y X S`: the trace of the signalling link selection S, 0 to 15; `picture FILE` and
-//!     `picture FILE X`: a picture for a file, whose name is a text in UTF-8.
+//!     `picture FILE X`: a picture for a file, whose name is a text in UTF-8. `show`, `show down`, `show set ID`, `show point CODE` and
+//!     `show plan X`: something of the published network; `statuses X`: how each point of the plan of X reaches X.
 //! 12. `whatif EVENT ; EVENT ..`: what the events would change. `;` is a word of its own between two events, and there is
 //!     at least one EVENT.
 //! 13. Words are read exactly if they are what is written of their event or command: no other word, and none too many or
@@ -47,6 +48,7 @@ mod numbers;
 mod pictures;
 mod queries;
 pub mod questions;
+pub mod shows;
 mod verbs;
 mod what_ifs;
 mod words;
@@ -58,3 +60,4 @@ pub use form_table::{Form, form_of, forms};
 pub use laws::{event_law, forms_law, sequence_law};
 pub use lines::read_line;
 pub use questions::Question;
+pub use shows::Show;

@@ -12,6 +12,7 @@ use crate::pictures::read_picture;
 use crate::queries::{read_about, read_octets, read_trace};
 use crate::questions::Question;
 use crate::read_event;
+use crate::shows::{read_show, read_statuses};
 use crate::verbs::read_verb;
 use crate::what_ifs::read_events;
 use crate::words::is_word;
@@ -94,6 +95,8 @@ fn read_plain(word: CommandWord, rest: &[&[u8]]) -> Option<Command>
         CommandWord::Why => read_about(Question::Why, rest),
         CommandWord::Mend => read_about(Question::Mend, rest),
         CommandWord::Trace => read_trace(rest),
+        CommandWord::Show => read_show(rest).map(Command::Show),
+        CommandWord::Statuses => read_statuses(rest).map(Command::Show),
         CommandWord::Sync => only(Command::Sync, rest),
         CommandWord::Open => only(Command::Open, rest),
         CommandWord::Take => read_only_slot(rest).map(Command::Take),

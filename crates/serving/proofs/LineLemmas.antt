@@ -244,6 +244,7 @@ module _ (start : Network) (seats : ℕ) (b : BesideValue) (line : List ℕ) (to
   obeyed a is_told may collector other (Some (command.WhatIf events)) here is = looks (rw here refl) is.1.seat is.1.seen
   obeyed a is_told may collector other (Some command.Audit) here is = looks (rw here refl) is.1.seat is.1.seen
   obeyed a is_told may collector other (Some (command.Picture file about)) here is = looks (rw here refl) is.1.seat is.1.seen
+  obeyed a is_told may collector other (Some (command.Show what)) here is = looks (rw here refl) is.1.seat is.1.seen
   obeyed a is_told may collector other (Some command.Changes) here is = posts_none (rw here refl) is.1
   obeyed a is_told may collector other (Some (command.Watch is_on)) here is =
       looks (rw here refl) (ap (λ (x : BesideValue). x.seat) is.1) (versions_same b.seen new.seen (ap (λ (x : BesideValue). x.seen) is.1))

@@ -2,7 +2,7 @@ use Rattle.std.proofs.Common.{[], ◌∷◌, ◌++◌, codes, map}
 use Rattle.json.specs.Json.{array}
 use Rattle.json.specs.Value.{items_of}
 use Rattle.json_answers.specs.Values.{number_member, text_member}
-use Rattle.json_answers.specs.Objects.{marked_value}
+use Rattle.json_answers.specs.Marked.{marked_value}
 use Rattle.json_answers.proofs.MemberLemmas.{adds_both, adds_members}
 use Rattle.json_answers.proofs.ways.put_down.Goals as goal
 

@@ -1,7 +1,7 @@
 use Rattle.std.proofs.Common.{Ok, map, subst}
 use Rattle.std.proofs.lemmas.List.{take_all}
 use Rattle.json_answers.specs.Members.{Adds, item_tokens}
-use Rattle.json_answers.specs.Objects.{marked_value}
+use Rattle.json_answers.specs.Marked.{marked_value}
 use Rattle.json_answers.proofs.MemberLemmas.{wrote, array_written}
 use Rattle.json_answers.proofs.ways.put_each_marked.Goals as goal
 

@@ -1,0 +1,189 @@
+//! What is shown of a network, with its values.
+
+ghost use Rattle.std.specs.Prelude.{◌≡◌, IfOk};
+
+use crate::text::Text;
+use net_items::{LinkSet, Point};
+use point_codes::PointCode;
+use route_choice::Far;
+use std::alloc::{AllocError, Global};
+use std::marker::Model;
+use what_if::SetLink;
+
+/// How large a network is.
+#[derive(Clone, Copy)]
+pub struct NetSize {
+    /// How many points it has.
+    pub points: usize,
+    /// How many link sets it has.
+    pub sets: usize,
+    /// How many links these have.
+    pub links: usize,
+    /// How many of the links aren't available.
+    pub down: usize,
+    /// How many plans it has.
+    pub plans: usize,
+    /// Whether it has transfer-restricted messages.
+    pub tfr: bool,
+}
+
+/// How many points have each status.
+#[derive(Clone, Copy)]
+pub struct StatusCounts {
+    /// How many are allowed.
+    pub allowed: usize,
+    /// How many are restricted.
+    pub restricted: usize,
+    /// How many are prohibited.
+    pub prohibited: usize,
+}
+
+/// The status of a point towards a destination.
+#[derive(Clone, Copy)]
+pub struct PointStatus {
+    /// The point.
+    pub point: PointCode,
+    /// Its status.
+    pub status: Far,
+}
+
+/// Links with their sets, in rising id and code.
+#[derive(Drop)]
+pub struct DownLinks {
+    list: Vec<SetLink>,
+}
+
+impl Model for DownLinks {
+    ghost use Rattle.std.specs.Prelude.{List};
+    ghost use Rattle.what_if.specs.declared.mending.SetLink.{SetLink};
+
+    ghost Value = { List SetLink };
+
+    ghost view = { λ links. links.list.items };
+}
+
+impl DownLinks {
+    /// These links.
+    pub fn from_vec(list: Vec<SetLink>) -> DownLinks
+        ensures { result ≡ list.items }
+    {
+        DownLinks { list }
+    }
+
+    /// The links as a slice.
+    pub fn as_slice(&self) -> &[SetLink]
+        ensures { result.now ≡ self.now }
+    {
+        self.list.as_slice()
+    }
+}
+
+/// The ids of link sets, rising.
+#[derive(Drop)]
+pub struct SetNumbers {
+    list: Vec<u16>,
+}
+
+impl Model for SetNumbers {
+    ghost use Rattle.std.specs.Prelude.{ℕ, List};
+
+    ghost Value = { List ℕ };
+
+    ghost view = { λ ids. ids.list.items };
+}
+
+impl SetNumbers {
+    /// These ids.
+    pub fn from_vec(list: Vec<u16>) -> SetNumbers
+        ensures { result ≡ list.items }
+    {
+        SetNumbers { list }
+    }
+
+    /// The ids as a slice.
+    pub fn as_slice(&self) -> &[u16]
+        ensures { result.now ≡ self.now }
+    {
+        self.list.as_slice()
+    }
+}
+
+/// The statuses of the points of a plan, in rising code.
+#[derive(Drop)]
+pub struct Statuses {
+    list: Vec<PointStatus>,
+}
+
+impl Model for Statuses {
+    ghost use Rattle.std.specs.Prelude.{List};
+    ghost use Rattle.answers.specs.declared.shown.PointStatus.{PointStatus};
+
+    ghost Value = { List PointStatus };
+
+    ghost view = { λ statuses. statuses.list.items };
+}
+
+impl Statuses {
+    /// These statuses.
+    pub fn from_vec(list: Vec<PointStatus>) -> Statuses
+        ensures { result ≡ list.items }
+    {
+        Statuses { list }
+    }
+
+    /// The statuses as a slice.
+    pub fn as_slice(&self) -> &[PointStatus]
+        ensures { result.now ≡ self.now }
+    {
+        self.list.as_slice()
+    }
+}
+
+/// What is shown of a network.
+#[derive(Drop)]
+pub enum Shown {
+    /// How large it is.
+    Size(NetSize),
+    /// The links that aren't available, with their sets.
+    Down(DownLinks),
+    /// A set.
+    Set(LinkSet),
+    /// A point, and the ids of the sets that end at it.
+    Point(Point, SetNumbers),
+    /// A plan, as its entry in a network text.
+    Plan(Text),
+    /// How each point of a plan reaches its destination, and how many of them so.
+    Statuses(StatusCounts, Statuses),
+}
+
+/// What is shown of a network, in a box, so that an answer is small.
+#[derive(Drop)]
+pub struct ShownBox {
+    held: Box<Shown>,
+}
+
+impl Model for ShownBox {
+    ghost use Rattle.answers.specs.declared.shown.Shown.{Shown};
+
+    ghost Value = { Shown };
+
+    ghost view = { λ b. b.held.value };
+}
+
+impl ShownBox {
+    /// This. It fails if memory is refused.
+    pub fn new(alloc: Global, shown: Shown) -> Result<ShownBox, AllocError>
+        ensures { IfOk result (λ b. b ≡ shown) }
+    {
+        Ok(ShownBox {
+            held: Box::new(alloc, shown)?,
+        })
+    }
+
+    /// What is in the box.
+    pub fn as_shown(&self) -> &Shown
+        ensures { result.now ≡ self.now }
+    {
+        &self.held
+    }
+}

@@ -1,0 +1,8 @@
+use Rattle.std.proofs.Common.{[], ◌∷◌, codes}
+use Rattle.json_answers.specs.Values.{number_member}
+use Rattle.json_answers.specs.Shown.{two_numbers}
+use Rattle.json_answers.proofs.MemberLemmas.{adds_members}
+use Rattle.json_answers.proofs.shown.put_counts.Goals as goal
+
+pub returns : goal.returns
+returns c = adds_members c.put_two.result _ _ _ (number_member (codes "allowed") c.args.counts.now.allowed ∷ []) (two_numbers (codes "restricted") c.args.counts.now.restricted (codes "prohibited") c.args.counts.now.prohibited) c.in_ok-put_number.ensures c.put_two.ensures
