@@ -216,7 +216,7 @@ def endings_are_read_in_either_case(folder):
     want(read(folder, "two.Dot") == read(folder, "three.gv") == run(["picture", NETWORK])[0], "a DOT text")
 
 
-KEPT = "this run reads it, or writes its answers to it"
+KEPT = "this run reads it, or writes it itself"
 
 
 def a_picture_takes_the_place_of_no_file_of_its_run(folder):
@@ -234,6 +234,10 @@ def a_picture_takes_the_place_of_no_file_of_its_run(folder):
     write(folder, "steps.dot", "picture steps.dot\n")
     want(run(["play", "net.dot", "steps.dot"], cwd=folder) == ("refused 64 Write\n", "", 0), "a script that is played")
     want(read(folder, "steps.dot") == "picture steps.dot\n", "the script")
+    with open(os.path.join(folder, "steps.dot"), encoding="utf-8") as steps:
+        ran = subprocess.run([PROGRAM, "run", "net.dot"], stdin=steps, capture_output=True, text=True, timeout=60, cwd=folder)
+    want((ran.stdout, ran.stderr, ran.returncode) == ("refused 64 Write\n", "", 0), f"a script that is redirected: {ran}")
+    want(read(folder, "steps.dot") == "picture steps.dot\n", "the script that is redirected")
 
 
 def a_picture_takes_the_place_of_no_file_of_a_seat(folder):
@@ -251,6 +255,66 @@ def a_picture_takes_the_place_of_no_file_of_a_seat(folder):
     want(read(folder, "answers") == "refused 64 Write\n" * 5 + "picture three.dot\n", "the answers")
     want(all(read(folder, name) == text for name, text in texts.items()), "what is read")
     want(read(folder, "two.gv") == "version 0 accepted 0\n", "the answers of the other seat")
+
+
+EVENTS = "fail 1 0\nsync\nfail 2 0\n"
+
+
+def the_word_save_writes_what_a_run_saves(folder):
+    # what is accepted and not published is saved too
+    write(folder, "kept", mode=0o600)
+    got = run(["run", NETWORK], EVENTS + "save kept\nsave new.toml\n", cwd=folder)
+    want(got == ("taken 1\nsynced 1\ntaken 2\nsaved kept\nsaved new.toml\n", "", 0), f"the run: {got}")
+    want(read(folder, "kept") == read(folder, "new.toml") == saved_by(EVENTS), "the texts")
+    want(mode_of(folder, "kept") == 0o600, "the mode")
+    want(sorted(os.listdir(folder)) == ["kept", "new.toml"], "nothing else")
+
+
+def the_word_save_keeps_a_window_that_is_killed(folder):
+    with subprocess.Popen([PROGRAM, "run", NETWORK], stdin=subprocess.PIPE, stdout=subprocess.PIPE, cwd=folder) as ran:
+        ran.stdin.write((EVENTS + "save kept\nfail 3 0\n").encode())
+        ran.stdin.flush()
+        while ran.stdout.readline() != b"taken 3\n":
+            pass
+        ran.kill()
+    want(read(folder, "kept") == saved_by(EVENTS), "the text")
+
+
+def the_word_save_writes_its_own_network_by_that_name_alone(folder):
+    with open(NETWORK, encoding="utf-8") as it:
+        text = it.read()
+    write(folder, "net.toml", text)
+    write(folder, "steps", "fail 1 0\nsave ./net.toml\nsave link\nsave steps\nsave end\nsave /dev/null\nsave pipe\nsave .\nsave no/where\n")
+    os.symlink("net.toml", os.path.join(folder, "link"))
+    os.mkfifo(os.path.join(folder, "pipe"))
+    got = run(["play", "net.toml", "steps", "--save", "end", "--explain"], cwd=folder)
+    want(got[0] == "taken 1\n" + "refused 64 Write\n" * 8 and got[2] == 0, f"the run: {got}")
+    reasons = got[1].splitlines()
+    want(reasons[:4] == [f"line {at}: {name}: {KEPT}" for at, name in enumerate(("./net.toml", "link", "steps", "end"), 2)], f"the reasons: {got[1]}")
+    want(reasons[4:6] == ["line 6: /dev/null: a device isn't written", "line 7: pipe: a pipe isn't written"] and len(reasons) == 8, f"the reasons: {got[1]}")
+    want(read(folder, "net.toml") == text and read(folder, "end") == saved_by("fail 1 0\n"), "the files")
+    got = run(["run", "net.toml"], "fail 1 0\nsave net.toml\nrestore 1 0\n", cwd=folder)
+    want(got == ("taken 1\nsaved net.toml\ntaken 2\n", "", 0), f"the run: {got}")
+    want(read(folder, "net.toml") == saved_by("fail 1 0\n"), "the network")
+
+
+def the_word_save_leaves_a_full_disk_as_it_was(folder):
+    write(folder, "kept")
+    got = run(["run", NETWORK, "--explain"], "save kept\nversion\n", cwd=folder, preexec_fn=lambda: resource.setrlimit(resource.RLIMIT_FSIZE, (20, 20)))
+    want(got[0].startswith("refused 64 Write\n") and read(folder, "kept") == "before\n", f"the run: {got}")
+    want(os.listdir(folder) == ["kept"], "nothing else")
+
+
+def no_file_is_written_with_no_files(folder):
+    write(folder, "steps", "picture net.svg\nsave now.toml\n")
+    with open(os.path.join(folder, "steps"), encoding="utf-8") as it:
+        text = it.read()
+    reason = "no file is written: --no-files is given\n"
+    wanted = ("refused 62 BadLine\n" * 2, f"line 1: {reason}line 2: {reason}", 0)
+    for words in (["run", NETWORK], ["run", NETWORK, "--workers", "2"], ["play", NETWORK, "steps"]):
+        got = run([*words, "--no-files", "--explain"], text, cwd=folder)
+        want(got == wanted, f"{words[0]}: {got}")
+    want(os.listdir(folder) == ["steps"], "nothing else")
 
 
 def a_table_goes_to_no_pipe(folder):

@@ -2,7 +2,7 @@
 """quick.py [RUNS]: for who changes code: a first answer in some minutes, with nothing proved and nothing built that stays. The source
 runs unproved, with run-time checks: the tests of part_tests, state_tests and thread_tests, and by one run of `rt try` those worked
 examples that are a script over a network, each once through a pipe. They have to end with the status, the standard output and the
-standard error that they show. Left out are those that draw a picture into a file, and those that write more than the 1 MiB that
+standard error that they show. Left out are those that write a file, and those that write more than the 1 MiB that
 `rt try` shows. RUNS of `rt try` go side by side: if none is given, as many as the machine has room for. What fails is shown. The last line
 is 'N passed, M failed'."""
 import os
@@ -43,8 +43,8 @@ def examples():
     for file in sorted(os.listdir(HERE)):
         if file.endswith(".txt"):
             for example in examples_of(os.path.join(HERE, file)):
-                draws = re.search(r"(?m)^\s*picture\s+\S", example.script())
-                if example.head is None and not draws and len(example.answers()) < 1 << 20:
+                writes = re.search(r"(?m)^\s*(picture|save)\s+\S", example.script())
+                if example.head is None and not writes and len(example.answers()) < 1 << 20:
                     yield example.place.replace(":", "."), example
 
 

@@ -1,4 +1,6 @@
 pub mod DigitLemmas
 pub mod HelpLemmas
+pub mod RemedyLemmas
 pub mod RowLemmas
+pub mod MendLemmas
 pub mod ShownLemmas

@@ -9,7 +9,7 @@ use Rattle.answers.specs.declared.answer.RowAnswer.{RowAnswer}
 use Rattle.answers.specs.declared.answer.RowAnswer.TheVariants as row
 
 -- a row that is found is of the point
-found_of : (states : List RowState) (y : ℕ) (state : RowState) → find (λ (s : RowState). s.point == y) states ≡ Some state → state.point ≡ y
+pub found_of : (states : List RowState) (y : ℕ) (state : RowState) → find (λ (s : RowState). s.point == y) states ≡ Some state → state.point ≡ y
 found_of [] y state at = cc
 found_of (s ∷ states) y state at = go (eqb s.point y) refl (found_of states y state)
   where

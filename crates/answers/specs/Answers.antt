@@ -1,23 +1,24 @@
 -- How an answer is told in text (own).
 use Rattle.std.specs.Prelude.{ℕ, if◌then◌else◌, List, [], ◌∷◌, ◌++◌, Option, Some, None, codes}
-use Rattle.std.specs.List.{flat_map}
 use Rattle.std.specs.Fmt.{decimal}
 use Rattle.point_codes.specs.Codes.{code_text}
 use Rattle.net_data.specs.declared.events.Refusal.TheVariants as refusal
-use Rattle.what_if.specs.declared.changes.Change.{Change}
 use Rattle.answers.specs.Audits.{audit_right, audit_wrong}
 use Rattle.answers.specs.DeskRefusals.{desk_name, desk_values}
 use Rattle.answers.specs.Links.{links_text}
 use Rattle.answers.specs.Mend.{mend_text}
 use Rattle.answers.specs.Messages.{messages_text, octets_text}
+use Rattle.answers.specs.Remedies.{remedy_text}
+use Rattle.answers.specs.Reroutes.{moved_text, reroutes_text}
 use Rattle.answers.specs.Shown.{shown_text}
 use Rattle.answers.specs.Status.{status_text}
 use Rattle.answers.specs.Traces.{trace_text}
 use Rattle.answers.specs.Refusals.{refusal_name, refusal_values}
-use Rattle.answers.specs.WhatIfs.{change_text, report_text}
+use Rattle.answers.specs.WhatIfs.{report_text}
 use Rattle.answers.specs.Why.{why_text}
 use Rattle.answers.specs.declared.answer.Answer.{Answer}
 use Rattle.answers.specs.declared.answer.Answer.TheVariants as answer
+use Rattle.answers.specs.declared.answer.Moved.{Moved}
 use Rattle.answers.specs.declared.answer.NetAnswer.{NetAnswer}
 use Rattle.answers.specs.declared.answer.NetAnswer.TheVariants as net
 use Rattle.answers.specs.declared.answer.Publication.{Publication}
@@ -35,6 +36,7 @@ reason_name (reason.Desk refusal) = desk_name refusal
 reason_name (reason.Event refused) = refusal_name refused.refusal
 reason_name reason.NoPlan = refusal_name refusal.NoPlan
 reason_name reason.NoRow = codes "29 NoRow"
+reason_name reason.NotKept = codes "53 NotKept"
 reason_name reason.BadLine = codes "62 BadLine"
 reason_name reason.Write = codes "64 Write"
 
@@ -58,21 +60,22 @@ reply_text reply.Given = codes "given"
 reply_text reply.Abandoned = codes "abandoned"
 reply_text (reply.Version number accepted) = codes "version " ++ (decimal number ++ (codes " accepted " ++ decimal accepted))
 reply_text (reply.Watch is_on) = if is_on then codes "watch on" else codes "watch off"
+reply_text (reply.Last seq) = codes "last " ++ decimal seq
 
--- `changes P`, and each change
-abbrev pub changes_text : ℕ → List Change → List ℕ
-changes_text number changes = codes "changes " ++ (decimal number ++ flat_map change_text changes)
+-- `changes P since N lost L regained R moved M`, and each of them
+abbrev pub changes_text : ℕ → Moved → List ℕ
+changes_text number moved = codes "changes " ++ (decimal number ++ moved_text moved)
 
--- what a publication changed, on a line of its own, behind `*`; nothing if that isn't told
-abbrev pub notice_text : ℕ → Option (List Change) → List ℕ
+-- what a publication moved, on a line of its own, behind `*`; nothing if that isn't told
+abbrev pub notice_text : ℕ → Option Moved → List ℕ
 notice_text number None = []
-notice_text number (Some changes) = 10 ∷ 42 ∷ changes_text number changes
+notice_text number (Some moved) = 10 ∷ 42 ∷ changes_text number moved
 
 -- `published N`, `synced N` or `changes P`
 abbrev pub publication_text : Publication → List ℕ
-publication_text (publication.Published number changes) = codes "published " ++ (decimal number ++ notice_text number changes)
-publication_text (publication.Synced number changes) = codes "synced " ++ (decimal number ++ notice_text number changes)
-publication_text (publication.Changes number changes) = changes_text number changes
+publication_text (publication.Published number moved) = codes "published " ++ (decimal number ++ notice_text number moved)
+publication_text (publication.Synced number moved) = codes "synced " ++ (decimal number ++ notice_text number moved)
+publication_text (publication.Changes number moved) = changes_text number moved
 
 -- what is told of a row
 abbrev pub row_text : RowAnswer → List ℕ
@@ -82,15 +85,19 @@ row_text (row.Messages messages) = messages_text messages
 row_text (row.Octets octets) = octets_text octets
 row_text (row.Why far ways) = why_text far ways
 row_text (row.Mend mend) = mend_text mend
+row_text (row.Remedy remedy) = remedy_text remedy
 
 -- what is told of the whole network
 abbrev pub net_text : NetAnswer → List ℕ
 net_text (net.Trace trace) = trace_text trace
 net_text (net.WhatIf report) = report_text report
+net_text (net.Reroutes list) = codes "reroutes" ++ reroutes_text list
 net_text (net.Right count) = audit_right count
 net_text (net.Wrong dest complaint) = audit_wrong dest complaint
 net_text (net.Picture file picture) = codes "picture " ++ file
 net_text (net.Drawn file) = codes "picture " ++ file
+net_text (net.Saving file network) = codes "saved " ++ file
+net_text (net.Saved file) = codes "saved " ++ file
 
 -- an answer, without the line feed that ends it
 abbrev pub answer_text : Answer → List ℕ

@@ -1,9 +1,10 @@
 -- What `help` answers (own).
-use Rattle.std.specs.Prelude.{ℕ, if◌then◌else◌, List, [], ◌∷◌, ◌++◌, codes, find}
+use Rattle.std.specs.Prelude.{ℕ, ◌||◌, Bool, if◌then◌else◌, List, [], ◌∷◌, ◌++◌, codes, find}
 use Rattle.std.specs.List.{flat_map}
 use Rattle.std.specs.Option.{option_map_or}
 use Rattle.std.specs.Str.{bytes_eq}
 use Rattle.script_words.specs.Forms.{FormValue, forms, is_of}
+use Rattle.tokens.specs.Words.{word_if}
 use Rattle.answers.specs.declared.answer.Answer.{Answer}
 use Rattle.answers.specs.declared.answer.Answer.TheVariants as answer
 use Rattle.answers.specs.declared.answer.Reason.TheVariants as reason
@@ -16,9 +17,18 @@ word_text form = 32 ∷ form.word
 abbrev pub all_words : List ℕ
 all_words = codes "help" ++ flat_map word_text forms
 
+-- the words of what workers do by themselves: a command that begins with one is refused beside them
+abbrev pub is_of_workers : List ℕ → Bool
+is_of_workers word =
+    bytes_eq word (codes "open") || bytes_eq word (codes "take") || bytes_eq word (codes "give") || bytes_eq word (codes "abandon") || bytes_eq word (codes "publish")
+
+-- `EXAMPLE`, and `; refused beside workers` if it is
+abbrev pub example_text : FormValue → List ℕ
+example_text form = form.example ++ word_if (is_of_workers form.word) (codes "; refused beside workers")
+
 -- `help FORM, as EXAMPLE`
 abbrev pub form_text : FormValue → List ℕ
-form_text form = codes "help " ++ (form.form ++ (codes ", as " ++ form.example))
+form_text form = codes "help " ++ (form.form ++ (codes ", as " ++ example_text form))
 
 -- what is told about the words after `help`
 abbrev pub help_on : List (List ℕ) → Answer

@@ -4,11 +4,14 @@ pub mod Status
 pub mod Links
 pub mod Messages
 pub mod Ways
+pub mod Ends
 pub mod Why
 pub mod Mend
+pub mod Remedies
 pub mod Rows
 pub mod Traces
 pub mod WhatIfs
+pub mod Reroutes
 pub mod Changes
 pub mod Audits
 pub mod Replies

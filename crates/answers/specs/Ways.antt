@@ -15,11 +15,11 @@ use Rattle.answers.specs.declared.ways.Offer.{Offer}
 use Rattle.answers.specs.declared.ways.Offer.TheVariants as offer
 use Rattle.answers.specs.declared.ways.Way.{Way}
 
--- what point y is offered over an adjacent one with this status: that status if an available set joins them (Q.704 clause 3.2), and else the set
+-- what point y is offered over an adjacent one with this status: that status if an available set joins them (Q.704 clause 3.2), else the set that is down, with that status beyond it
 abbrev pub offer_over : Source → ℕ → ℕ → Far → Offer
 offer_over src y z far =
     if connected src.sets y z then offer.Far far
-    else option_map_or (λ (set : LinkSet). offer.Down set.id set.links) (set_between src.sets y z) offer.Unjoined
+    else option_map_or (λ (set : LinkSet). offer.Down set far) (set_between src.sets y z) offer.Unjoined
 
 -- the way of point y over that one
 abbrev pub way_over : Source → ℕ → ℕ → Far → ℕ → Bool → Way

@@ -3,12 +3,11 @@ use Rattle.std.specs.Prelude.{ℕ, ◌==◌, if◌then◌else◌, List, [], ◌�
 use Rattle.std.specs.List.{flat_map}
 use Rattle.std.specs.Fmt.{decimal}
 use Rattle.point_codes.specs.Codes.{code_text}
-use Rattle.net_items.specs.declared.links.Link.{Link}
+use Rattle.net_items.specs.declared.items.LinkSet.{LinkSet}
 use Rattle.route_choice.specs.declared.choices.Far.{Far}
 use Rattle.route_choice.specs.declared.choices.Far.TheVariants.{Allowed, Restricted, Prohibited}
-use Rattle.tokens.specs.Marked.{marked_text}
 use Rattle.tokens.specs.Words.{word_if}
-use Rattle.tokens.specs.declared.marked.Format.TheVariants.{Two}
+use Rattle.answers.specs.Ends.{links_words}
 use Rattle.answers.specs.Status.{far_text}
 use Rattle.answers.specs.declared.ways.Offer.{Offer}
 use Rattle.answers.specs.declared.ways.Offer.TheVariants as offer
@@ -20,14 +19,14 @@ far_reason Allowed = codes "ok"
 far_reason Restricted = codes "far restricted"
 far_reason Prohibited = codes "far prohibited"
 
--- a link and its marks, after a space
-abbrev pub marked_word : Link → List ℕ
-marked_word link = 32 ∷ marked_text Two link
+-- `down ID LINK LINK .. far STATUS`: a set that is down, each of its links, and the status of the point beyond it
+abbrev pub down_text : LinkSet → Far → List ℕ
+down_text set far = codes "down " ++ (decimal set.id ++ (links_words set ++ (codes " far " ++ far_text far)))
 
--- REASON: the status, or `down ID MARKED MARKED ..`, the set with each of its links
+-- REASON: the status, or the set that is down
 abbrev pub offer_text : Offer → List ℕ
 offer_text (offer.Far far) = far_reason far
-offer_text (offer.Down id links) = codes "down " ++ (decimal id ++ flat_map marked_word links)
+offer_text (offer.Down set far) = down_text set far
 offer_text offer.Unjoined = []
 
 -- what a way is called: `class K`, or `mate`

@@ -1,5 +1,7 @@
 //! What is answered to a line, with its values.
 
+use crate::net_box::NetBox;
+use crate::remedies::Remedy;
 use crate::shown::ShownBox;
 use crate::text::Text;
 use crate::ways::Ways;
@@ -7,7 +9,7 @@ use point_codes::PointCode;
 use profile::{Messages, RowLinks, Trace};
 use route_choice::{Choice, Far};
 use transfer_state::Complaint;
-use what_if::{Changes, Mend, Refused, Report};
+use what_if::{Mend, Refused, Report, Reroutes};
 use work_units::{Opened, Refusal};
 
 /// Why a line is refused.
@@ -21,6 +23,8 @@ pub enum Reason {
     NoPlan,
     /// The point has no row.
     NoRow,
+    /// The version of that number isn't kept any more, or never was published.
+    NotKept,
     /// The line is no command, or its slot is empty.
     BadLine,
     /// A file can't be written.
@@ -46,17 +50,28 @@ pub enum Reply {
     Version(u64, u64),
     /// Whether changes are told behind publications from now on.
     Watch(bool),
+    /// A collector's last sequence number, 0 if it has posted nothing.
+    Last(u64),
 }
 
-/// What was published, and what that changed.
+/// What moved since an earlier version.
+#[derive(Drop)]
+pub struct Moved {
+    /// The number of that version, none if nothing was published before.
+    pub since: Option<u64>,
+    /// What moved since.
+    pub reroutes: Reroutes,
+}
+
+/// What was published, and what that moved.
 #[derive(Drop)]
 pub enum Publication {
-    /// The version of this number is published, and what changed, if that is told behind publications.
-    Published(u64, Option<Changes>),
-    /// All that is accepted is published, under this number; and what changed, if that is told behind publications.
-    Synced(u64, Option<Changes>),
-    /// What changed from the version before to the one of this number.
-    Changes(u64, Changes),
+    /// The version of this number is published, and what moved, if that is told behind publications.
+    Published(u64, Option<Moved>),
+    /// All that is accepted is published, under this number; and what moved, if that is told behind publications.
+    Synced(u64, Option<Moved>),
+    /// What moved since an earlier version to the one of this number.
+    Changes(u64, Moved),
 }
 
 /// What is told of the row of a point.
@@ -74,6 +89,8 @@ pub enum RowAnswer {
     Why(Far, Ways),
     /// The links that have to be restored, if restoring does it.
     Mend(Option<Mend>),
+    /// The changes that restore them, if restoring does it.
+    Remedy(Option<Remedy>),
 }
 
 /// What is told of the whole network.
@@ -83,6 +100,8 @@ pub enum NetAnswer {
     Trace(Trace),
     /// What events would change.
     WhatIf(Report),
+    /// What events would move.
+    Reroutes(Reroutes),
     /// So many tables, each right.
     Right(usize),
     /// A wrong table: its destination, and the first complaint about it.
@@ -91,6 +110,10 @@ pub enum NetAnswer {
     Picture(Text, Text),
     /// The file that a picture was put into.
     Drawn(Text),
+    /// The file that a network is for, and the network.
+    Saving(Text, NetBox),
+    /// The file that a network was put into.
+    Saved(Text),
 }
 
 /// What is answered to a line.
@@ -98,7 +121,7 @@ pub enum NetAnswer {
 pub enum Answer {
     /// What the desk replies.
     Reply(Reply),
-    /// What was published, and what that changed.
+    /// What was published, and what that moved.
     Publication(Publication),
     /// What is told of the row of a point.
     Row(RowAnswer),

@@ -2,15 +2,16 @@
 
 ghost use Rattle.std.specs.Prelude.{◌≡◌, ◌∷◌, ◌++◌, [], IfOk, OnOk, map, string_bytes};
 ghost use Rattle.std.specs.List.{flat_map};
+ghost use Rattle.std.specs.Str.{bytes_eq};
 ghost use Rattle.script_words.specs.Forms.{value_of};
-ghost use Rattle.answers.specs.Help.{all_words, form_text, help_on, other_answer, word_text};
+ghost use Rattle.answers.specs.Help.{all_words, example_text, form_text, help_on, is_of_workers as of_workers, other_answer, word_text};
 ghost use Rattle.tokens.specs.Words.{words_of};
 
 use crate::answer::{Answer, Reason};
 use crate::text::Text;
 use script_words::{Form, form_of, forms};
 use std::alloc::{AllocError, Global};
-use tokens::split_words;
+use tokens::{put_if, split_words};
 
 /// Adds the word of a form after a space.
 fn put_word(text: &mut String, form: &Form) -> Result<(), AllocError>
@@ -39,6 +40,32 @@ fn help_all(alloc: Global) -> Result<Answer, AllocError>
     Ok(Answer::Help(Text::from_string(text)))
 }
 
+/// Whether a word is this text.
+fn is_word(word: &str, text: &str) -> bool
+    ensures { result ≡ bytes_eq word.now text.now }
+{
+    word == text
+}
+
+/// Whether a word is one of what workers do by themselves.
+fn is_of_workers(word: &str) -> bool
+    ensures { result ≡ of_workers word.now }
+{
+    is_word(word, "open")
+        || is_word(word, "take")
+        || is_word(word, "give")
+        || is_word(word, "abandon")
+        || is_word(word, "publish")
+}
+
+/// Adds the example of a form, and that it is refused beside workers if it is.
+fn put_example(text: &mut String, form: &Form) -> Result<(), AllocError>
+    ensures { OnOk result (string_bytes text.new ≡ string_bytes text.old ++ example_text (value_of form.now)) }
+{
+    text.push_str(form.example)?;
+    put_if(text, is_of_workers(form.word), "; refused beside workers")
+}
+
 /// The answer that tells a form and its example.
 fn help_form(alloc: Global, form: &Form) -> Result<Answer, AllocError>
     ensures { IfOk result (λ answer. answer ≡ Answer.Help (form_text (value_of form.now))) }
@@ -46,7 +73,7 @@ fn help_form(alloc: Global, form: &Form) -> Result<Answer, AllocError>
     let mut text = String::from_str(alloc, "help ")?;
     text.push_str(form.form)?;
     text.push_str(", as ")?;
-    text.push_str(form.example)?;
+    put_example(&mut text, form)?;
     Ok(Answer::Help(Text::from_string(text)))
 }
 

@@ -9,16 +9,20 @@
 //! 5. The octets of the message in force from Y to a point: `octets` and eight times `HH`, or `octets none`.
 //! 6. Why Y uses what it uses: `why STATUS`, then ` ; class K CODE REASON` for each via of each class, the first first, and ` ; mate
 //!    CODE REASON` if the row may use its mate; ` used` follows if Y leads its traffic over it. REASON is `ok`, `far restricted` or
-//!    `far prohibited`, the status of the via, or the direct status of the mate; or `down ID` with the set's links and their
-//!    marks, if no link of it is available.
-//! 7. The fewest links whose restoring makes the status of Y not prohibited: `mend` and `ID:MARKED` for each, `mend ok` if none has
-//!    to be restored, or `mend none` if no restoring does it.
+//!    `far prohibited`, the status of the via, or the direct status of the mate; or `down ID LINK LINK .. far STATUS` with
+//!    that status, if no link of the set between is available. A LINK is `SLC`, and `:failed`, `:blocked@CODE` and
+//!    `:inhibited@CODE` for each of its marks, with the end that it is of.
+//! 7. The links whose restoring makes the status of Y not prohibited, or allowed, that take least: `mend` and `ID:MARKED` for each,
+//!    `mend ok` if none has to be restored, or `mend none` if no restoring does it. The commands that restore them: `remedy` and the
+//!    commands, with ` ; ` between two; ` by CODE` follows one that is the matter of an end of the set. `remedy ok` and `remedy none`.
 //! 8. The trace of a signalling link selection from Y to X: `trace reached` and `ID:SLC>CODE` for each hop, or `trace
 //!    stopped`. It is refused as a question about a row is.
 //! 9. What events would change: `whatif granted` or `whatif denied`, and `Y/X BEFORE>AFTER` for each change, where
 //!    `none` stands for no row; or `refused`, the refusal of the first event that is refused, and `at PLACE`.
-//! 10. What changed from the version before to the published one: `changes P` for the version P, and the changes as those of a
-//!     what-if; nothing if there is no version before. `watch on` and `watch off` are answered so.
+//! 10. What moved since the version before the published one, or since the one of a number: `changes P since N lost L regained R
+//!     moved M`, and `Y/X BEFORE>AFTER` for each point and destination whose choice differs: the statuses, where these differ, else
+//!     `STATUS:CLASS:CODE+CODE`; nothing if there is no version before, and refused 53 NotKept if the version isn't kept. What events
+//!     would move: `reroutes lost ..`, told so too. `watch on` and `watch off` are answered so.
 //! 11. A check of every table by the local rule: `audit ok P` for P tables, or `audit bad X Y c` for the first wrong
 //!    one: its destination, and the point and the letter of the first complaint.
 //! 12. What is shown of the published network: `show points N sets N links N down N plans N tfr on`; `show down` and `ID:MARKED` for each
@@ -27,17 +31,19 @@
 //!     NoPoint and 26 NoPlan where there is none.
 //! 13. Replies of the desk: a post is answered `taken N`, or `again N` if it was accepted before; an opening `opened T
 //!    waiting W`; the taking of a job `job V CODE`; a result `given`; an abandonment `abandoned`; a publication `published
-//!    N`; `synced N` and `version P accepted N` tell what is published and accepted.
+//!    N`; `synced N` and `version P accepted N` tell what is published and accepted; `last SEQ` a collector's last
+//!    sequence number.
 //! 14. A refusal is `refused`, its number, its name and its values. An answer is told in one line, but that what a publication changed
 //!     stands behind it on a line of its own, with `*` at its front.
 //! 15. A line that is no command is refused 62 BadLine, but for `help`: it tells every word that begins a command, and `help
-//!     WORD` the form of that word's commands, with an example: `help FORM, as EXAMPLE`. Both are of the table of `script_words`.
+//!     WORD` the form of that word's commands, with an example: `help FORM, as EXAMPLE`, and that they are refused beside workers if they are.
+//!     Both are of the table of `script_words`.
 //! 16. Who tells the answers to a script is `Telling`: it says in which texts an answer may be told, and makes them. It may explain why a
 //!     line is refused, by the network after all accepted events.
 //!
 //! Stands on `work_units`, `path_trace`, `what_if`, `tokens`, `script_words`, `itoa`. A change here also changes specs/ (Answers, Audits,
-//! Changes, DeskRefusals, Filed, Help, Links, Mend, Messages, Refusals, Replies, Rows, Shown, Status, Traces, Ways, WhatIfs, Why), proofs/ and
-//! must-fail/.
+//! Changes, DeskRefusals, Ends, Filed, Help, Links, Mend, Messages, Refusals, Remedies, Replies, Reroutes, Rows, Shown, Status, Traces, Ways,
+//! WhatIfs, Why), proofs/ and must-fail/.
 #![tactic(auto)]
 
 pub mod answer;
@@ -45,13 +51,18 @@ pub mod audits;
 pub mod changes;
 mod codes;
 mod desk_refusals;
+mod ends;
 pub mod help;
+pub mod laws;
 mod links;
 mod mend;
 mod messages;
+pub mod net_box;
 pub mod printing;
 pub mod refusals;
+pub mod remedies;
 pub mod replies;
+pub mod reroutes;
 pub mod rows;
 mod showing;
 pub mod shown;
@@ -64,14 +75,18 @@ pub mod ways;
 pub mod what_ifs;
 mod why;
 
-pub use answer::{Answer, NetAnswer, Publication, Reason, Reply, RowAnswer};
+pub use answer::{Answer, Moved, NetAnswer, Publication, Reason, Reply, RowAnswer};
 pub use audits::{answer_audit, clause_word, put_complaint};
-pub use changes::{answer_changes, changes_of};
+pub use changes::{answer_changes, moved_since};
 pub use help::answer_other;
+pub use laws::mend_law;
 pub use messages::{hex_digit, kind_word};
+pub use net_box::NetBox;
 pub use printing::{print_answer, put_answer, reason_title};
 pub use refusals::{cause_word, put_refusal};
+pub use remedies::{Action, Remedy, write_command};
 pub use replies::{answer_abandoned, answer_given, answer_job, answer_open, answer_post};
+pub use reroutes::answer_reroutes;
 pub use rows::answer_about;
 pub use showing::answer_shown;
 pub use shown::{

@@ -11,7 +11,9 @@ use crate::links::put_links;
 use crate::mend::put_mend;
 use crate::messages::{put_messages, put_octets};
 use crate::refusals::refusal_title;
+use crate::remedies::put_remedy;
 use crate::replies::put_reply;
+use crate::reroutes::put_reroutes;
 use crate::shown_text::put_shown;
 use crate::status::put_status;
 use crate::text::Text;
@@ -30,6 +32,7 @@ pub fn reason_title(reason: &Reason) -> &'static str
         Reason::Event(refused) => refusal_title(&refused.refusal),
         Reason::NoPlan => refusal_title(&Refusal::NoPlan),
         Reason::NoRow => "29 NoRow",
+        Reason::NotKept => "53 NotKept",
         Reason::BadLine => "62 BadLine",
         Reason::Write => "64 Write",
     }
@@ -64,16 +67,17 @@ fn put_row(alloc: Global, text: &mut String, row: &RowAnswer) -> Result<(), Allo
         RowAnswer::Links(class, links) => put_links(text, *class, links),
         RowAnswer::Messages(messages) => put_messages(text, messages),
         RowAnswer::Octets(octets) => put_octets(text, octets),
-        RowAnswer::Why(far, ways) => put_why(alloc, text, *far, ways),
+        RowAnswer::Why(far, ways) => put_why(text, *far, ways),
         RowAnswer::Mend(mend) => put_mend(alloc, text, mend),
+        RowAnswer::Remedy(remedy) => put_remedy(text, remedy),
     }
 }
 
-/// Adds which file a picture is in.
-fn put_picture(text: &mut String, file: &Text) -> Result<(), AllocError>
-    ensures { OnOk result (string_bytes text.new ≡ string_bytes text.old ++ net_text (NetAnswer.Drawn file.now)) }
+/// Adds a word, and the name of a file.
+fn put_file(text: &mut String, word: &str, file: &Text) -> Result<(), AllocError>
+    ensures { OnOk result (string_bytes text.new ≡ string_bytes text.old ++ (word.now ++ file.now)) }
 {
-    text.push_str("picture ")?;
+    text.push_str(word)?;
     text.push_str(file.as_str())
 }
 
@@ -84,9 +88,14 @@ fn put_net(alloc: Global, text: &mut String, net: &NetAnswer) -> Result<(), Allo
     match net {
         NetAnswer::Trace(trace) => put_trace(text, trace),
         NetAnswer::WhatIf(report) => put_report(alloc, text, report),
+        NetAnswer::Reroutes(reroutes) => {
+            text.push_str("reroutes")?;
+            put_reroutes(text, reroutes)
+        }
         NetAnswer::Right(count) => put_right(text, *count),
         NetAnswer::Wrong(dest, complaint) => put_wrong(alloc, text, *dest, *complaint),
-        NetAnswer::Picture(file, _) | NetAnswer::Drawn(file) => put_picture(text, file),
+        NetAnswer::Picture(file, _) | NetAnswer::Drawn(file) => put_file(text, "picture ", file),
+        NetAnswer::Saving(file, _) | NetAnswer::Saved(file) => put_file(text, "saved ", file),
     }
 }
 
@@ -96,7 +105,7 @@ pub fn put_answer(alloc: Global, text: &mut String, answer: &Answer) -> Result<(
 {
     match answer {
         Answer::Reply(reply) => put_reply(text, reply),
-        Answer::Publication(publication) => put_publication(alloc, text, publication),
+        Answer::Publication(publication) => put_publication(text, publication),
         Answer::Row(row) => put_row(alloc, text, row),
         Answer::Net(net) => put_net(alloc, text, net),
         Answer::Shown(shown) => put_shown(alloc, text, shown.as_shown()),

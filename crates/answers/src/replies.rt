@@ -99,5 +99,6 @@ pub(crate) fn put_reply(text: &mut String, reply: &Reply) -> Result<(), AllocErr
             put_both(text, "version ", *number, " accepted ", *accepted)
         }
         Reply::Watch(is_on) => text.push_str(if *is_on { "watch on" } else { "watch off" }),
+        Reply::Last(seq) => put_numbered(text, "last ", *seq),
     }
 }

@@ -7,7 +7,8 @@ ghost use Rattle.excerpts.specs.Excerpt.{source_of};
 ghost use Rattle.answers.specs.Ways.{class_ways, mate_ways, offer_over, via_way, way_over, ways_of as all_ways};
 
 use excerpts::Excerpt;
-use net_items::{Links, Row};
+use net_items::copies::copy_set;
+use net_items::{LinkSet, Row};
 use point_codes::PointCode;
 use route_choice::{Choice, Far};
 use std::alloc::{AllocError, Global};
@@ -20,8 +21,8 @@ use what_if::mate_row;
 pub enum Offer {
     /// An available set joins them: the status of that one (Q.704 clause 3.2).
     Far(Far),
-    /// No link of the set between them is available: its id, and its links.
-    Down(u16, Links),
+    /// No link of the set between them is available: that set, and the status of that one.
+    Down(LinkSet, Far),
     /// No set joins them. A row of a valid network has no such way.
     Unjoined,
 }
@@ -68,7 +69,7 @@ fn offer_of(
         return Ok(Offer::Far(far));
     }
     match excerpt.set_between(point, other) {
-        Some(set) => Ok(Offer::Down(set.id, Links::from_slice(alloc, set.links.as_slice())?)),
+        Some(set) => Ok(Offer::Down(copy_set(alloc, set)?, far)),
         None => Ok(Offer::Unjoined),
     }
 }

@@ -18,7 +18,7 @@ use std::alloc::{AllocError, Global};
 use what_if::{Change, Refused, Report, what_if};
 
 /// A status, or that there is no row.
-fn status_word(status: Option<Far>) -> &'static str
+pub(crate) fn status_word(status: Option<Far>) -> &'static str
     ensures { result.now ≡ status_text status }
 {
     match status {
@@ -39,11 +39,7 @@ fn put_change(alloc: Global, text: &mut String, change: Change) -> Result<(), Al
 }
 
 /// Adds changes, each after a space.
-pub(crate) fn put_changes(
-    alloc: Global,
-    text: &mut String,
-    changes: &[Change],
-) -> Result<(), AllocError>
+fn put_changes(alloc: Global, text: &mut String, changes: &[Change]) -> Result<(), AllocError>
     ensures { OnOk result (string_bytes text.new ≡ string_bytes text.old ++ flat_map change_text changes.now) }
 {
     for change in changes {

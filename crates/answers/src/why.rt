@@ -2,15 +2,16 @@
 
 ghost use Rattle.std.specs.Prelude.{◌≡◌, ◌++◌, OnOk, string_bytes};
 ghost use Rattle.std.specs.List.{flat_map};
-ghost use Rattle.answers.specs.Why.{class_text, far_reason, marked_word, offer_text, way_text, why_text};
+ghost use Rattle.answers.specs.Why.{class_text, down_text, far_reason, offer_text, way_text, why_text};
 
 use crate::codes::{put_number, write_code};
+use crate::ends::put_links_of;
 use crate::status::far_word;
 use crate::ways::{Offer, Way, Ways};
-use net_items::Link;
+use net_items::LinkSet;
 use route_choice::Far;
-use std::alloc::{AllocError, Global};
-use tokens::{put_if, write_marked};
+use std::alloc::AllocError;
+use tokens::put_if;
 
 /// What is told of a point that an available set reaches.
 fn reason_word(far: Far) -> &'static str
@@ -23,36 +24,24 @@ fn reason_word(far: Far) -> &'static str
     }
 }
 
-/// Adds a link with its marks after a space.
-fn put_marked(alloc: Global, text: &mut String, link: Link) -> Result<(), AllocError>
-    ensures { OnOk result (string_bytes text.new ≡ string_bytes text.old ++ marked_word link) }
+/// Adds a set that is down, with its links, and the status of the point beyond it.
+fn put_down(text: &mut String, set: &LinkSet, far: Far) -> Result<(), AllocError>
+    ensures { OnOk result (string_bytes text.new ≡ string_bytes text.old ++ down_text set.now far) }
 {
-    let word = write_marked(alloc, &link)?;
-    text.push(' ')?;
-    text.push_str(word.as_str())
-}
-
-/// Adds links with their marks, each after a space.
-fn put_links(alloc: Global, text: &mut String, links: &[Link]) -> Result<(), AllocError>
-    ensures { OnOk result (string_bytes text.new ≡ string_bytes text.old ++ flat_map marked_word links.now) }
-{
-    for link in links {
-        put_marked(alloc, text, *link)?;
-    }
-    Ok(())
+    text.push_str("down ")?;
+    put_number(text, set.id)?;
+    put_links_of(text, set)?;
+    text.push_str(" far ")?;
+    text.push_str(far_word(far))
 }
 
 /// Adds what a point is offered over an adjacent one.
-fn put_offer(alloc: Global, text: &mut String, offer: &Offer) -> Result<(), AllocError>
+fn put_offer(text: &mut String, offer: &Offer) -> Result<(), AllocError>
     ensures { OnOk result (string_bytes text.new ≡ string_bytes text.old ++ offer_text offer.now) }
 {
     match offer {
         Offer::Far(far) => text.push_str(reason_word(*far)),
-        Offer::Down(id, links) => {
-            text.push_str("down ")?;
-            put_number(text, *id)?;
-            put_links(alloc, text, links.as_slice())
-        }
+        Offer::Down(set, far) => put_down(text, set, *far),
         Offer::Unjoined => Ok(()),
     }
 }
@@ -69,7 +58,7 @@ fn put_class(text: &mut String, class: u8) -> Result<(), AllocError>
 }
 
 /// Adds a way.
-fn put_way(alloc: Global, text: &mut String, way: &Way) -> Result<(), AllocError>
+fn put_way(text: &mut String, way: &Way) -> Result<(), AllocError>
     ensures { OnOk result (string_bytes text.new ≡ string_bytes text.old ++ way_text way.now) }
 {
     text.push_str(" ; ")?;
@@ -77,30 +66,25 @@ fn put_way(alloc: Global, text: &mut String, way: &Way) -> Result<(), AllocError
     text.push(' ')?;
     write_code(text, way.over)?;
     text.push(' ')?;
-    put_offer(alloc, text, &way.offer)?;
+    put_offer(text, &way.offer)?;
     put_if(text, way.used, " used")
 }
 
 /// Adds ways, one after the other.
-fn put_ways(alloc: Global, text: &mut String, ways: &[Way]) -> Result<(), AllocError>
+fn put_ways(text: &mut String, ways: &[Way]) -> Result<(), AllocError>
     ensures { OnOk result (string_bytes text.new ≡ string_bytes text.old ++ flat_map way_text ways.now) }
 {
     for way in ways {
-        put_way(alloc, text, way)?;
+        put_way(text, way)?;
     }
     Ok(())
 }
 
-/// Adds why a point uses what it uses: its status, and its ways.
-pub(crate) fn put_why(
-    alloc: Global,
-    text: &mut String,
-    far: Far,
-    ways: &Ways,
-) -> Result<(), AllocError>
+/// Adds why a point uses what it uses: its status, and its ways. It takes no memory but that of the text.
+pub(crate) fn put_why(text: &mut String, far: Far, ways: &Ways) -> Result<(), AllocError>
     ensures { OnOk result (string_bytes text.new ≡ string_bytes text.old ++ why_text far ways.now) }
 {
     text.push_str("why ")?;
     text.push_str(far_word(far))?;
-    put_ways(alloc, text, ways.as_slice())
+    put_ways(text, ways.as_slice())
 }

@@ -3,3 +3,4 @@ pub mod RightLemmas
 pub mod AlikeLemmas
 pub mod SyncedLemmas
 pub mod ToldLemmas
+pub mod WorkersLemmas

@@ -1,5 +1,5 @@
 -- Scripts with a `sync` between their events and what they ask are answered beside workers as in line.
-use Rattle.std.proofs.Common.{◌≡◌, ℕ, ◌+◌, ◌-◌, ◌^◌, ◌<◌, ◌≤◌, ◌==◌, ◌&&◌, not, Bool, true, false, List, [], ◌∷◌, ◌++◌, Option, Some, None, refl, sym, ap, ◌∙◌, subst, length, arith, length-append, append-nil}
+use Rattle.std.proofs.Common.{◌≡◌, ℕ, ◌+◌, ◌-◌, ◌^◌, ◌<◌, ◌≤◌, ◌==◌, ◌&&◌, not, Bool, true, false, List, [], ◌∷◌, ◌++◌, Option, Some, None, refl, sym, ap, ◌∙◌, subst, length, take, arith, length-append, append-nil}
 use Rattle.std.specs.Prelude.{if◌then◌else◌}
 use Rattle.std.proofs.lemmas.List.{take_all}
 use Rattle.net_data.specs.declared.events.Event.{Event}
@@ -14,27 +14,30 @@ use Rattle.script_words.specs.Commands.{command_of}
 use Rattle.script_words.specs.declared.commands.Command.{Command}
 use Rattle.script_words.specs.declared.commands.Command.TheVariants as command
 use Rattle.what_if.specs.Reports.{report_of}
+use Rattle.what_if.specs.Reroutes.{rerouted}
 use Rattle.desk_core.specs.declared.posts.Last.{Last}
 use Rattle.desk_core.specs.Desk.{DeskValue, accepted, net_now, new_desk}
 use Rattle.desk_core.specs.Steps.{Posts, last_of}
 use Rattle.desk_core.specs.Runs.{IsSteadyDesk}
 use Rattle.desk_core.proofs.ReplayLemmas.{replay-append}
 use Rattle.answers.specs.Audits.{audit_answer}
-use Rattle.answers.specs.Changes.{changes_answer, changes_since}
+use Rattle.answers.specs.Changes.{Earlier, changes_answer, moved_since}
 use Rattle.answers.specs.Replies.{posted_answer}
+use Rattle.answers.specs.Reroutes.{reroutes_answer}
 use Rattle.answers.specs.Rows.{answer_about}
 use Rattle.answers.specs.Traces.{trace_answer}
 use Rattle.answers.specs.WhatIfs.{what_if_answer}
 use Rattle.answers.specs.declared.answer.Answer.{Answer}
 use Rattle.answers.specs.declared.answer.Answer.TheVariants as answer
+use Rattle.answers.specs.declared.answer.Moved.{Moved}
 use Rattle.answers.specs.declared.answer.Publication.TheVariants as publication
+use Rattle.answers.specs.declared.answer.Reason.TheVariants as reason
 use Rattle.answers.specs.declared.answer.Reply.TheVariants as reply
-use Rattle.what_if.specs.declared.changes.Change.{Change}
 use Rattle.desk_console.specs.Pictures.{picture_told}
 use Rattle.desk_console.specs.Commands.{Commands, Obeys}
 use Rattle.desk_console.specs.Console.{ConsoleValue, opening}
-use Rattle.desk_console.specs.Does.{Calls, Does, PostsAfter, Syncs, Watches}
-use Rattle.desk_console.specs.Watch.{WatchValue, changes_told, notice, watched}
+use Rattle.desk_console.specs.Does.{Calls, Does, PostsAfter, Syncs, Watches, save_told}
+use Rattle.desk_console.specs.Watch.{WatchValue, changes_told, kept_at, newest, notice, told_since, watched}
 use Rattle.desk_console.specs.Syncing.{HasKept, synced}
 use Rattle.sessions.specs.Lines.{is_silent, is_too_long, trimmed}
 use Rattle.sessions.specs.Replies.{Answered, Answers, AreTexts, IsReply, Replies}
@@ -60,10 +63,18 @@ IsShown b c = (b.synced.number ≡ c.desk.published.number) × (b.synced.network
 
 -- what is told by the numbers and networks of versions
 abbrev watch_by : WatchValue → ℕ → Network → ℕ → WatchValue
-watch_by w m old n = if not (n == m) then record w { before = Some old } else w
+watch_by w m old n = if not (n == m) then record w { kept = Some (record { number = m; network = old }) ∷ take 7 w.kept } else w
 
-abbrev notice_by : WatchValue → ℕ → Network → ℕ → Network → Option (List Change)
-notice_by w m old n new = if w.is_on && not (n == m) then Some (changes_since (watch_by w m old n).before new) else None
+abbrev notice_by : WatchValue → ℕ → Network → ℕ → Network → Option Moved
+notice_by w m old n new = if w.is_on && not (n == m) then Some (moved_since (newest (watch_by w m old n)) new) else None
+
+abbrev since_by : Option Earlier → ℕ → Network → Answer
+since_by None number net = answer.Refused reason.NotKept
+since_by (Some old) number net = changes_answer (Some old) number net
+
+abbrev told_by : WatchValue → Option ℕ → ℕ → Network → Answer
+told_by w None number net = changes_answer (newest w) number net
+told_by w (Some n) number net = since_by (kept_at w n) number net
 
 module _ (w x : WatchValue) (old other new next : VersionValue) where
   watch_same : w ≡ x → old.number ≡ other.number → old.network ≡ other.network → new.number ≡ next.number → watched w old new ≡ watched x other next
@@ -77,10 +88,18 @@ module _ (w x : WatchValue) (old other new next : VersionValue) where
       ∙ ap (λ (net : Network). notice_by x other.number net new.number new.network) network ∙ ap (λ (k : ℕ). notice_by x other.number other.network k new.network) later
       ∙ ap (notice_by x other.number other.network next.number) left
 
-told_alike : (w x : WatchValue) (old other : VersionValue) → w ≡ x → old.number ≡ other.number → old.network ≡ other.network → changes_told w old ≡ changes_told x other
-told_alike w x old other same number network =
-    ap (λ (q : WatchValue). changes_answer q.before old.number old.network) same ∙ ap (λ (k : ℕ). changes_answer x.before k old.network) number
-    ∙ ap (changes_answer x.before other.number) network
+since_is : (e : Option Earlier) (version : VersionValue) → told_since e version ≡ since_by e version.number version.network
+since_is None version = refl
+since_is (Some old) version = refl
+
+told_is : (w : WatchValue) (since : Option ℕ) (version : VersionValue) → changes_told w since version ≡ told_by w since version.number version.network
+told_is w None version = refl
+told_is w (Some n) version = since_is (kept_at w n) version
+
+told_alike : (w x : WatchValue) (since : Option ℕ) (old other : VersionValue) → w ≡ x → old.number ≡ other.number → old.network ≡ other.network → changes_told w since old ≡ changes_told x since other
+told_alike w x since old other same number network =
+    told_is w since old ∙ ap (λ (q : WatchValue). told_by q since old.number old.network) same ∙ ap (λ (k : ℕ). told_by x since k old.network) number
+    ∙ ap (told_by x since other.number) network ∙ sym (told_is x since other)
 
 shown_still : (b new : BesideValue) (c end : ConsoleValue) → IsShown b c → KeepsSynced b new → end.desk.published ≡ c.desk.published → end.watch ≡ c.watch → IsShown new end
 shown_still b new c end shown kept published watch = (
@@ -224,7 +243,7 @@ module _ (start : DeskValue) (steady : IsSteadyDesk start) (es : List Event) (n 
         is.5 ∙ watch_same b.watch c.watch b.synced c.desk.published v (synced c.desk).published same.shown.2 same.shown.0 same.shown.1 published ∙ sym (ap (λ (d : ConsoleValue). d.watch) at.1),
       ) in (
         is.3 ∙ ap (λ (k : ℕ). answer.Publication (publication.Synced k (notice b.watch b.synced v))) number
-            ∙ ap (λ (changes : Option (List Change)). answer.Publication (publication.Synced (accepted c.desk) changes))
+            ∙ ap (λ (moved : Option Moved). answer.Publication (publication.Synced (accepted c.desk) moved))
             (notice_same b.watch c.watch b.synced c.desk.published v (synced c.desk).published same.shown.2 same.shown.0 same.shown.1 published network) ∙ sym at.0,
         looked_same 0 v new end is.1 after.kept after.none after.aim (omega arith) shown,
       )
@@ -272,6 +291,16 @@ module _ (start : DeskValue) (steady : IsSteadyDesk start) (es more : List Event
             calls_same (Does (command.Event event)) found 0 ((last_of found.desk 0).seq + 1) event small does is
             (subst (λ (l : Last). Calls (λ s. Posts s 0 (l.seq + 1) event) posted_answer c y end) (sym last) at)
 
+    -- what is told under the lock and changes nothing
+    there_told : (done : Command) (found : DeskAndChain) → DoesAt 1 (Does done) b found x new → at_console new.left.desk ≡ at_console found.desk → end ≡ c → Same n new end
+    there_told done found does left at =
+        let alike : Alike n found.desk c.desk = found_alike start steady es n b c same keeps found does.finds in
+        let desk : new.left.desk ≡ found.desk = ap (λ (d : ConsoleValue). d.desk) left in
+        let other : end.desk ≡ c.desk = ap (λ (d : ConsoleValue). d.desk) at in
+        there_same start more n (Does done) b found x new end does kept (same_alike n found.desk c.desk new.left.desk end.desk alike desk other)
+        (ap (λ (s : DeskValue). s.target) other ∙ same.aim)
+        (shown_still b new c end same.shown does.kept (ap (λ (s : DeskValue). s.published) other) (ap (λ (d : ConsoleValue). d.watch) at))
+
     -- `version`
     versions_same : (found : DeskAndChain) → n ≡ 0 → DoesAt 1 (Does command.Version) b found x new → Does command.Version c y end → (x ≡ y) × Same n new end
     versions_same found now does at =
@@ -279,18 +308,31 @@ module _ (start : DeskValue) (steady : IsSteadyDesk start) (es more : List Event
         let count = alike.count in
         let few = alike.few in
         let less = alike.less in
-        let number : found.desk.published.number ≡ c.desk.published.number = omega arith in
-        let desk : new.left.desk ≡ found.desk = ap (λ (d : ConsoleValue). d.desk) does.done.1 in
-        let other : end.desk ≡ c.desk = ap (λ (d : ConsoleValue). d.desk) at.1 in (
+        let number : found.desk.published.number ≡ c.desk.published.number = omega arith in (
           does.done.0 ∙ ap (λ (k : ℕ). answer.Reply (reply.Version k (accepted found.desk))) number ∙ ap (λ (k : ℕ). answer.Reply (reply.Version c.desk.published.number k)) count ∙ sym at.0,
-          there_same start more n (Does command.Version) b found x new end does kept (same_alike n found.desk c.desk new.left.desk end.desk alike desk other)
-              (ap (λ (s : DeskValue). s.target) other ∙ same.aim)
-              (shown_still b new c end same.shown does.kept (ap (λ (s : DeskValue). s.published) other) (ap (λ (d : ConsoleValue). d.watch) at.1)),
+          there_told command.Version found does does.done.1 at.1,
         )
 
-    -- `changes`
-    changes_same : (x ≡ changes_told b.watch b.synced) × (new ≡ b) → (y ≡ changes_told c.watch c.desk.published) × (end ≡ c) → (x ≡ y) × Same n new end
-    changes_same is at = (is.0 ∙ told_alike b.watch c.watch b.synced c.desk.published same.shown.2 same.shown.0 same.shown.1 ∙ sym at.0, still_same n b new c end same is.1 at.1)
+    -- `last C`
+    lasts_same : (found : DeskAndChain) (k : ℕ) → DoesAt 1 (Does (command.Last k)) b found x new → Does (command.Last k) c y end → (x ≡ y) × Same n new end
+    lasts_same found k does at =
+        let alike : Alike n found.desk c.desk = found_alike start steady es n b c same keeps found does.finds in (
+          does.done.0 ∙ ap (λ (l : Last). answer.Reply (reply.Last l.seq)) (last_same n found.desk c.desk k alike) ∙ sym at.0,
+          there_told (command.Last k) found does does.done.1 at.1,
+        )
+
+    -- `save FILE`
+    saves_same : (found : DeskAndChain) (file : List ℕ) → DoesAt 1 (Does (command.Save file)) b found x new → Does (command.Save file) c y end → (x ≡ y) × Same n new end
+    saves_same found file does at =
+        let alike : Alike n found.desk c.desk = found_alike start steady es n b c same keeps found does.finds in (
+          does.done.0 ∙ ap (save_told file) alike.net ∙ sym at.0,
+          there_told (command.Save file) found does does.done.1 at.1,
+        )
+
+    -- `changes` and `changes N`
+    changes_same : (since : Option ℕ) → (x ≡ changes_told b.watch since b.synced) × (new ≡ b) → (y ≡ changes_told c.watch since c.desk.published) × (end ≡ c) → (x ≡ y) × Same n new end
+    changes_same since is at =
+        (is.0 ∙ told_alike b.watch c.watch since b.synced c.desk.published same.shown.2 same.shown.0 same.shown.1 ∙ sym at.0, still_same n b new c end same is.1 at.1)
 
     -- `watch on` and `watch off`
     watches_same : (is_on : Bool) → WatchesBeside is_on b x new → Watches is_on c y end → (x ≡ y) × Same n new end
@@ -339,13 +381,16 @@ module _ (start : DeskValue) (steady : IsSteadyDesk start) (es more : List Event
         let stands : Keeps start es is.there.left = subst (λ (l : List Event). Keeps start l is.there.left) (append-nil es) (keeps_acted start steady es b [] is.visits.0 is.there keeps acts) in
         synced_same start steady es n is.there c (visited_same start steady es n b c same keeps is.visits.0 is.there stands is.visits.1) stands x y new end later is.syncs at
     obeys_same other (Some command.Version) may is at = versions_same is.0 may is.1 at
+    obeys_same other (Some (command.Last k)) may is at = lasts_same is.0 k is.1 at
+    obeys_same other (Some (command.Save file)) may is at = saves_same is.0 file is.1 at
     obeys_same other (Some (command.About asked p d)) may is at = asks_same (λ net. answer_about asked net p d) is.0 may is.1 is.2 at.0 at.1 is.3
     obeys_same other (Some (command.Trace p d s)) may is at = asks_same (λ net. trace_answer (trace_at net p d s)) is.0 may is.1 is.2 at.0 at.1 is.3
     obeys_same other (Some (command.WhatIf events)) may is at = asks_same (λ net. what_if_answer (report_of net events)) is.0 may is.1 is.2 at.0 at.1 is.3
+    obeys_same other (Some (command.Reroutes events)) may is at = asks_same (λ net. reroutes_answer (rerouted net events)) is.0 may is.1 is.2 at.0 at.1 is.3
     obeys_same other (Some command.Audit) may is at = asks_same (λ net. audit_answer (length net.plans)) is.0 may is.1 is.2 at.0 at.1 is.3
     obeys_same other (Some (command.Picture file about)) may is at = asks_same (λ net. picture_told file net about) is.0 may is.1 is.2 at.0 at.1 is.3
     obeys_same other (Some (command.Show what)) may is at = asks_same (shown_answer what) is.0 may is.1 is.2 at.0 at.1 is.3
-    obeys_same other (Some command.Changes) may is at = changes_same is at
+    obeys_same other (Some (command.Changes since)) may is at = changes_same since is at
     obeys_same other (Some (command.Watch is_on)) may is at = watches_same is_on is at
 
   line_same : (line : List ℕ) (x y : Option Answer) → MayCome n (command_in line) → Replies (CommandsBeside 1) line b x new → Replies Commands line c y end → (x ≡ y) × Same (events_after n (command_in line)) new end

@@ -122,6 +122,26 @@ impl<'a, N: Naming, R: Wait> Beside<'a, N, R> {
         self.visitor.version(self.rt, &mut *self.hub.lock(self.rt))
     }
 
+    /// A collector's last sequence number.
+    fn last(&mut self, collector: u8) -> Result<Answer, Fault>
+        ensures does { IfOk result (λ answer. DoesBeside N.seats (Command.Last collector) self.old answer self.new) }
+        ensures comes { Came N.seats self.old self.new }
+        ensures fault { IfErr result (CutsOff (Unit {0})) }
+    {
+        self.visitor
+            .last(self.rt, &mut *self.hub.lock(self.rt), collector)
+    }
+
+    /// The network after all accepted events, for a file.
+    fn save(&mut self, alloc: Global, file: &str) -> Result<Answer, Fault>
+        ensures does { IfOk result (λ answer. DoesBeside N.seats (Command.Save file.now) self.old answer self.new) }
+        ensures comes { Came N.seats self.old self.new }
+        ensures fault { IfErr result (CutsOff (Unit {0})) }
+    {
+        self.visitor
+            .save(self.rt, alloc, &mut *self.hub.lock(self.rt), file)
+    }
+
     /// Waits for a publication, unless all that was accepted is published; does a piece of the workers' work if there are none.
     fn wait(&self, alloc: Global) -> Result<(), AllocError> {
         let guard = self.hub.lock(self.rt);
@@ -208,6 +228,8 @@ impl<'a, N: Naming, R: Wait> Beside<'a, N, R> {
             Command::Event(_) | Command::Post(_, _, _) => unreachable!(),
             Command::Sync => self.sync(alloc),
             Command::Version => self.version(),
+            Command::Last(collector) => self.last(*collector),
+            Command::Save(file) => self.save(alloc, file.as_str()),
             Command::Open
             | Command::Take(_)
             | Command::Give(_)

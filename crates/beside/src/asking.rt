@@ -1,4 +1,4 @@
-//! What is asked of the published version: it is answered from a look, without the lock. And what a `sync` changed.
+//! What is asked of the published version: it is answered from a look, without the lock. And what moved up to a `sync`.
 
 ghost use Rattle.std.specs.Prelude.{◌≡◌, ◌||◌, true, IfErr, IfOk};
 ghost use Rattle.sessions.specs.Run.{CutsOff};
@@ -16,7 +16,7 @@ use std::alloc::Global;
 use versions::Naming;
 
 impl<N: Naming> Visitor<N> {
-    /// What a command asks, of the published version or of what a `sync` changed.
+    /// What a command asks, of the published version or of what moved up to a `sync`.
     pub(crate) fn tell(&mut self, alloc: Global, command: &Command) -> Result<Answer, Fault>
         requires within { IsWithin command.now }
         requires asked { (is_asked command.now || is_of_changes command.now) ≡ true }
@@ -25,7 +25,7 @@ impl<N: Naming> Visitor<N> {
         ensures fault { IfErr result (CutsOff (Unit {0})) }
     {
         match command {
-            Command::Changes | Command::Watch(_) => self.ask_changes(alloc, command),
+            Command::Changes(_) | Command::Watch(_) => self.ask_changes(alloc, command),
             _ => self.ask(alloc, command),
         }
     }
@@ -42,7 +42,7 @@ impl<N: Naming> Visitor<N> {
         Ok(answer_asked(alloc, self.newest(), command)?)
     }
 
-    /// What the last `sync` changed, or that it is told behind each from now on, or no more.
+    /// What moved up to the last `sync`, or that it is told behind each from now on, or no more.
     fn ask_changes(&mut self, alloc: Global, command: &Command) -> Result<Answer, Fault>
         requires { is_of_changes command.now ≡ true }
         ensures does { IfOk result (λ answer. DoesBeside N.seats command.now self.old answer self.new) }
@@ -50,7 +50,7 @@ impl<N: Naming> Visitor<N> {
         ensures fault { IfErr result (CutsOff (Unit {0})) }
     {
         match command {
-            Command::Changes => Ok(self.changes(alloc)?),
+            Command::Changes(since) => Ok(self.changes(alloc, *since)?),
             Command::Watch(is_on) => Ok(self.set_watch(*is_on)),
             _ => unreachable!(),
         }

@@ -6,7 +6,8 @@ ghost use mathlib.Core.List.{IsPrefix};
 ghost use Rattle.answers.specs.Replies.{posted_answer, refused};
 ghost use Rattle.desk_core.specs.Desk.{accepted};
 ghost use Rattle.desk_core.specs.Steps.{Posts};
-ghost use Rattle.desk_console.specs.Does.{Calls, HasMemory, PostsNext, Tells, version_of};
+ghost use Rattle.desk_console.specs.Console.{net_of};
+ghost use Rattle.desk_console.specs.Does.{Calls, HasMemory, PostsNext, Tells, last_told, save_told, version_of};
 ghost use Rattle.desk_console.specs.Watch.{changes_told, notice, watched};
 ghost use Rattle.sessions.specs.Run.{CutsOff};
 ghost use Rattle.versions.specs.Chains.{EndsWith, IsChain};
@@ -15,7 +16,7 @@ ghost use Rattle.beside.specs.Seats.{Came, CamePosting, Goes, StaysSeated};
 ghost use Rattle.beside.specs.Beside.{DoesAt, DoesThere, KeepsSynced, LeavesBeside, Looks, VisitsAt, WatchesBeside, newcomer};
 
 use answers::{Answer, Publication, Reason, Reply, answer_post};
-use desk_console::{Watch, has_memory};
+use desk_console::{Watch, answer_save, has_memory};
 use desk_core::{Posted, Refusal};
 use net_data::{Event, Net};
 use sessions::Fault;
@@ -205,6 +206,37 @@ impl<N: Naming> Visitor<N> {
         Ok(Answer::Reply(Reply::Version(desk.published().number(), desk.accepted())))
     }
 
+    /// A collector's last sequence number.
+    pub(crate) fn last<R: Wait>(
+        &mut self,
+        rt: &R,
+        hub: &mut Hub<N, BySeats>,
+        collector: u8,
+    ) -> Result<Answer, Fault>
+        ensures call { IfOk result (λ answer. DoesThere N.seats (λ c. Tells (last_told c.desk collector) c) self.old answer self.new) }
+        ensures comes { Came N.seats self.old self.new }
+        ensures fault { IfErr result (CutsOff (Unit {0})) }
+    {
+        self.visit(rt, hub)?;
+        Ok(Answer::Reply(Reply::Last(hub.desk().last_seq(collector))))
+    }
+
+    /// The network after all accepted events, for a file.
+    pub(crate) fn save<R: Wait>(
+        &mut self,
+        rt: &R,
+        alloc: Global,
+        hub: &mut Hub<N, BySeats>,
+        file: &str,
+    ) -> Result<Answer, Fault>
+        ensures call { IfOk result (λ answer. DoesThere N.seats (λ c. Tells (save_told file.now (net_of c)) c) self.old answer self.new) }
+        ensures comes { Came N.seats self.old self.new }
+        ensures fault { IfErr result (CutsOff (Unit {0})) }
+    {
+        self.visit(rt, hub)?;
+        Ok(answer_save(alloc, hub.desk().net_now(), file)?)
+    }
+
     /// A copy of the network after all accepted events.
     fn net_now<R: Wait>(
         &mut self,
@@ -294,18 +326,18 @@ impl<N: Naming> Visitor<N> {
     {
         let number = version.number();
         let old = replace(&mut self.synced, version);
-        let changes = self.watch.notice(alloc, old, &self.synced)?;
-        Ok(Answer::Publication(Publication::Synced(number, changes)))
+        let moved = self.watch.notice(alloc, old, &self.synced)?;
+        Ok(Answer::Publication(Publication::Synced(number, moved)))
     }
 
-    /// What the last `sync` changed.
-    pub(crate) fn changes(&self, alloc: Global) -> Result<Answer, AllocError>
-        ensures { IfOk result (λ answer. answer ≡ changes_told self.now.watch self.now.synced) }
+    /// What moved up to the last `sync`: since the one before it, or since the version of a number.
+    pub(crate) fn changes(&self, alloc: Global, since: Option<u64>) -> Result<Answer, AllocError>
+        ensures { IfOk result (λ answer. answer ≡ changes_told self.now.watch since self.now.synced) }
     {
-        self.watch.tell(alloc, &self.synced)
+        self.watch.tell(alloc, since, &self.synced)
     }
 
-    /// Changes are told behind each `sync` from now on, or no more.
+    /// What moves is told behind each `sync` from now on, or no more.
     pub(crate) fn set_watch(&mut self, is_on: bool) -> Answer
         ensures does { WatchesBeside is_on self.old result self.new }
         ensures stays { StaysSeated self.old self.new }

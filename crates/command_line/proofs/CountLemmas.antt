@@ -53,8 +53,8 @@ count_within otherwise None n few is = omega arith
 count_within otherwise (Some text) n few is = is.1
 
 pub order_within : (order : Order) (found : Option (Text × List Row)) → IsOrder order found → IsWithin order
-order_within (Run net workers save explained json strict) found is = count_within 0 _ workers (omega arith) is.3
-order_within (Play net steps save explained json strict) found is = tt
+order_within (Run net workers save explained json strict no_files) found is = count_within 0 _ workers (omega arith) is.3
+order_within (Play net steps save explained json strict no_files) found is = tt
 order_within (Serve net seats workers save explained json no_files) found is = count_within 1 _ workers (omega arith) is.4
 order_within (Check net explained json) found is = tt
 order_within (Picture net about svg explained) found is = tt

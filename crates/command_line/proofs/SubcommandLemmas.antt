@@ -155,10 +155,10 @@ asks_fills : Fills (rule_at 2 help_rule)
 asks_fills = help_fills (rule_at 2 help_rule) refl
 
 run_fills : AllFill run_built.rules
-run_fills = (required_fills 1 (codes "net"), (valued_fills (codes "workers"), (valued_fills (codes "save"), (flag_fills (codes "explain"), (flag_fills (codes "json"), (flag_fills (codes "strict"), (asks_fills, tt)))))))
+run_fills = (required_fills 1 (codes "net"), (valued_fills (codes "workers"), (valued_fills (codes "save"), (flag_fills (codes "explain"), (flag_fills (codes "json"), (flag_fills (codes "strict"), (flag_fills (codes "no-files"), (asks_fills, tt))))))))
 
 play_fills : AllFill play_built.rules
-play_fills = (required_fills 1 (codes "net"), (required_fills 2 (codes "steps"), (valued_fills (codes "save"), (flag_fills (codes "explain"), (flag_fills (codes "json"), (flag_fills (codes "strict"), (asks_fills, tt)))))))
+play_fills = (required_fills 1 (codes "net"), (required_fills 2 (codes "steps"), (valued_fills (codes "save"), (flag_fills (codes "explain"), (flag_fills (codes "json"), (flag_fills (codes "strict"), (flag_fills (codes "no-files"), (asks_fills, tt))))))))
 
 serve_fills : AllFill serve_built.rules
 serve_fills = (required_fills 1 (codes "net"), (required_fills 2 (codes "seats"), (valued_fills (codes "workers"), (valued_fills (codes "save"), (flag_fills (codes "explain"), (flag_fills (codes "json"), (flag_fills (codes "no-files"), (asks_fills, tt))))))))

@@ -45,17 +45,19 @@ app_with name rules = fold with_rule (new_app name) rules
 abbrev pub app_by : Subcommand → App
 app_by command = app_with command.name.now (map rule_by command.arguments.now)
 
--- `run NET --workers N --save FILE --explain --json --strict`
+-- `run NET --workers N --save FILE --explain --json --strict --no-files`
 abbrev pub run_app : App
 run_app =
     app_with (codes "run")
-    (required_rule (codes "net") ∷ valued_rule (codes "workers") ∷ valued_rule (codes "save") ∷ flag_rule (codes "explain") ∷ flag_rule (codes "json") ∷ flag_rule (codes "strict") ∷ [])
+    (required_rule (codes "net") ∷ valued_rule (codes "workers") ∷ valued_rule (codes "save") ∷ flag_rule (codes "explain") ∷ flag_rule (codes "json") ∷ flag_rule (codes "strict")
+    ∷ flag_rule (codes "no-files") ∷ [])
 
--- `play NET STEPS --save FILE --explain --json --strict`
+-- `play NET STEPS --save FILE --explain --json --strict --no-files`
 abbrev pub play_app : App
 play_app =
     app_with (codes "play")
-    (required_rule (codes "net") ∷ required_rule (codes "steps") ∷ valued_rule (codes "save") ∷ flag_rule (codes "explain") ∷ flag_rule (codes "json") ∷ flag_rule (codes "strict") ∷ [])
+    (required_rule (codes "net") ∷ required_rule (codes "steps") ∷ valued_rule (codes "save") ∷ flag_rule (codes "explain") ∷ flag_rule (codes "json") ∷ flag_rule (codes "strict")
+    ∷ flag_rule (codes "no-files") ∷ [])
 
 -- `serve NET SEATS --workers N --save FILE --explain --json --no-files`
 abbrev pub serve_app : App
@@ -111,16 +113,16 @@ HasFlag id rows = first_of id rows ≡ Some (codes "true")
 
 -- the order is what the subcommand's matches say
 abbrev pub IsOrder : Order → Option (Text × List Row) → Type 0
-IsOrder (Run net workers save explained json strict) found =
+IsOrder (Run net workers save explained json strict no_files) found =
     (rows : List Row) × (found ≡ Some (codes "run", rows)) × (first_of (codes "net") rows ≡ Some net.now)
     × IsWorkers 0 (first_of (codes "workers") rows) workers × (first_of (codes "save") rows ≡ option_map (λ s. s.now) save)
     × (IsTrue explained ↔ HasFlag (codes "explain") rows) × (IsTrue json ↔ HasFlag (codes "json") rows)
-    × (IsTrue strict ↔ HasFlag (codes "strict") rows)
-IsOrder (Play net steps save explained json strict) found =
+    × (IsTrue strict ↔ HasFlag (codes "strict") rows) × (IsTrue no_files ↔ HasFlag (codes "no-files") rows)
+IsOrder (Play net steps save explained json strict no_files) found =
     (rows : List Row) × (found ≡ Some (codes "play", rows)) × (first_of (codes "net") rows ≡ Some net.now)
     × (first_of (codes "steps") rows ≡ Some steps.now) × (first_of (codes "save") rows ≡ option_map (λ s. s.now) save)
     × (IsTrue explained ↔ HasFlag (codes "explain") rows) × (IsTrue json ↔ HasFlag (codes "json") rows)
-    × (IsTrue strict ↔ HasFlag (codes "strict") rows)
+    × (IsTrue strict ↔ HasFlag (codes "strict") rows) × (IsTrue no_files ↔ HasFlag (codes "no-files") rows)
 IsOrder (Serve net seats workers save explained json no_files) found =
     (rows : List Row) × (found ≡ Some (codes "serve", rows)) × (first_of (codes "net") rows ≡ Some net.now)
     × (first_of (codes "seats") rows ≡ Some seats.now) × IsWorkers 1 (first_of (codes "workers") rows) workers
@@ -145,8 +147,8 @@ IsOrder (Explain what json) found =
 
 -- there are at most 32 workers
 abbrev pub IsWithin : Order → Type 0
-IsWithin (Run net workers save explained json strict) = workers ≤ 32
-IsWithin (Play net steps save explained json strict) = Unit {0}
+IsWithin (Run net workers save explained json strict no_files) = workers ≤ 32
+IsWithin (Play net steps save explained json strict no_files) = Unit {0}
 IsWithin (Serve net seats workers save explained json no_files) = workers ≤ 32
 IsWithin (Check net explained json) = Unit {0}
 IsWithin (Picture net about svg explained) = Unit {0}

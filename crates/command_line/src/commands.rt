@@ -62,6 +62,12 @@ const STRICT: Argument = Argument::Flag(
     "If a line is refused, save nothing and end with status 1",
 );
 
+/// `--no-files`.
+const NO_FILES: Argument = Argument::Flag(
+    "no-files",
+    "Refuse what would write a file: the script words picture and save",
+);
+
 /// The subcommands.
 const SUBCOMMANDS: &[Subcommand] = &[
     Subcommand {
@@ -82,6 +88,7 @@ const SUBCOMMANDS: &[Subcommand] = &[
             EXPLAIN_LINES,
             JSON,
             STRICT,
+            NO_FILES,
         ],
     },
     Subcommand {
@@ -94,6 +101,7 @@ const SUBCOMMANDS: &[Subcommand] = &[
             EXPLAIN_LINES,
             JSON,
             STRICT,
+            NO_FILES,
         ],
     },
     Subcommand {
@@ -118,10 +126,7 @@ const SUBCOMMANDS: &[Subcommand] = &[
             ),
             EXPLAIN_LINES,
             JSON,
-            Argument::Flag(
-                "no-files",
-                "Refuse the pictures that sessions ask for, and write none to a file",
-            ),
+            NO_FILES,
         ],
     },
     Subcommand {

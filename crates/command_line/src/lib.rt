@@ -16,7 +16,7 @@
 //!    wrong.
 //! 10. With the flag `--json` the commands run, play, serve, check and explain write JSON objects.
 //! 11. With the flag `--strict` the commands run and play save nothing, and end with status 1, if a line was refused.
-//! 12. With the flag `--no-files` the command serve refuses the pictures that sessions ask for.
+//! 12. With the flag `--no-files` the commands run, play and serve refuse what would write a file for a script.
 //! 13. NET is a file, or in `run` alone `-` for standard input. An N that is no such number is refused by a fault of its own,
 //!     whose `explained` is true exactly if the flag `--explain` is given. Any other words are told by `clap`, as are `--help`
 //!     and `--version`.

@@ -90,6 +90,7 @@ fn run_order<'a>(matches: &ArgMatches<'a>) -> Result<Order<'a>, NoOrder>
     let save = value_at(matches, "save");
     let json = flag_at(matches, "json");
     let strict = flag_at(matches, "strict");
+    let no_files = flag_at(matches, "no-files");
     Ok(Order::Run {
         net,
         workers,
@@ -97,6 +98,7 @@ fn run_order<'a>(matches: &ArgMatches<'a>) -> Result<Order<'a>, NoOrder>
         explained,
         json,
         strict,
+        no_files,
     })
 }
 
@@ -114,6 +116,7 @@ fn play_order<'a>(matches: &ArgMatches<'a>) -> Option<Order<'a>>
         explained: flag_at(matches, "explain"),
         json: flag_at(matches, "json"),
         strict: flag_at(matches, "strict"),
+        no_files: flag_at(matches, "no-files"),
     })
 }
 

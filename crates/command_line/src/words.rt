@@ -17,7 +17,7 @@ pub enum Order<'a> {
     /// To answer the script on standard input from the network of a file, or of standard input itself where the file's
     /// name is `-`, with this many worker threads beside it, 0 to 32, to write the network to a file then, if one is named,
     /// to explain refused lines and faults, if that is wanted, to answer with JSON objects, if that is wanted, and to save
-    /// nothing and to end with status 1 if a line was refused, if that is wanted.
+    /// nothing and to end with status 1 if a line was refused, if that is wanted, and to write no files for the script, if that is wanted.
     Run {
         net: &'a str,
         workers: u32,
@@ -25,10 +25,11 @@ pub enum Order<'a> {
         explained: bool,
         json: bool,
         strict: bool,
+        no_files: bool,
     },
     /// To answer the script of the file STEPS from the network of a file, to write the network to a file then, if one is named,
     /// to explain refused lines and faults, if that is wanted, to answer with JSON objects, if that is wanted, and to save
-    /// nothing and to end with status 1 if a line was refused, if that is wanted.
+    /// nothing and to end with status 1 if a line was refused, if that is wanted, and to write no files for the script, if that is wanted.
     Play {
         net: &'a str,
         steps: &'a str,
@@ -36,10 +37,11 @@ pub enum Order<'a> {
         explained: bool,
         json: bool,
         strict: bool,
+        no_files: bool,
     },
     /// To answer the sessions that the file SEATS says at one desk over the network of a file, with this many worker threads beside
     /// them, 0 to 32, to write the network to a file then, if one is named, to explain faults, if that is wanted, to answer with
-    /// JSON objects where a session doesn't say otherwise, if that is wanted, and to write no pictures to files, if that is wanted.
+    /// JSON objects where a session doesn't say otherwise, if that is wanted, and to write no files for them, if that is wanted.
     Serve {
         net: &'a str,
         seats: &'a str,

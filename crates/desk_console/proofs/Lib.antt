@@ -4,3 +4,4 @@ pub mod RunLemmas
 pub mod SlotLemmas
 pub mod StepLemmas
 pub mod TaskLemmas
+pub mod WatchLemmas

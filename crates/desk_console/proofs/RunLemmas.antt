@@ -67,6 +67,7 @@ pub asked_does : (done : Command) (c : ConsoleValue) (a : Answer) → is_asked d
 asked_does (command.About asked y x) c a is said = (said, refl)
 asked_does (command.Trace y x s) c a is said = (said, refl)
 asked_does (command.WhatIf events) c a is said = (said, refl)
+asked_does (command.Reroutes events) c a is said = (said, refl)
 asked_does command.Audit c a is said = (said, refl)
 asked_does (command.Picture file about) c a is said = (said, refl)
 asked_does (command.Show what) c a is said = (said, refl)
@@ -114,10 +115,13 @@ module _ (line : List ℕ) (c : ConsoleValue) (a : Answer) (new : ConsoleValue) 
   command_runs (command.About asked y x) here is = told (rw here refl) is.1
   command_runs (command.Trace y x s) here is = told (rw here refl) is.1
   command_runs (command.WhatIf events) here is = told (rw here refl) is.1
+  command_runs (command.Reroutes events) here is = told (rw here refl) is.1
   command_runs command.Audit here is = told (rw here refl) is.1
   command_runs (command.Picture file about) here is = told (rw here refl) is.1
   command_runs (command.Show what) here is = told (rw here refl) is.1
-  command_runs command.Changes here is = told (rw here refl) is.1
+  command_runs (command.Last collector) here is = told (rw here refl) is.1
+  command_runs (command.Save file) here is = told (rw here refl) is.1
+  command_runs (command.Changes since) here is = told (rw here refl) is.1
   command_runs (command.Watch is_on) here is = silent (rw here refl) (unmoved c.desk new.desk (ap (λ (d : ConsoleValue). d.desk) is.1))
 
   obeyed : (other : Answer) (o : Option Command) → command_of (words_of line) ≡ o → Obeys other o c a new → IsRunOf c.desk (taken_by line a) new.desk

@@ -3,7 +3,9 @@ use Rattle.std.specs.Prelude.{Bool, true, false, length}
 use Rattle.net_data.specs.Network.{Network}
 use Rattle.path_trace.specs.Traces.{trace_at}
 use Rattle.what_if.specs.Reports.{report_of}
+use Rattle.what_if.specs.Reroutes.{rerouted}
 use Rattle.answers.specs.Audits.{audit_answer}
+use Rattle.answers.specs.Reroutes.{reroutes_answer}
 use Rattle.answers.specs.Rows.{answer_about}
 use Rattle.answers.specs.Shown.{shown_answer}
 use Rattle.answers.specs.Traces.{trace_answer}
@@ -20,6 +22,7 @@ abbrev pub is_asked : Command → Bool
 is_asked (command.About asked y x) = true
 is_asked (command.Trace y x s) = true
 is_asked (command.WhatIf events) = true
+is_asked (command.Reroutes events) = true
 is_asked command.Audit = true
 is_asked (command.Picture file about) = true
 is_asked (command.Show what) = true
@@ -27,12 +30,14 @@ is_asked _ = false
 
 -- its answer; one that asks nothing is no question
 abbrev pub asked_answer : Command → Network → Answer
--- `status Y X`, `sls Y X`, `messages Y X`, `octets Y Z X`, `why Y X` and `mend Y X`
+-- `status Y X`, `sls Y X`, `messages Y X`, `octets Y Z X`, `why Y X`, `mend Y X`, `remedy Y X`, `mend allowed Y X` and `remedy allowed Y X`
 asked_answer (command.About asked y x) net = answer_about asked net y x
 -- `trace Y X S`
 asked_answer (command.Trace y x s) net = trace_answer (trace_at net y x s)
 -- `whatif EVENT ; EVENT ..`
 asked_answer (command.WhatIf events) net = what_if_answer (report_of net events)
+-- `reroutes EVENT ; EVENT ..`
+asked_answer (command.Reroutes events) net = reroutes_answer (rerouted net events)
 -- `audit`
 asked_answer command.Audit net = audit_answer (length net.plans)
 -- `picture FILE` and `picture FILE X`

@@ -1,5 +1,6 @@
 -- What a command does at a console, and its answer (own).
 use Rattle.std.specs.Prelude.{◌≡◌, ◌≢◌, ℕ, ◌+◌, ◌-◌, ◌^◌, ◌==◌, Bool, true, false, List, [], Option, Some, None, Result, Ok, Err, slice_set}
+use Rattle.net_data.specs.Network.{Network}
 use Rattle.net_data.specs.declared.events.Event.{Event}
 use Rattle.work_units.specs.Work.{Work}
 use Rattle.work_units.specs.declared.replies.Refusal.{Refusal}
@@ -9,16 +10,17 @@ use Rattle.desk_core.specs.Steps.{last_of, Posts, Opens, Takes, Gives, Abandons,
 use Rattle.desk_core.specs.Runs.{IsRunOf}
 use Rattle.desk_console.specs.Syncing.{synced}
 use Rattle.answers.specs.Replies.{abandoned_answer, given_answer, job_answer, opened_answer, posted_answer, refused}
-use Rattle.what_if.specs.declared.changes.Change.{Change}
 use Rattle.answers.specs.declared.answer.Answer.{Answer}
 use Rattle.answers.specs.declared.answer.Answer.TheVariants as answer
+use Rattle.answers.specs.declared.answer.Moved.{Moved}
+use Rattle.answers.specs.declared.answer.NetAnswer.TheVariants as net_answer
 use Rattle.answers.specs.declared.answer.Publication.TheVariants as publication
 use Rattle.answers.specs.declared.answer.Reason.TheVariants as reason
 use Rattle.answers.specs.declared.answer.Reply.TheVariants as reply
 use Rattle.script_words.specs.declared.commands.Command.{Command}
 use Rattle.script_words.specs.declared.commands.Command.TheVariants as command
 use Rattle.desk_console.specs.Asked.{asked_answer}
-use Rattle.desk_console.specs.Console.{ConsoleValue, slot_of}
+use Rattle.desk_console.specs.Console.{ConsoleValue, net_of, slot_of}
 use Rattle.desk_console.specs.Watch.{WatchValue, changes_told, notice, watched}
 
 -- ---- what is told
@@ -31,10 +33,18 @@ Tells told c a new = (a ≡ told) × (new ≡ c)
 abbrev pub version_of : DeskValue → Answer
 version_of s = answer.Reply (reply.Version s.published.number (accepted s))
 
+-- a collector's last sequence number
+abbrev pub last_told : DeskValue → ℕ → Answer
+last_told s collector = answer.Reply (reply.Last (last_of s collector).seq)
+
+-- the network after all accepted events, for a file
+abbrev pub save_told : List ℕ → Network → Answer
+save_told file net = answer.Net (net_answer.Saving file net)
+
 -- of a publication
-abbrev pub published_answer : Option (List Change) → Result ℕ Refusal → Answer
-published_answer changes (Ok number) = answer.Publication (publication.Published number changes)
-published_answer changes (Err refusal) = refused refusal
+abbrev pub published_answer : Option Moved → Result ℕ Refusal → Answer
+published_answer moved (Ok number) = answer.Publication (publication.Published number moved)
+published_answer moved (Err refusal) = refused refusal
 
 -- ---- calls of the desk
 
@@ -87,7 +97,7 @@ AbandonsOf (Some work) c = Calls (λ s. Abandons s work.version work.excerpt.pla
 -- ---- publications
 
 -- what is told behind the reply where a command leaves this desk
-abbrev pub notice_of : ConsoleValue → DeskValue → Option (List Change)
+abbrev pub notice_of : ConsoleValue → DeskValue → Option Moved
 notice_of c new = notice c.watch c.desk.published new.published
 
 -- what is kept for `changes` then
@@ -106,7 +116,7 @@ Syncs c a new =
     (a ≡ answer.Publication (publication.Synced (accepted c.desk) (notice_of c (synced c.desk))))
     × (new ≡ record c { desk = synced c.desk; watch = watch_of c (synced c.desk) }) × IsRunOf c.desk [] new.desk
 
--- changes are told behind each publication from now on, or no more
+-- what moves is told behind each publication from now on, or no more
 abbrev pub Watches : Bool → ConsoleValue → Answer → ConsoleValue → Type 0
 Watches is_on c a new = (a ≡ answer.Reply (reply.Watch is_on)) × (new ≡ record c { watch = record c.watch { is_on = is_on } })
 
@@ -136,14 +146,19 @@ Does command.Publish c = PublishesTarget c
 Does command.Sync c = Syncs c
 -- `version`
 Does command.Version c = Tells (version_of c.desk) c
+-- `last C`
+Does (command.Last collector) c = Tells (last_told c.desk collector) c
+-- `save FILE`
+Does (command.Save file) c = Tells (save_told file (net_of c)) c
 -- a question
 Does (command.About asked y x) c = Asks (command.About asked y x) c
 Does (command.Trace y x s) c = Asks (command.Trace y x s) c
 Does (command.WhatIf events) c = Asks (command.WhatIf events) c
+Does (command.Reroutes events) c = Asks (command.Reroutes events) c
 Does command.Audit c = Asks command.Audit c
 Does (command.Picture file about) c = Asks (command.Picture file about) c
 Does (command.Show what) c = Asks (command.Show what) c
--- `changes`
-Does command.Changes c = Tells (changes_told c.watch c.desk.published) c
+-- `changes` and `changes N`
+Does (command.Changes since) c = Tells (changes_told c.watch since c.desk.published) c
 -- `watch on` and `watch off`
 Does (command.Watch is_on) c = Watches is_on c

@@ -12,12 +12,13 @@
 //!    results.
 //! 4. `version` tells the numbers of the published version and of the last accepted event. All other questions are
 //!    answered from the published version alone.
-//! 5. `changes` tells what differs between the statuses of the published version and those of the version before: the one that was
-//!    published when the last `publish` or `sync` came that published something. After `watch on` each `publish` and `sync` that
-//!    publishes something tells it too, behind its reply; `watch off` ends that.
+//! 5. `changes` tells what moved from the version before to the published one: the one that was published when the last `publish` or
+//!    `sync` came that published something. `changes N` tells it from the version N, if that is one of the last eight before the
+//!    published one. After `watch on` each `publish` and `sync` that publishes something tells it too, behind its reply; `watch off`
+//!    ends that. `last C` tells a collector's last sequence number, 0 if it has posted nothing.
 //! 6. `picture FILE` gives a picture of the published network, for who tells the answers to put into that file: an SVG document if
 //!    the file's name ends in `.svg`, in small letters or in capitals, else a DOT text; `picture FILE X` tells one about the
-//!    destination X.
+//!    destination X. `save FILE` gives the network after all accepted events for a file.
 //! 7. A line that is no command is answered `refused 62 BadLine`, but for `help` and `help WORD`.
 //!
 //! Stands on `answers`, `pictures`. A change here also changes specs/ (Asked, Commands, Console, Does, Pictures, Right, Settling, Syncing, Taken,
@@ -35,5 +36,6 @@ pub mod watching;
 pub use asking::answer_asked;
 pub use console::Console;
 pub use obeying::has_memory;
+pub use picturing::answer_save;
 pub use syncing::sync;
 pub use watching::Watch;

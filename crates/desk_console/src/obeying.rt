@@ -6,19 +6,20 @@ ghost use Rattle.answers.specs.Replies.{opened_answer, posted_answer};
 ghost use Rattle.script_words.specs.Commands.{IsWithin};
 ghost use Rattle.desk_console.specs.Taken.{event_of};
 ghost use Rattle.desk_console.specs.Asked.{is_asked};
-ghost use Rattle.desk_console.specs.Does.{Calls, Does, HasMemory, PostsNext, PublishesTarget, Syncs, Watches, published_answer, version_of};
+ghost use Rattle.desk_console.specs.Does.{Calls, Does, HasMemory, PostsNext, PublishesTarget, Syncs, Watches, last_told, published_answer, save_told, version_of};
+ghost use Rattle.desk_console.specs.Console.{net_of};
 ghost use Rattle.desk_console.specs.Watch.{changes_told};
 
 use crate::asking::answer_asked;
 use crate::console::Console;
+use crate::picturing::answer_save;
 use crate::sync;
-use answers::{Answer, Publication, Reason, Reply, answer_open, answer_post};
+use answers::{Answer, Moved, Publication, Reason, Reply, answer_open, answer_post};
 use desk_core::Refusal;
 use net_data::Event;
 use script_words::Command;
 use std::alloc::{AllocError, Global};
 use std::sync::Arc;
-use what_if::Changes;
 
 /// Whether memory sufficed for a reply of the desk.
 pub fn has_memory<T>(reply: &Result<T, Refusal>) -> bool
@@ -30,12 +31,12 @@ pub fn has_memory<T>(reply: &Result<T, Refusal>) -> bool
     }
 }
 
-/// The answer to a publication, with what it changed, if that is told.
-fn answer_publish(reply: Result<u64, Refusal>, changes: Option<Changes>) -> Answer
-    ensures { result ≡ published_answer changes reply }
+/// The answer to a publication, with what it moved, if that is told.
+fn answer_publish(reply: Result<u64, Refusal>, moved: Option<Moved>) -> Answer
+    ensures { result ≡ published_answer moved reply }
 {
     match reply {
-        Ok(number) => Answer::Publication(Publication::Published(number, changes)),
+        Ok(number) => Answer::Publication(Publication::Published(number, moved)),
         Err(refusal) => Answer::Refused(Reason::Desk(refusal)),
     }
 }
@@ -90,8 +91,8 @@ impl Console {
         if !has_memory(&reply) {
             return Err(AllocError);
         }
-        let changes = self.watch.notice(alloc, old, self.desk.published())?;
-        Ok(answer_publish(reply, changes))
+        let moved = self.watch.notice(alloc, old, self.desk.published())?;
+        Ok(answer_publish(reply, moved))
     }
 
     /// Brings the desk up to date.
@@ -100,18 +101,32 @@ impl Console {
     {
         let old = Arc::try_clone(self.desk.published())?;
         let number = sync(alloc, &mut self.desk)?;
-        let changes = self.watch.notice(alloc, old, self.desk.published())?;
-        Ok(Answer::Publication(Publication::Synced(number, changes)))
+        let moved = self.watch.notice(alloc, old, self.desk.published())?;
+        Ok(Answer::Publication(Publication::Synced(number, moved)))
     }
 
-    /// What the last publication changed.
-    fn changes(&self, alloc: Global) -> Result<Answer, AllocError>
-        ensures { IfOk result (λ answer. answer ≡ changes_told self.now.watch self.now.desk.published) }
+    /// What moved since the version before, or since the one of a number.
+    fn changes(&self, alloc: Global, since: Option<u64>) -> Result<Answer, AllocError>
+        ensures { IfOk result (λ answer. answer ≡ changes_told self.now.watch since self.now.desk.published) }
     {
-        self.watch.tell(alloc, self.desk.published())
+        self.watch.tell(alloc, since, self.desk.published())
     }
 
-    /// Changes are told behind publications from now on, or no more.
+    /// A collector's last sequence number.
+    fn last(&self, collector: u8) -> Answer
+        ensures { result ≡ last_told self.now.desk collector }
+    {
+        Answer::Reply(Reply::Last(self.desk.last_seq(collector)))
+    }
+
+    /// The network after all accepted events, for a file.
+    fn save(&self, alloc: Global, file: &str) -> Result<Answer, AllocError>
+        ensures { IfOk result (λ answer. answer ≡ save_told file.now (net_of self.now)) }
+    {
+        answer_save(alloc, self.desk.net_now(), file)
+    }
+
+    /// What moves is told behind publications from now on, or no more.
     fn set_watch(&mut self, is_on: bool) -> Answer
         ensures { Watches is_on self.old result self.new }
     {
@@ -151,7 +166,9 @@ impl Console {
             Command::Publish => self.publish(alloc),
             Command::Sync => self.sync(alloc),
             Command::Version => Ok(self.version()),
-            Command::Changes => self.changes(alloc),
+            Command::Last(collector) => Ok(self.last(*collector)),
+            Command::Save(file) => self.save(alloc, file.as_str()),
+            Command::Changes(since) => self.changes(alloc, *since),
             Command::Watch(is_on) => Ok(self.set_watch(*is_on)),
             _ => self.ask(alloc, command),
         }

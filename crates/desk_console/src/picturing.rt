@@ -1,11 +1,13 @@
-//! Pictures of the published network.
+//! Pictures of the published network, and the network after all accepted events, for files.
 
 ghost use Rattle.std.specs.Prelude.{◌≡◌, false, IfErr, IfOk, string_bytes};
 ghost use Rattle.pictures.specs.Shown.{picture_fault, lacks_plan};
+ghost use Rattle.desk_console.specs.Does.{save_told};
 ghost use Rattle.desk_console.specs.Pictures.{is_svg as ends_in_svg, picture_for, picture_told};
 
-use answers::{Answer, NetAnswer, Reason, Text};
+use answers::{Answer, NetAnswer, NetBox, Reason, Text};
 use excerpts::Frozen;
+use net_data::Net;
 use net_versions::Version;
 use pictures::{PictureFault, write_dot, write_svg};
 use point_codes::PointCode;
@@ -62,4 +64,12 @@ pub fn answer_picture(
         Err(PictureFault::NoPlan) => Ok(Answer::Refused(Reason::NoPlan)),
         Err(PictureFault::OutOfMemory) => Err(AllocError),
     }
+}
+
+/// The answer to `save FILE`: a copy of a network for that file. It fails if memory is refused.
+pub fn answer_save(alloc: Global, net: &Net, file: &str) -> Result<Answer, AllocError>
+    ensures { IfOk result (λ answer. answer ≡ save_told file.now net.now) }
+{
+    let file = Text::from_string(String::from_str(alloc, file)?);
+    Ok(Answer::Net(NetAnswer::Saving(file, NetBox::copy(alloc, net)?)))
 }

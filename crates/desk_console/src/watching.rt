@@ -1,33 +1,36 @@
-//! What is kept to tell what a publication changed.
+//! What is kept to tell what moved.
 
-ghost use Rattle.std.specs.Prelude.{◌≡◌, IfOk};
+ghost use Rattle.std.specs.Prelude.{◌≡◌, IfOk, map};
 ghost use Rattle.std.specs.Arc.{arc_value};
-ghost use Rattle.desk_console.specs.Watch.{changes_told, is_replaced as replaced, notice as the_notice, unwatched, watched};
+ghost use Rattle.std.specs.Option.{option_copied, option_map};
+ghost use Rattle.answers.specs.Changes.{earlier};
+ghost use Rattle.desk_console.specs.Watch.{among, changes_told, is_replaced as replaced, kept_at, newest, notice as the_notice, unwatched, watched};
 
-use answers::{Answer, answer_changes, changes_of};
+use answers::{Answer, Moved, Reason, answer_changes, moved_since};
 use net_versions::Version;
 use std::alloc::{AllocError, Global};
 use std::marker::Model;
 use std::sync::Arc;
-use what_if::Changes;
 
-/// The version before the published one, if there is one, and whether what a publication changes is told behind its reply.
-/// Contracts see that version's network.
+/// The last eight versions before the published one, and whether what a publication moves is told behind its reply. Contracts see their
+/// numbers and their networks.
 #[derive(Drop)]
 pub struct Watch {
-    before: Option<Arc<Version>>,
+    kept: [Option<Arc<Version>>; 8],
     is_on: bool,
 }
 
 impl Model for Watch {
+    ghost use Rattle.std.specs.Prelude.{map};
     ghost use Rattle.std.specs.Arc.{arc_value};
     ghost use Rattle.std.specs.Option.{option_map};
     ghost use Rattle.net_versions.specs.Versions.{VersionValue};
+    ghost use Rattle.answers.specs.Changes.{earlier};
     ghost use Rattle.desk_console.specs.Watch.{WatchValue};
 
     ghost Value = { WatchValue };
 
-    ghost view = { λ w. record { before = option_map (λ (version : VersionValue). version.network) (option_map arc_value w.before); is_on = w.is_on } };
+    ghost view = { λ w. record { kept = map (option_map (λ a. earlier (arc_value a))) w.kept; is_on = w.is_on } };
 }
 
 /// Whether a command that found a version published leaves another.
@@ -37,29 +40,66 @@ fn is_replaced(old: &Version, new: &Version) -> bool
     new.number() != old.number()
 }
 
+/// The version of a number among kept ones, if it is there.
+fn find_kept(kept: &[Option<Arc<Version>>], number: u64) -> Option<&Version>
+    ensures { option_map earlier (option_copied result) ≡ among (map (option_map (λ version. earlier (arc_value version))) kept.now) number }
+{
+    let (first, rest) = kept.split_first()?;
+    match first {
+        Some(version) if version.number() == number => Some(version),
+        _ => find_kept(rest, number),
+    }
+}
+
 impl Watch {
     /// Nothing was published yet, and nothing is told behind replies.
     pub fn new() -> Watch
         ensures { result ≡ unwatched }
     {
         Watch {
-            before: None,
+            kept: [None, None, None, None, None, None, None, None],
             is_on: false,
         }
     }
 
-    /// Tells what a publication changes behind its reply from now on, or no more.
+    /// Tells what a publication moves behind its reply from now on, or no more.
     pub fn set(&mut self, is_on: bool)
         ensures { self.new ≡ record self.old { is_on = is_on } }
     {
         self.is_on = is_on;
     }
 
-    /// What changed from the version before to the published one. It fails if memory is refused.
-    pub fn tell(&self, alloc: Global, version: &Version) -> Result<Answer, AllocError>
-        ensures { IfOk result (λ answer. answer ≡ changes_told self.now version.now) }
+    /// The version before.
+    fn newest(&self) -> Option<&Version>
+        ensures { option_map earlier (option_copied result) ≡ newest self.entry.now }
     {
-        answer_changes(alloc, self.before.as_deref(), version)
+        self.kept[0].as_deref()
+    }
+
+    /// The version of a number, if it is kept.
+    fn find(&self, number: u64) -> Option<&Version>
+        ensures { option_map earlier (option_copied result) ≡ kept_at self.entry.now number }
+    {
+        find_kept(&self.kept, number)
+    }
+
+    /// What moved since the version before the published one, or since the one of a number, refused if that isn't kept. It fails if memory is
+    /// refused.
+    pub fn tell(
+        &self,
+        alloc: Global,
+        since: Option<u64>,
+        version: &Version,
+    ) -> Result<Answer, AllocError>
+        ensures { IfOk result (λ answer. answer ≡ changes_told self.now since version.now) }
+    {
+        let Some(number) = since else {
+            return answer_changes(alloc, self.newest(), version);
+        };
+        match self.find(number) {
+            Some(before) => answer_changes(alloc, Some(before), version),
+            None => Ok(Answer::Refused(Reason::NotKept)),
+        }
     }
 
     /// Keeps the version that a command found published, if it leaves another.
@@ -69,26 +109,27 @@ impl Watch {
     {
         let is_other = is_replaced(&old, new);
         if is_other {
-            self.before = Some(old);
+            self.kept.rotate_right(1);
+            self.kept[0] = Some(old);
         }
         is_other
     }
 
     /// Keeps the version that a command found published, if it leaves another, and gives what is told behind its reply: what
-    /// changed, if that is watched. It fails if memory is refused.
+    /// moved, if that is watched. It fails if memory is refused.
     pub fn notice(
         &mut self,
         alloc: Global,
         old: Arc<Version>,
         new: &Version,
-    ) -> Result<Option<Changes>, AllocError>
+    ) -> Result<Option<Moved>, AllocError>
         ensures kept { self.new ≡ watched self.old (arc_value old) new.now }
-        ensures notice { IfOk result (λ changes. changes ≡ the_notice self.old (arc_value old) new.now) }
+        ensures notice { IfOk result (λ moved. moved ≡ the_notice self.old (arc_value old) new.now) }
     {
         let is_other = self.keep(old, new);
         if !(self.is_on && is_other) {
             return Ok(None);
         }
-        Ok(Some(changes_of(alloc, self.before.as_deref(), new)?))
+        Ok(Some(moved_since(alloc, self.newest(), new)?))
     }
 }

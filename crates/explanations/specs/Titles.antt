@@ -13,7 +13,7 @@ titles =
     codes "13 NotStp" ∷ codes "14 Paired" ∷ codes "15 NotPaired" ∷ codes "16 PairUsed" ∷ codes "17 NoSet" ∷
     codes "18 SetThere" ∷ codes "19 Joined" ∷ codes "20 SameEnds" ∷ codes "21 BadLinks" ∷ codes "22 NoLink" ∷
     codes "23 LinkThere" ∷ codes "24 LastLink" ∷ codes "25 SetUsed" ∷ codes "26 NoPlan" ∷ codes "27 BadRow" ∷
-    codes "28 Limit" ∷ codes "29 NoRow" ∷ codes "62 BadLine" ∷ codes "a IsDest" ∷ codes "b Twice" ∷
+    codes "28 Limit" ∷ codes "29 NoRow" ∷ codes "53 NotKept" ∷ codes "62 BadLine" ∷ codes "a IsDest" ∷ codes "b Twice" ∷
     codes "c NotJoined" ∷ codes "d ViaTwice" ∷ codes "e NotLower" ∷ codes "f ViaMate" ∷ codes "g BadMate" ∷
     codes "h NoRoute" ∷ codes "a points" ∷ codes "b route" ∷ codes "c status" ∷ codes "d links" ∷ codes "e messages" ∷
     codes "1 OutOfMemory" ∷ codes "60 NotToml" ∷ codes "61 BadKey" ∷ codes "63 Read" ∷ codes "64 Write" ∷

@@ -46,7 +46,7 @@ pub(crate) const WRITE: Explanation = Explanation {
     title: "64 Write",
     values: "",
     legend: "",
-    meaning: "Standard output, the file of `--save` or that of a picture can't be written.",
+    meaning: "Standard output, the file of `--save` or that of a line can't be written.",
     action: "Make room for it, or name another file.",
 };
 

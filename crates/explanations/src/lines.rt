@@ -18,6 +18,14 @@ pub(crate) const NO_ROW: Explanation = Explanation {
     action: "Ask for a point that has one.",
 };
 
+pub(crate) const NOT_KEPT: Explanation = Explanation {
+    title: "53 NotKept",
+    values: "",
+    legend: "",
+    meaning: "The version of that number is none of the last eight before the published one.",
+    action: "Ask for one of those; changes alone compares with the last of them.",
+};
+
 pub(crate) const BAD_LINE: Explanation = Explanation {
     title: "62 BadLine",
     values: "KEY PLACE",
@@ -52,6 +60,7 @@ pub fn explain_reason(why: &Reason) -> &'static Explanation
         Reason::Event(refused) => explain_edit(&refused.refusal),
         Reason::NoPlan => &NO_PLAN,
         Reason::NoRow => &NO_ROW,
+        Reason::NotKept => &NOT_KEPT,
         Reason::BadLine => &BAD_LINE,
         Reason::Write => &WRITE,
     }

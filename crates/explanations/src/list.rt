@@ -18,7 +18,7 @@ use crate::edits::{
 };
 use crate::explanation::Explanation;
 use crate::faults::{BAD_KEY, NO_PLACE, NOT_TOML, OUT_OF_MEMORY, READ, WRITE};
-use crate::lines::{BAD_CODE, BAD_LINE, LIMITS, NO_ROW};
+use crate::lines::{BAD_CODE, BAD_LINE, LIMITS, NO_ROW, NOT_KEPT};
 
 /// All explanations, in the order of the tables of docs/SCRIPT.md.
 const EXPLANATIONS: &[Explanation] = &[
@@ -54,6 +54,7 @@ const EXPLANATIONS: &[Explanation] = &[
     BAD_ROW,
     LIMIT,
     NO_ROW,
+    NOT_KEPT,
     BAD_LINE,
     IS_DEST,
     TWICE,

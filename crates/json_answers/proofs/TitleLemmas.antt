@@ -64,5 +64,6 @@ reason_numbered (reason.Desk refusal) = desk_numbered refusal
 reason_numbered (reason.Event refused) = edit_numbered refused.refusal
 reason_numbered reason.NoPlan = refl
 reason_numbered reason.NoRow = refl
+reason_numbered reason.NotKept = refl
 reason_numbered reason.BadLine = refl
 reason_numbered reason.Write = refl

@@ -5,7 +5,7 @@ use Rattle.std.specs.Fmt.{digit_glyph}
 use Rattle.json.specs.Json.{Json, null, boolean, string, array}
 use Rattle.json.specs.Value.{items_of}
 use Rattle.point_codes.specs.Codes.{code_text}
-use Rattle.net_items.specs.declared.links.Link.{Link}
+use Rattle.net_items.specs.declared.items.LinkSet.{LinkSet}
 use Rattle.profile.specs.declared.hops.Hop.{Hop}
 use Rattle.profile.specs.declared.hops.Trace.{Trace}
 use Rattle.profile.specs.declared.tables.LinkRef.{LinkRef}
@@ -14,16 +14,19 @@ use Rattle.route_choice.specs.declared.choices.Choice.{Choice}
 use Rattle.route_choice.specs.declared.choices.Far.{Far}
 use Rattle.route_choice.specs.declared.choices.Far.TheVariants.{Allowed, Restricted, Prohibited}
 use Rattle.transfer_state.specs.declared.complaints.Complaint.{Complaint}
-use Rattle.tokens.specs.Marked.{marked_text}
-use Rattle.tokens.specs.declared.marked.Format.TheVariants.{Two}
 use Rattle.what_if.specs.declared.changes.Change.{Change}
 use Rattle.what_if.specs.declared.mending.SetLink.{SetLink}
 use Rattle.what_if.specs.declared.reports.Report.{Report}
+use Rattle.what_if.specs.declared.reroutes.Reroute.{Reroute}
+use Rattle.what_if.specs.declared.reroutes.RerouteCounts.{RerouteCounts}
+use Rattle.what_if.specs.Reroutes.{reroute_counts}
 use Rattle.answers.specs.Audits.{clause_letter}
 use Rattle.answers.specs.Messages.{message_kind_text}
+use Rattle.answers.specs.Remedies.{command_text}
 use Rattle.answers.specs.Status.{far_text}
 use Rattle.answers.specs.declared.answer.Answer.{Answer}
 use Rattle.answers.specs.declared.answer.Answer.TheVariants as answer
+use Rattle.answers.specs.declared.answer.Moved.{Moved}
 use Rattle.answers.specs.declared.answer.NetAnswer.{NetAnswer}
 use Rattle.answers.specs.declared.answer.NetAnswer.TheVariants as net
 use Rattle.answers.specs.declared.answer.Publication.{Publication}
@@ -32,13 +35,14 @@ use Rattle.answers.specs.declared.answer.Reply.{Reply}
 use Rattle.answers.specs.declared.answer.Reply.TheVariants as reply
 use Rattle.answers.specs.declared.answer.RowAnswer.{RowAnswer}
 use Rattle.answers.specs.declared.answer.RowAnswer.TheVariants as row
+use Rattle.answers.specs.declared.remedies.Action.{Action}
 use Rattle.answers.specs.declared.ways.Offer.{Offer}
 use Rattle.answers.specs.declared.ways.Offer.TheVariants as offer
 use Rattle.answers.specs.declared.ways.Way.{Way}
 use Rattle.json_answers.specs.Members.{Member, object_with}
-use Rattle.json_answers.specs.Marked.{marked_value, mend_members}
-use Rattle.json_answers.specs.Refusals.{reason_members}
-use Rattle.json_answers.specs.Shown.{shown_members}
+use Rattle.json_answers.specs.Marked.{mend_members}
+use Rattle.json_answers.specs.Refusals.{number_if, reason_members}
+use Rattle.json_answers.specs.Shown.{code_if, set_members, shown_members, two_numbers}
 use Rattle.json_answers.specs.Values.{code_member, list_member, members_text, number_member, numbered_members, text_member, word_member}
 
 -- what the desk replies
@@ -50,6 +54,7 @@ reply_members (reply.Job version dest) = word_member (codes "job") ∷ number_me
 reply_members reply.Given = word_member (codes "given") ∷ []
 reply_members reply.Abandoned = word_member (codes "abandoned") ∷ []
 reply_members (reply.Version n accepted) = word_member (codes "version") ∷ number_member (codes "published") n ∷ number_member (codes "accepted") accepted ∷ []
+reply_members (reply.Last seq) = numbered_members (codes "last") (codes "sequence") seq
 reply_members (reply.Watch is_on) = word_member (codes "watch") ∷ text_member (codes "text") (if is_on then codes "on" else codes "off") ∷ []
 
 -- a status, null if there is no row
@@ -61,16 +66,6 @@ status_value (Some far) = string (far_text far)
 abbrev pub change_members : Change → List Member
 change_members change =
     code_member (codes "point") change.point ∷ code_member (codes "destination") change.dest ∷ (codes "before", status_value change.before) ∷ (codes "after", status_value change.after) ∷ []
-
--- changes, and the number of the version that they lead to, behind a word
-abbrev pub told_changes : List ℕ → ℕ → List Change → List Member
-told_changes word n changes = word_member word ∷ number_member (codes "published") n ∷ list_member (codes "changes") change_members changes ∷ []
-
--- what was published; what that changed is an object of its own
-abbrev pub publication_members : Publication → List Member
-publication_members (publication.Published n changes) = numbered_members (codes "published") (codes "version") n
-publication_members (publication.Synced n changes) = numbered_members (codes "synced") (codes "version") n
-publication_members (publication.Changes n changes) = told_changes (codes "changes") n changes
 
 -- a point, none at a place without one
 abbrev pub via_items : Option ℕ → List Json
@@ -88,6 +83,45 @@ used_members c = text_member (codes "status") (far_text c.status) ∷ number_mem
 -- what a row uses
 abbrev pub choice_members : Choice → List Member
 choice_members c = if c.class == 0 then unused_members else used_members c
+
+-- a choice, null if there is no row
+abbrev pub choice_value : Option Choice → Json
+choice_value None = null
+choice_value (Some c) = object_with (choice_members c)
+
+-- a point and a destination
+abbrev pub row_of_members : ℕ → ℕ → List Member
+row_of_members y x = code_member (codes "point") y ∷ code_member (codes "destination") x ∷ []
+
+-- what is used before and after
+abbrev pub side_members : Reroute → List Member
+side_members r = (codes "before", choice_value r.before) ∷ (codes "after", choice_value r.after) ∷ []
+
+-- what moves
+abbrev pub reroute_members : Reroute → List Member
+reroute_members r = row_of_members r.point r.dest ++ side_members r
+
+-- how many are lost, regained and moved
+abbrev pub move_counts : RerouteCounts → List Member
+move_counts c = number_member (codes "lost") c.lost ∷ two_numbers (codes "regained") c.regained (codes "moved") c.moved
+
+-- the same of a list, and each of it
+abbrev pub move_members : List Reroute → List Member
+move_members list = move_counts (reroute_counts list) ++ list_member (codes "changes") reroute_members list ∷ []
+
+-- what moved, and since which version
+abbrev pub moved_members : Moved → List Member
+moved_members moved = (codes "since", number_if moved.since) ∷ move_members moved.reroutes
+
+-- the same with the number of the version that it leads to, behind a word
+abbrev pub told_changes : List ℕ → ℕ → Moved → List Member
+told_changes word n moved = numbered_members word (codes "published") n ++ moved_members moved
+
+-- what was published; what that moved is an object of its own
+abbrev pub publication_members : Publication → List Member
+publication_members (publication.Published n moved) = numbered_members (codes "published") (codes "version") n
+publication_members (publication.Synced n moved) = numbered_members (codes "synced") (codes "version") n
+publication_members (publication.Changes n moved) = told_changes (codes "changes") n moved
 
 -- a link, by its set and its signalling link code
 abbrev pub link_members : LinkRef → List Member
@@ -120,17 +154,33 @@ abbrev pub mend_member : Option (List SetLink) → Member
 mend_member None = (codes "links", null)
 mend_member (Some links) = list_member (codes "links") mend_members links
 
+-- the command of a change, and the point that makes it
+abbrev pub command_members : Action → List Member
+command_members a = text_member (codes "command") (command_text a) ∷ (codes "by", code_if a.by) ∷ []
+
+-- a change: its link, its command, and the point that makes it
+abbrev pub action_members : Action → List Member
+action_members a = link_members (record { id = a.id; slc = a.slc }) ++ command_members a
+
+-- the changes that restore links, null if no restoring does it
+abbrev pub remedy_member : Option (List Action) → Member
+remedy_member None = (codes "commands", null)
+remedy_member (Some actions) = list_member (codes "commands") action_members actions
+
 -- the reason of a way over a point that an available set reaches
 abbrev pub offer_reason : Far → List ℕ
 offer_reason Allowed = codes "ok"
 offer_reason Restricted = codes "restricted"
 offer_reason Prohibited = codes "prohibited"
 
--- the reason of a way: the status of the via, or the set that isn't available, with each of its links
+-- a set that is down, and the status of the point beyond it
+abbrev pub down_members : LinkSet → Far → List Member
+down_members s far = set_members s ++ text_member (codes "far") (far_text far) ∷ []
+
+-- the reason of a way: the status of the via, or the set that is down
 abbrev pub offer_members : Offer → List Member
 offer_members (offer.Far far) = text_member (codes "reason") (offer_reason far) ∷ []
-offer_members (offer.Down id links) =
-    text_member (codes "reason") (codes "down") ∷ number_member (codes "set") id ∷ (codes "links", array (items_of (map marked_value links))) ∷ []
+offer_members (offer.Down set far) = text_member (codes "reason") (codes "down") ∷ down_members set far
 offer_members offer.Unjoined = []
 
 -- a way of a row: its class, the via, the reason, and whether it is used
@@ -145,6 +195,7 @@ row_word (row.Messages messages) = codes "messages"
 row_word (row.Octets octets) = codes "octets"
 row_word (row.Why far ways) = codes "why"
 row_word (row.Mend links) = codes "mend"
+row_word (row.Remedy actions) = codes "remedy"
 
 -- what is told behind it
 abbrev pub row_values : RowAnswer → List Member
@@ -154,6 +205,7 @@ row_values (row.Messages messages) = list_member (codes "messages") message_memb
 row_values (row.Octets octets) = (codes "octets", octets_value octets) ∷ []
 row_values (row.Why far ways) = text_member (codes "status") (far_text far) ∷ list_member (codes "ways") way_members ways ∷ []
 row_values (row.Mend links) = mend_member links ∷ []
+row_values (row.Remedy actions) = remedy_member actions ∷ []
 
 -- what is told of a row
 abbrev pub row_members : RowAnswer → List Member
@@ -186,19 +238,25 @@ complaint_members dest complaint =
 abbrev pub net_word : NetAnswer → List ℕ
 net_word (net.Trace trace) = codes "trace"
 net_word (net.WhatIf report) = codes "whatif"
+net_word (net.Reroutes list) = codes "reroutes"
 net_word (net.Right count) = codes "audit"
 net_word (net.Wrong dest complaint) = codes "audit"
 net_word (net.Picture file picture) = codes "picture"
 net_word (net.Drawn file) = codes "picture"
+net_word (net.Saving file network) = codes "saved"
+net_word (net.Saved file) = codes "saved"
 
 -- what is told behind it
 abbrev pub net_values : NetAnswer → List Member
 net_values (net.Trace trace) = trace_members trace
 net_values (net.WhatIf report) = report_members report
+net_values (net.Reroutes list) = move_members list
 net_values (net.Right count) = text_member (codes "result") (codes "ok") ∷ number_member (codes "plans") count ∷ []
 net_values (net.Wrong dest complaint) = text_member (codes "result") (codes "bad") ∷ complaint_members dest complaint
 net_values (net.Picture file picture) = text_member (codes "file") file ∷ []
 net_values (net.Drawn file) = text_member (codes "file") file ∷ []
+net_values (net.Saving file network) = text_member (codes "file") file ∷ []
+net_values (net.Saved file) = text_member (codes "file") file ∷ []
 
 -- what is told of the whole network
 abbrev pub net_members : NetAnswer → List Member

@@ -1,11 +1,11 @@
-//! Who tells the answers to a script: in a form alone, or with a clerk, who files its pictures.
+//! Who tells the answers to a script: in a form alone, or with a clerk, who files its pictures and networks.
 
-ghost use Rattle.std.specs.Prelude.{◌≡◌, ◌++◌, IfOk, OnOk, string_bytes};
-ghost use Rattle.answers.specs.Filed.{IsFiled};
+ghost use Rattle.std.specs.Prelude.{◌≡◌, ◌⊎◌, ◌++◌, IfOk, OnOk, string_bytes};
+ghost use Rattle.answers.specs.Filed.{IsFiled, IsUnfiled};
 ghost use Rattle.json_answers.specs.Form.{printed_in};
 
 use crate::form::Form;
-use answers::{Answer, Asked, NetAnswer, Reason, Telling, Text};
+use answers::{Answer, Asked, NetAnswer, NetBox, Reason, Telling, Text};
 use net_data::Net;
 use std::alloc::{AllocError, Global};
 
@@ -39,9 +39,29 @@ impl Telling for Form {
     }
 }
 
-/// Who puts the pictures of a script into files, and sees what its lines are answered.
+/// What a line asks to be put into a file.
+#[derive(Clone, Copy)]
+pub enum Content<'a> {
+    /// A picture.
+    Picture(&'a str),
+    /// A network.
+    Net(&'a Net),
+}
+
+/// What became of it.
+#[derive(Clone, Copy, Debug, PartialEq, Eq)]
+pub enum Outcome {
+    /// It is in the file.
+    Written,
+    /// The file can't be written.
+    Failed,
+    /// No files may be written.
+    Forbidden,
+}
+
+/// Who puts the pictures and networks of a script into files, and sees what its lines are answered.
 pub trait Clerk {
-    /// Puts the picture that a line asks for into a file, and tells whether it is there.
+    /// Puts what a line asks for into a file, and tells what became of it.
     ///
     /// # Errors
     ///
@@ -51,8 +71,8 @@ pub trait Clerk {
         alloc: Global,
         asked: Asked<'_>,
         file: &str,
-        picture: &str,
-    ) -> Result<bool, AllocError>;
+        content: Content<'_>,
+    ) -> Result<Outcome, AllocError>;
 
     /// Whether it explains why lines are refused, and so is to be shown the network.
     fn explains(&self) -> bool {
@@ -67,14 +87,25 @@ pub trait Clerk {
     fn see(&self, alloc: Global, asked: Asked<'_>, answer: &Answer);
 }
 
-/// Who tells the answers to a script in a form, and has a clerk put its pictures into files: in the place of a picture it is told that it
-/// is in its file, or that it can't be written.
+/// Who tells the answers to a script in a form, and has a clerk put its pictures and networks into files: in the place of one it is told
+/// that it is in its file, that the file can't be written, or that none may be.
 #[derive(Drop)]
 pub struct Filing<C> {
     /// The form.
     pub form: Form,
     /// The clerk.
     pub clerk: C,
+}
+
+/// What is told by what became of something for a file: that it is there, or why not.
+fn told_by(outcome: Outcome, done: NetAnswer) -> Answer
+    ensures { (result ≡ Answer.Net done) ⊎ IsUnfiled result }
+{
+    match outcome {
+        Outcome::Written => Answer::Net(done),
+        Outcome::Failed => Answer::Refused(Reason::Write),
+        Outcome::Forbidden => Answer::Refused(Reason::BadLine),
+    }
 }
 
 /// What is told of a picture, once the clerk was given it.
@@ -87,10 +118,24 @@ fn filed_picture<C: Clerk>(
 ) -> Result<Answer, AllocError>
     ensures { IfOk result (IsFiled (Answer.Net (NetAnswer.Picture file picture))) }
 {
-    if clerk.put(alloc, asked, file.as_str(), picture.as_str())? {
-        return Ok(Answer::Net(NetAnswer::Drawn(file)));
-    }
-    Ok(Answer::Refused(Reason::Write))
+    let content = Content::Picture(picture.as_str());
+    let outcome = clerk.put(alloc, asked, file.as_str(), content)?;
+    Ok(told_by(outcome, NetAnswer::Drawn(file)))
+}
+
+/// What is told of a network, once the clerk was given it.
+fn filed_net<C: Clerk>(
+    clerk: &C,
+    alloc: Global,
+    asked: Asked<'_>,
+    file: Text,
+    net: NetBox,
+) -> Result<Answer, AllocError>
+    ensures { IfOk result (IsFiled (Answer.Net (NetAnswer.Saving file net))) }
+{
+    let content = Content::Net(net.as_net());
+    let outcome = clerk.put(alloc, asked, file.as_str(), content)?;
+    Ok(told_by(outcome, NetAnswer::Saved(file)))
 }
 
 /// What is told in the place of an answer.
@@ -106,6 +151,7 @@ fn filed<C: Clerk>(
         Answer::Net(NetAnswer::Picture(file, picture)) => {
             filed_picture(clerk, alloc, asked, file, picture)
         }
+        Answer::Net(NetAnswer::Saving(file, net)) => filed_net(clerk, alloc, asked, file, net),
         other => Ok(other),
     }
 }

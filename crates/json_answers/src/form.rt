@@ -4,13 +4,12 @@ ghost use Rattle.std.specs.Prelude.{◌≡◌, ◌++◌, OnOk, string_bytes};
 ghost use Rattle.json_answers.specs.Form.{notice_objects, object_line, printed_in};
 ghost use Rattle.json_answers.specs.Objects.{answer_members};
 
+use crate::moves::put_changes;
 use crate::objects::{put_bytes, put_line, write_object};
-use crate::replies::put_changes;
 use crate::told::Told;
-use answers::{Answer, Publication, print_answer};
+use answers::{Answer, Moved, Publication, print_answer};
 use json::Writer;
 use std::alloc::{AllocError, Global};
-use what_if::Changes;
 
 /// The form in which answers are printed.
 #[derive(Clone, Copy, PartialEq, Eq)]
@@ -21,32 +20,32 @@ pub enum Form {
     Objects,
 }
 
-/// What a publication changed: its number, and the changes.
+/// What a publication moved, with its number.
 #[derive(Clone, Copy)]
 struct Notice<'a> {
     number: u64,
-    changes: &'a Changes,
+    moved: &'a Moved,
 }
 
 impl<'a> Told for Notice<'a> {
     ghost use Rattle.json_answers.specs.Form.{notice_members};
 
-    ghost members = { λ n. notice_members n.number n.changes.now };
+    ghost members = { λ n. notice_members n.number n.moved.now };
 
     fn put_members(&self, alloc: Global, writer: &mut Writer) -> Result<(), AllocError> {
-        put_changes(alloc, writer, "watch", self.number, self.changes)
+        put_changes(alloc, writer, "watch", self.number, self.moved)
     }
 }
 
-/// Adds the notice behind an answer: what a publication changed, if that is told.
+/// Adds the notice behind an answer: what a publication moved, if that is told.
 fn put_notice(alloc: Global, text: &mut String, answer: &Answer) -> Result<(), AllocError>
     ensures { OnOk result (string_bytes text.new ≡ string_bytes text.old ++ notice_objects answer.now) }
 {
     match answer {
-        Answer::Publication(Publication::Published(number, Some(changes)))
-        | Answer::Publication(Publication::Synced(number, Some(changes))) => {
+        Answer::Publication(Publication::Published(number, Some(moved)))
+        | Answer::Publication(Publication::Synced(number, Some(moved))) => {
             let number = *number;
-            put_line(alloc, text, &Notice { number, changes })
+            put_line(alloc, text, &Notice { number, moved })
         }
         _ => Ok(()),
     }

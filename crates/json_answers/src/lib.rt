@@ -4,11 +4,11 @@
 //!    values under names; a refusal has `refused`, its number, and `name` instead, and then its values.
 //! 2. Numbers are numbers, codes and words are texts, and null stands where there is nothing. What an answer lists is an array: of
 //!    objects, or of texts.
-//! 3. What a publication changed, if that is told, is an object of its own behind that of the publication: the notice.
+//! 3. What a publication moved, if that is told, is an object of its own behind that of the publication: the notice.
 //! 4. An answer is printed in a form: in text, or as objects.
 //! 5. The text of an answer's object reads as that object.
 //! 6. A check of a file, and an explanation, are objects too.
-//! 7. Who tells the answers to a script in a form may have a clerk put its pictures into files, explain why lines are refused, and see each
+//! 7. Who tells the answers to a script in a form may have a clerk put its pictures and networks into files, explain why lines are refused, and see each
 //!    answer before it is told.
 //!
 //! Stands on `answers`, `tokens`, `json`. A change here also changes specs/ (Checks, Filing, Form, Marked, Members, Objects,
@@ -19,9 +19,11 @@ pub mod checks;
 pub mod filing;
 pub mod form;
 mod members;
+mod moves;
 mod nets;
 pub mod objects;
 mod refusals;
+mod remedies;
 mod replies;
 mod rows;
 mod shown;
@@ -30,7 +32,7 @@ mod told;
 mod ways;
 
 pub use checks::{write_right, write_wrong};
-pub use filing::{Clerk, Filing};
+pub use filing::{Clerk, Content, Filing, Outcome};
 pub use form::Form;
 pub use objects::write_object;
 pub use texts::write_texts;

@@ -5,6 +5,8 @@ ghost use Rattle.std.specs.List.{after_first, before_first};
 ghost use Rattle.json.specs.Json.{null, number};
 ghost use Rattle.json.specs.Print.{IsNumber};
 ghost use Rattle.json_answers.specs.Members.{Adds, member_tokens};
+ghost use Rattle.json_answers.specs.Refusals.{number_if};
+ghost use Rattle.json_answers.specs.Shown.{code_if, two_numbers};
 ghost use Rattle.json_answers.specs.Values.{code_member, number_member, numbered_members, text_member, word_member};
 
 use json::Writer;
@@ -82,6 +84,45 @@ pub fn put_null(writer: &mut Writer, name: &str) -> Result<(), AllocError>
 {
     writer.key(name)?;
     writer.null()
+}
+
+/// Writes two numbers, each under a name.
+pub fn put_two(
+    writer: &mut Writer,
+    name: &str,
+    number: u64,
+    other: &str,
+    second: u64,
+) -> Result<(), AllocError>
+    ensures { OnOk result (Adds writer.old writer.new (member_tokens (two_numbers name.now number other.now second))) }
+{
+    put_number(writer, name, number)?;
+    put_number(writer, other, second)
+}
+
+/// Writes a number, null if there is none.
+pub fn put_number_if(writer: &mut Writer, name: &str, number: Option<u64>) -> Result<(), AllocError>
+    ensures { OnOk result (Adds writer.old writer.new (member_tokens ((name.now, number_if number) ∷ []))) }
+{
+    match number {
+        Some(number) => put_number(writer, name, number),
+        None => put_null(writer, name),
+    }
+}
+
+/// Writes a code, null if there is none.
+pub fn put_code_if(
+    alloc: Global,
+    writer: &mut Writer,
+    name: &str,
+    code: Option<PointCode>,
+) -> Result<(), AllocError>
+    ensures { OnOk result (Adds writer.old writer.new (member_tokens ((name.now, code_if code) ∷ []))) }
+{
+    match code {
+        Some(code) => put_code(alloc, writer, name, code),
+        None => put_null(writer, name),
+    }
 }
 
 /// Writes the word of an answer.

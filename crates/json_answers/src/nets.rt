@@ -7,7 +7,7 @@ ghost use Rattle.json_answers.specs.Objects.{complaint_members, net_members, net
 ghost use Rattle.json_answers.specs.Values.{text_member, word_member};
 
 use crate::members::{put_code, put_number, put_text, put_word};
-use crate::replies::put_change_list;
+use crate::moves::{put_change_list, put_moves};
 use crate::told::{Told, put_list};
 use answers::{NetAnswer, clause_word};
 use json::Writer;
@@ -112,8 +112,10 @@ fn put_net_word(writer: &mut Writer, net: &NetAnswer) -> Result<(), AllocError>
         match net {
             NetAnswer::Trace(_) => "trace",
             NetAnswer::WhatIf(_) => "whatif",
+            NetAnswer::Reroutes(_) => "reroutes",
             NetAnswer::Right(_) | NetAnswer::Wrong(_, _) => "audit",
             NetAnswer::Picture(_, _) | NetAnswer::Drawn(_) => "picture",
+            NetAnswer::Saving(_, _) | NetAnswer::Saved(_) => "saved",
         },
     )
 }
@@ -125,11 +127,13 @@ fn put_net_values(alloc: Global, writer: &mut Writer, net: &NetAnswer) -> Result
     match net {
         NetAnswer::Trace(trace) => put_trace(alloc, writer, trace),
         NetAnswer::WhatIf(report) => put_report(alloc, writer, report),
+        NetAnswer::Reroutes(reroutes) => put_moves(alloc, writer, reroutes),
         NetAnswer::Right(count) => put_right(writer, *count as u64),
         NetAnswer::Wrong(dest, complaint) => put_wrong(alloc, writer, *dest, *complaint),
-        NetAnswer::Picture(file, _) | NetAnswer::Drawn(file) => {
-            put_text(writer, "file", file.as_str())
-        }
+        NetAnswer::Picture(file, _)
+        | NetAnswer::Drawn(file)
+        | NetAnswer::Saving(file, _)
+        | NetAnswer::Saved(file) => put_text(writer, "file", file.as_str()),
     }
 }
 

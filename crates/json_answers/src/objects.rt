@@ -11,9 +11,10 @@ ghost use Rattle.json_answers.specs.Objects.{answer_members, answer_object, help
 ghost use Rattle.json_answers.specs.Values.{members_text};
 
 use crate::members::{after_space, put_text, put_word};
+use crate::moves::put_publication;
 use crate::nets::put_net;
 use crate::refusals::put_reason;
-use crate::replies::{put_publication, put_reply};
+use crate::replies::put_reply;
 use crate::rows::put_row;
 use crate::shown::put_shown;
 use crate::told::{Told, put_object};

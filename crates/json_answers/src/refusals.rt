@@ -1,12 +1,12 @@
 //! Refusals.
 
-ghost use Rattle.std.specs.Prelude.{◌≡◌, ◌∷◌, [], OnOk, codes};
+ghost use Rattle.std.specs.Prelude.{◌≡◌, OnOk};
 ghost use Rattle.answers.specs.Answers.{reason_name};
 ghost use Rattle.json_answers.specs.Members.{Adds, member_tokens};
-ghost use Rattle.json_answers.specs.Refusals.{desk_members, edit_values, number_if, reason_members, value_members, title_members};
+ghost use Rattle.json_answers.specs.Refusals.{desk_members, edit_values, reason_members, value_members, title_members};
 
 use crate::members::{
-    after_space, before_space, put_code, put_digits, put_null, put_number, put_set, put_text,
+    after_space, before_space, put_code, put_digits, put_number, put_number_if, put_set, put_text,
 };
 use answers::{Reason, cause_word, reason_title};
 use json::Writer;
@@ -38,16 +38,6 @@ fn put_edit_values(alloc: Global, writer: &mut Writer, refusal: &Refusal) -> Res
     }
 }
 
-/// Writes the number of the open target, null if none is open.
-fn put_target(writer: &mut Writer, target: Option<u64>) -> Result<(), AllocError>
-    ensures { OnOk result (Adds writer.old writer.new (member_tokens ((codes "target", number_if target) ∷ []))) }
-{
-    match target {
-        Some(number) => put_number(writer, "target", number),
-        None => put_null(writer, "target"),
-    }
-}
-
 /// Writes the values of a refusal of the desk.
 fn put_desk_values(
     alloc: Global,
@@ -61,7 +51,7 @@ fn put_desk_values(
         DeskRefusal::Gap(next) => put_number(writer, "next", *next),
         DeskRefusal::Old(last) => put_number(writer, "last", *last),
         DeskRefusal::NotReady(left) => put_number(writer, "left", *left as u64),
-        DeskRefusal::Stale(target) => put_target(writer, *target),
+        DeskRefusal::Stale(target) => put_number_if(writer, "target", *target),
         _ => Ok(()),
     }
 }

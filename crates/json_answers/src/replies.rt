@@ -1,18 +1,14 @@
-//! Replies of the desk, and publications.
+//! Replies of the desk.
 
-ghost use Rattle.std.specs.Prelude.{◌∷◌, [], OnOk, codes};
+ghost use Rattle.std.specs.Prelude.{OnOk};
 ghost use Rattle.json_answers.specs.Members.{Adds, member_tokens};
-ghost use Rattle.json_answers.specs.Values.{list_member};
-ghost use Rattle.json_answers.specs.Objects.{change_members, publication_members, reply_members, status_value, told_changes};
+ghost use Rattle.json_answers.specs.Objects.{reply_members};
 
-use crate::members::{put_code, put_null, put_number, put_numbered, put_text, put_word};
-use crate::told::{Told, put_list};
-use answers::{Publication, Reply, far_word};
+use crate::members::{put_code, put_number, put_numbered, put_text, put_word};
+use answers::Reply;
 use json::Writer;
 use point_codes::PointCode;
-use route_choice::Far;
 use std::alloc::{AllocError, Global};
-use what_if::{Change, Changes};
 use work_units::Opened;
 
 /// Writes the members of an opening.
@@ -65,70 +61,6 @@ pub fn put_reply(alloc: Global, writer: &mut Writer, reply: &Reply) -> Result<()
         Reply::Abandoned => put_word(writer, "abandoned"),
         Reply::Version(number, accepted) => put_version(writer, *number, *accepted),
         Reply::Watch(is_on) => put_watch(writer, *is_on),
-    }
-}
-
-/// Writes a status, null if there is no row.
-fn put_status(writer: &mut Writer, name: &str, status: Option<Far>) -> Result<(), AllocError>
-    ensures { OnOk result (Adds writer.old writer.new (member_tokens ((name.now, status_value status) ∷ []))) }
-{
-    match status {
-        Some(far) => put_text(writer, name, far_word(far)),
-        None => put_null(writer, name),
-    }
-}
-
-impl Told for Change {
-    ghost use Rattle.json_answers.specs.Objects.{change_members};
-
-    ghost members = { change_members };
-
-    fn put_members(&self, alloc: Global, writer: &mut Writer) -> Result<(), AllocError> {
-        put_code(alloc, writer, "point", self.point)?;
-        put_code(alloc, writer, "destination", self.dest)?;
-        put_status(writer, "before", self.before)?;
-        put_status(writer, "after", self.after)
-    }
-}
-
-/// Writes changes.
-pub fn put_change_list(
-    alloc: Global,
-    writer: &mut Writer,
-    changes: &Changes,
-) -> Result<(), AllocError>
-    ensures { OnOk result (Adds writer.old writer.new (member_tokens (list_member (codes "changes") change_members changes.now ∷ []))) }
-{
-    put_list(alloc, writer, "changes", changes.as_slice())
-}
-
-/// Writes changes, and the number of the version that they lead to, behind a word.
-pub fn put_changes(
-    alloc: Global,
-    writer: &mut Writer,
-    word: &str,
-    number: u64,
-    changes: &Changes,
-) -> Result<(), AllocError>
-    ensures { OnOk result (Adds writer.old writer.new (member_tokens (told_changes word.now number changes.now))) }
-{
-    put_numbered(writer, word, "published", number)?;
-    put_change_list(alloc, writer, changes)
-}
-
-/// Writes what was published. What that changed is an object of its own.
-pub fn put_publication(
-    alloc: Global,
-    writer: &mut Writer,
-    publication: &Publication,
-) -> Result<(), AllocError>
-    ensures { OnOk result (Adds writer.old writer.new (member_tokens (publication_members publication.now))) }
-{
-    match publication {
-        Publication::Published(number, _) => put_numbered(writer, "published", "version", *number),
-        Publication::Synced(number, _) => put_numbered(writer, "synced", "version", *number),
-        Publication::Changes(number, changes) => {
-            put_changes(alloc, writer, "changes", *number, changes)
-        }
+        Reply::Last(seq) => put_numbered(writer, "last", "sequence", *seq),
     }
 }

@@ -7,9 +7,10 @@ ghost use Rattle.json.specs.Tree.{json_tokens};
 ghost use Rattle.json.specs.Value.{items_of};
 ghost use Rattle.json_answers.specs.Members.{Adds, item_tokens, member_tokens};
 ghost use Rattle.json_answers.specs.Values.{word_member};
-ghost use Rattle.json_answers.specs.Objects.{choice_members, link_items, links_value, mend_member, octet_value, octets_value, row_members, row_values, row_word, unused_members, used_members, via_items};
+ghost use Rattle.json_answers.specs.Objects.{link_items, links_value, mend_member, octet_value, octets_value, row_members, row_values, row_word, unused_members, used_members, via_items};
 
 use crate::members::{put_code, put_null, put_number, put_set, put_text, put_word};
+use crate::remedies::put_remedy;
 use crate::told::{Told, put_list, put_object};
 use crate::ways::put_why;
 use answers::{RowAnswer, far_word, hex_digit, kind_word};
@@ -68,14 +69,17 @@ fn put_used(alloc: Global, writer: &mut Writer, choice: &Choice) -> Result<(), A
     put_vias(alloc, writer, &choice.members)
 }
 
-/// Writes what a row uses.
-fn put_choice(alloc: Global, writer: &mut Writer, choice: &Choice) -> Result<(), AllocError>
-    ensures { OnOk result (Adds writer.old writer.new (member_tokens (choice_members choice.now))) }
-{
-    if choice.class == 0 {
-        return put_unused(writer);
+impl Told for Choice {
+    ghost use Rattle.json_answers.specs.Objects.{choice_members};
+
+    ghost members = { choice_members };
+
+    fn put_members(&self, alloc: Global, writer: &mut Writer) -> Result<(), AllocError> {
+        if self.class == 0 {
+            return put_unused(writer);
+        }
+        put_used(alloc, writer, self)
     }
-    put_used(alloc, writer, choice)
 }
 
 impl Told for LinkRef {
@@ -209,6 +213,7 @@ fn put_row_word(writer: &mut Writer, row: &RowAnswer) -> Result<(), AllocError>
             RowAnswer::Octets(_) => "octets",
             RowAnswer::Why(_, _) => "why",
             RowAnswer::Mend(_) => "mend",
+            RowAnswer::Remedy(_) => "remedy",
         },
     )
 }
@@ -218,7 +223,7 @@ fn put_row_values(alloc: Global, writer: &mut Writer, row: &RowAnswer) -> Result
     ensures { OnOk result (Adds writer.old writer.new (member_tokens (row_values row.now))) }
 {
     match row {
-        RowAnswer::Status(choice) => put_choice(alloc, writer, choice),
+        RowAnswer::Status(choice) => choice.put_members(alloc, writer),
         RowAnswer::Links(class, links) => put_links(alloc, writer, *class, links),
         RowAnswer::Messages(messages) => {
             put_list(alloc, writer, "messages", messages.as_slice())
@@ -226,6 +231,7 @@ fn put_row_values(alloc: Global, writer: &mut Writer, row: &RowAnswer) -> Result
         RowAnswer::Octets(octets) => put_octets(alloc, writer, octets),
         RowAnswer::Why(far, ways) => put_why(alloc, writer, *far, ways),
         RowAnswer::Mend(mend) => put_mend(alloc, writer, mend),
+        RowAnswer::Remedy(remedy) => put_remedy(alloc, writer, remedy),
     }
 }
 

@@ -5,9 +5,9 @@ ghost use Rattle.json.specs.Json.{array, boolean};
 ghost use Rattle.json.specs.Tree.{json_tokens};
 ghost use Rattle.json.specs.Value.{items_of};
 ghost use Rattle.json_answers.specs.Members.{Adds, member_tokens};
-ghost use Rattle.json_answers.specs.Shown.{code_if, count_members, counted_members, end_members, id_value, kind_members, part_members, point_members, set_members, show_members, shown_members, size_members, state_members, two_numbers};
+ghost use Rattle.json_answers.specs.Shown.{count_members, counted_members, end_members, id_value, kind_members, part_members, point_members, set_members, show_members, shown_members, size_members, state_members};
 
-use crate::members::{put_code, put_null, put_number, put_set, put_text, put_word};
+use crate::members::{put_code, put_code_if, put_number, put_set, put_text, put_two, put_word};
 use crate::told::{Told, put_list};
 use crate::ways::put_marked_links;
 use answers::{NetSize, PointStatus, Shown, StatusCounts, far_word};
@@ -44,20 +44,6 @@ fn put_tfr(writer: &mut Writer, tfr: bool) -> Result<(), AllocError>
     writer.boolean(tfr)
 }
 
-/// Writes two numbers, each under a name.
-fn put_two(
-    writer: &mut Writer,
-    name: &str,
-    number: u64,
-    other: &str,
-    second: u64,
-) -> Result<(), AllocError>
-    ensures { OnOk result (Adds writer.old writer.new (member_tokens (two_numbers name.now number other.now second))) }
-{
-    put_number(writer, name, number)?;
-    put_number(writer, other, second)
-}
-
 /// Writes how many points, sets and links there are.
 fn put_parts(writer: &mut Writer, size: &NetSize) -> Result<(), AllocError>
     ensures { OnOk result (Adds writer.old writer.new (member_tokens (part_members size.now))) }
@@ -91,22 +77,12 @@ fn put_ends(alloc: Global, writer: &mut Writer, set: &LinkSet) -> Result<(), All
 }
 
 /// Writes a set, with its ends and its links.
-fn put_set_members(alloc: Global, writer: &mut Writer, set: &LinkSet) -> Result<(), AllocError>
+pub fn put_set_members(alloc: Global, writer: &mut Writer, set: &LinkSet) -> Result<(), AllocError>
     ensures { OnOk result (Adds writer.old writer.new (member_tokens (set_members set.now))) }
 {
     put_set(writer, set.id)?;
     put_ends(alloc, writer, set)?;
     put_marked_links(alloc, writer, set.links.as_slice())
-}
-
-/// Writes the mate of a point.
-fn put_mate(alloc: Global, writer: &mut Writer, mate: Option<PointCode>) -> Result<(), AllocError>
-    ensures { OnOk result (Adds writer.old writer.new (member_tokens ((codes "mate", code_if mate) ∷ []))) }
-{
-    match mate {
-        Some(mate) => put_code(alloc, writer, "mate", mate),
-        None => put_null(writer, "mate"),
-    }
 }
 
 /// Writes ids as an array.
@@ -146,7 +122,7 @@ fn put_point(
     ensures { OnOk result (Adds writer.old writer.new (member_tokens (point_members point.now ids.now))) }
 {
     put_kind(alloc, writer, point)?;
-    put_mate(alloc, writer, point.mate)?;
+    put_code_if(alloc, writer, "mate", point.mate)?;
     put_sets(writer, ids)
 }
 

@@ -32,6 +32,19 @@ pub fn put_object<T: Told>(alloc: Global, writer: &mut Writer, value: &T) -> Res
     writer.end_object()
 }
 
+/// Writes the object of a value under a name.
+pub fn put_told<T: Told>(
+    alloc: Global,
+    writer: &mut Writer,
+    name: &str,
+    value: &T,
+) -> Result<(), AllocError>
+    ensures { OnOk result (Adds writer.old writer.new (member_tokens ((name.now, object_with (T.members value.now)) ∷ []))) }
+{
+    writer.key(name)?;
+    put_object(alloc, writer, value)
+}
+
 /// Writes the objects of some values as an array.
 fn put_objects<T: Told>(alloc: Global, writer: &mut Writer, values: &[T]) -> Result<(), AllocError>
     ensures { OnOk result (Adds writer.old writer.new (json_tokens (array (items_of (map (λ x. object_with (T.members x)) values.now))))) }

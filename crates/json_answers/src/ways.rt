@@ -7,14 +7,15 @@ ghost use Rattle.json.specs.Value.{items_of};
 ghost use Rattle.answers.specs.Status.{far_text};
 ghost use Rattle.json_answers.specs.Members.{Adds, member_tokens};
 ghost use Rattle.json_answers.specs.Values.{list_member, text_member};
-ghost use Rattle.json_answers.specs.Objects.{offer_reason, offer_members, way_members};
+ghost use Rattle.json_answers.specs.Objects.{down_members, offer_members, offer_reason, way_members};
 ghost use Rattle.json_answers.specs.Marked.{marked_value};
 
-use crate::members::{put_code, put_number, put_set, put_text};
+use crate::members::{put_code, put_number, put_text};
+use crate::shown::put_set_members;
 use crate::told::{Told, put_list};
 use answers::{Offer, Way, Ways, far_word};
 use json::Writer;
-use net_items::Link;
+use net_items::{Link, LinkSet};
 use route_choice::Far;
 use std::alloc::{AllocError, Global};
 use tokens::write_marked;
@@ -61,13 +62,25 @@ pub fn put_marked_links(
     put_each_marked(alloc, writer, links)
 }
 
-/// Writes a set that isn't available, with its links.
-fn put_down(alloc: Global, writer: &mut Writer, id: u16, links: &[Link]) -> Result<(), AllocError>
-    ensures { OnOk result (Adds writer.old writer.new (member_tokens (offer_members (Offer.Down id links.now)))) }
+/// Writes a set that is down, and the status of the point beyond it.
+fn put_down_set(
+    alloc: Global,
+    writer: &mut Writer,
+    set: &LinkSet,
+    far: Far,
+) -> Result<(), AllocError>
+    ensures { OnOk result (Adds writer.old writer.new (member_tokens (down_members set.now far))) }
+{
+    put_set_members(alloc, writer, set)?;
+    put_text(writer, "far", far_word(far))
+}
+
+/// Writes the reason of a way over a set that is down.
+fn put_down(alloc: Global, writer: &mut Writer, set: &LinkSet, far: Far) -> Result<(), AllocError>
+    ensures { OnOk result (Adds writer.old writer.new (member_tokens (offer_members (Offer.Down set.now far)))) }
 {
     put_text(writer, "reason", "down")?;
-    put_set(writer, id)?;
-    put_marked_links(alloc, writer, links)
+    put_down_set(alloc, writer, set, far)
 }
 
 /// Writes the reason of a way.
@@ -76,7 +89,7 @@ fn put_offer(alloc: Global, writer: &mut Writer, offer: &Offer) -> Result<(), Al
 {
     match offer {
         Offer::Far(far) => put_text(writer, "reason", reason_word(*far)),
-        Offer::Down(id, links) => put_down(alloc, writer, *id, links.as_slice()),
+        Offer::Down(set, far) => put_down(alloc, writer, set, *far),
         Offer::Unjoined => Ok(()),
     }
 }

@@ -6,7 +6,7 @@ use route_state::desks::Version;
 use route_state::marks::{End, LinkChange};
 use route_state::nets::Event;
 use route_state::traces::{Hop, Trace, trace};
-use route_state::what_ifs::{changes_since, find_mend, what_if as report_on};
+use route_state::what_ifs::{Wanted, find_mend, reroutes_by, reroutes_since, what_if as report_on};
 use std::alloc::Global;
 
 /// Version 0 of the worked network.
@@ -60,27 +60,34 @@ fn inhibits(alloc: Global, version: &Version) -> Option<(usize, bool)> {
     reported(alloc, version, &events)
 }
 
-/// Whether nothing changed since a version that is published.
-fn is_unchanged(alloc: Global, version: &Version) -> Option<bool> {
-    let changes = changes_since(alloc, version, version).ok()?;
-    Some(changes.as_slice().is_empty())
+/// Whether nothing moved since a version that is published.
+fn is_unmoved(alloc: Global, version: &Version) -> Option<bool> {
+    let reroutes = reroutes_since(alloc, version, version).ok()?;
+    Some(reroutes.as_slice().is_empty())
+}
+
+/// How many pairs of a point and a destination the failure of a link would move, and whether none is lost.
+fn moves(alloc: Global, version: &Version) -> Option<(usize, bool)> {
+    let events = [change(LinkChange::Fail)];
+    let reroutes = reroutes_by(alloc, version, &events).ok()?;
+    Some((reroutes.as_slice().len(), reroutes.counts().lost == 0))
 }
 
 /// Whether a point that lacks nothing is mended by no link.
 fn lacks_nothing(alloc: Global, version: &Version) -> Option<bool> {
     let (q, x) = (code("2-10-2")?, code("2-1-2")?);
-    let mend = find_mend(alloc, version.routing(x)?, q).ok()??;
+    let mend = find_mend(alloc, version.routing(x)?, Wanted::Allowed, q).ok()??;
     Some(mend.as_slice().is_empty())
 }
 
 /// What is asked of a version besides.
 fn asks(alloc: Global, version: &Version) -> Option<bool> {
     let reports = [fails(alloc, version)?, inhibits(alloc, version)?];
-    let quiet = is_unchanged(alloc, version)? && lacks_nothing(alloc, version)?;
-    Some(quiet && reports == [(1, false), (0, false)])
+    let quiet = is_unmoved(alloc, version)? && lacks_nothing(alloc, version)?;
+    Some(quiet && reports == [(1, false), (0, false)] && moves(alloc, version)? == (2, true))
 }
 
-/// What events would change, what changed, and what would mend a point.
+/// What events would change and move, what moved, and what would mend a point.
 pub(crate) fn what_ifs(alloc: Global) -> Option<bool> {
     asks(alloc, &version(alloc)?)
 }

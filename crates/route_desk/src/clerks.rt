@@ -1,4 +1,4 @@
-//! Who files the pictures of a script and sees what its lines are answered.
+//! Who files the pictures and networks of a script and sees what its lines are answered.
 
 use crate::files::{Devices, save_text};
 use crate::notes::Notes;
@@ -6,32 +6,50 @@ use crate::reasons::write_reason;
 use crate::streams::Seen;
 use crate::targets::leads_to_any;
 use answers::{Answer, Asked, Reason};
-use json_answers::Clerk;
+use json_answers::{Clerk, Content, Outcome};
 use net_data::Net;
+use net_saving::save;
 use std::alloc::{AllocError, Global};
 use std::cell::RefCell;
 use std::io;
 use std::io::ErrorKind;
 use std::path::Path;
 
-/// Where the answers of a script go, if no file is named for them.
-const STANDARD_OUTPUT: &str = "/dev/stdout";
+/// Where the lines of a script come from, and where its answers go, if no files are named for them.
+const STREAMS: &[&str] = &["/dev/stdin", "/dev/stdout"];
 
-/// What is done with the pictures that are asked for.
+/// Which files the lines of a script may have written.
 #[derive(Clone, Copy)]
-pub enum Pictures<'a> {
-    /// Each is written to its file, but none to a file of these names, which the run reads or writes itself.
-    Written(&'a [&'a str]),
-    /// None is written.
-    Refused,
+pub enum Files<'a> {
+    /// All but those that the run reads or writes itself: the file of its network, in whose place a network goes if that is named as the
+    /// run was given it, and those of other names.
+    Allowed {
+        /// The file of the network, if it has one.
+        net: Option<&'a str>,
+        /// The other names.
+        others: &'a [&'a str],
+    },
+    /// None.
+    Forbidden,
 }
 
-impl<'a> Pictures<'a> {
-    /// The same, but that none is written to a file of these names.
-    pub fn sparing<'b>(self, names: &'b [&'b str]) -> Pictures<'b> {
+impl<'a> Files<'a> {
+    /// Which files may be written, or that none may be.
+    pub fn of(no_files: bool) -> Files<'static> {
+        if no_files {
+            return Files::Forbidden;
+        }
+        Files::Allowed {
+            net: None,
+            others: &[],
+        }
+    }
+
+    /// The same for a run over the network of this file, which reads or writes those of other names itself.
+    pub fn over(self, net: Option<&'a str>, others: &'a [&'a str]) -> Files<'a> {
         match self {
-            Pictures::Written(_) => Pictures::Written(names),
-            Pictures::Refused => Pictures::Refused,
+            Files::Allowed { .. } => Files::Allowed { net, others },
+            Files::Forbidden => Files::Forbidden,
         }
     }
 }
@@ -49,61 +67,113 @@ fn is_picture(file: &str) -> bool {
     }
 }
 
-/// Writes a picture to its file, unless that has another ending or is a file that the run reads or writes: one of these names, or
-/// standard output.
-fn write_sparing(rt: &HostRuntime, names: &[&str], file: &str, picture: &str) -> io::Result<()> {
+/// What stands against a file that the run reads or writes itself.
+fn own_file() -> io::Error {
+    io::Error::new(
+        ErrorKind::PermissionDenied,
+        "this run reads it, or writes it itself",
+    )
+}
+
+/// Writes a text to a file, unless the run reads or writes that itself: it has one of these names, or is that of standard input or output.
+fn write_sparing(rt: &HostRuntime, names: &[&str], file: &str, text: &str) -> io::Result<()> {
+    if leads_to_any(rt, file, names) || leads_to_any(rt, file, STREAMS) {
+        return Err(own_file());
+    }
+    save_text(rt, file, text, Devices::Refused)
+}
+
+/// Writes a picture to its file, unless that has another ending or the run reads or writes it itself.
+fn write_picture(
+    rt: &HostRuntime,
+    net: Option<&str>,
+    others: &[&str],
+    file: &str,
+    picture: &str,
+) -> io::Result<()> {
     if !is_picture(file) {
         return Err(io::Error::new(
             ErrorKind::InvalidInput,
             "a picture's name ends in .svg, .dot or .gv",
         ));
     }
-    if leads_to_any(rt, file, names) || leads_to_any(rt, file, &[STANDARD_OUTPUT]) {
-        return Err(io::Error::new(
-            ErrorKind::PermissionDenied,
-            "this run reads it, or writes its answers to it",
-        ));
+    if net.is_some_and(|net| leads_to_any(rt, file, &[net])) {
+        return Err(own_file());
     }
-    save_text(rt, file, picture, Devices::Refused)
+    write_sparing(rt, others, file, picture)
 }
 
-/// Writes a picture to its file, if pictures are written.
-fn write_picture(
+/// Writes a network to its file, unless the run reads or writes that itself; in the place of the run's own network it goes by that name alone.
+fn write_net(
     rt: &HostRuntime,
-    pictures: Pictures<'_>,
+    own: Option<&str>,
+    others: &[&str],
     file: &str,
-    picture: &str,
+    net: &Net,
 ) -> io::Result<()> {
-    match pictures {
-        Pictures::Written(names) => write_sparing(rt, names, file, picture),
-        Pictures::Refused => Err(io::Error::new(
-            ErrorKind::PermissionDenied,
-            "pictures aren't written: --no-files is given",
-        )),
+    if own.is_some_and(|own| own != file && leads_to_any(rt, file, &[own])) {
+        return Err(own_file());
     }
+    let text = save(rt.alloc(), net)?;
+    write_sparing(rt, others, file, text.as_str())
 }
 
-/// Why a picture isn't in its file, none if it is. It fails if memory was refused.
-pub fn put_picture(
+/// Puts what a line asks for into a file, where files may be written.
+fn write_content(
     rt: &HostRuntime,
-    pictures: Pictures<'_>,
+    net: Option<&str>,
+    others: &[&str],
     file: &str,
-    picture: &str,
-) -> Result<Option<io::Error>, AllocError> {
-    match write_picture(rt, pictures, file, picture) {
-        Ok(()) => Ok(None),
-        Err(error) if error.kind() == ErrorKind::OutOfMemory => Err(AllocError),
-        Err(error) => Ok(Some(error)),
+    content: Content<'_>,
+) -> io::Result<()> {
+    match content {
+        Content::Picture(picture) => write_picture(rt, net, others, file, picture),
+        Content::Net(held) => write_net(rt, net, others, file, held),
     }
 }
 
-/// Who files the pictures of a script, counts its refused lines if that is wanted, and notes why each is refused if that is explained.
+/// What became of something for a file, and why it isn't there, if it isn't.
+#[derive(Drop)]
+pub struct Filed {
+    /// What became of it.
+    pub outcome: Outcome,
+    /// Why it isn't in the file, if it isn't.
+    pub reason: Option<Result<String, AllocError>>,
+}
+
+/// Puts what a line asks for into a file. It fails if memory was refused.
+pub fn put_content(
+    rt: &HostRuntime,
+    files: Files<'_>,
+    file: &str,
+    content: Content<'_>,
+) -> Result<Filed, AllocError> {
+    let Files::Allowed { net, others } = files else {
+        return Ok(Filed {
+            outcome: Outcome::Forbidden,
+            reason: Some(String::from_str(rt.alloc(), "no file is written: --no-files is given")),
+        });
+    };
+    match write_content(rt, net, others, file, content) {
+        Ok(()) => Ok(Filed {
+            outcome: Outcome::Written,
+            reason: None,
+        }),
+        Err(error) if error.kind() == ErrorKind::OutOfMemory => Err(AllocError),
+        Err(error) => Ok(Filed {
+            outcome: Outcome::Failed,
+            reason: Some(write_reason(rt.alloc(), file, &error)),
+        }),
+    }
+}
+
+/// Who files the pictures and networks of a script, counts its refused lines if that is wanted, and notes why each is refused if that is explained.
 #[derive(Drop)]
 pub struct ScriptClerk<'a> {
     /// What the files are written by.
     pub rt: &'a HostRuntime,
-    /// What is done with pictures.
-    pub pictures: Pictures<'a>,
+    /// Which files may be written.
+    pub allowed: Files<'a>,
     /// Where refused lines are counted, none if they aren't.
     pub counted: Option<&'a Seen>,
     /// Where it is noted why lines are refused, if that is explained.
@@ -123,18 +193,19 @@ impl<'a> Clerk for ScriptClerk<'a> {
 
     fn put(
         &self,
-        alloc: Global,
+        _alloc: Global,
         asked: Asked<'_>,
         file: &str,
-        picture: &str,
-    ) -> Result<bool, AllocError> {
-        let Some(error) = put_picture(self.rt, self.pictures, file, picture)? else {
-            return Ok(true);
-        };
-        if let Some(Ok(mut notes)) = self.notes.map(|notes| notes.try_borrow_mut()) {
-            notes.give_reason(asked, write_reason(alloc, file, &error));
+        content: Content<'_>,
+    ) -> Result<Outcome, AllocError> {
+        let filed = put_content(self.rt, self.allowed, file, content)?;
+        if let (Some(reason), Some(Ok(mut notes))) = (
+            filed.reason,
+            self.notes.map(|notes| notes.try_borrow_mut()),
+        ) {
+            notes.give_reason(asked, reason);
         }
-        Ok(false)
+        Ok(filed.outcome)
     }
 
     fn see(&self, _alloc: Global, asked: Asked<'_>, answer: &Answer) {

@@ -16,7 +16,8 @@ use std::process::ExitCode;
 /// The file that a run saves to, as it was when the run began.
 #[derive(Clone, Copy)]
 pub struct Saving<'a> {
-    name: &'a str,
+    /// The file's name.
+    pub name: &'a str,
     before: Option<Stamp>,
 }
 
@@ -136,7 +137,7 @@ fn finish_run(
     rt: &HostRuntime,
     ended: &Ended,
     saving: Option<Saving<'_>>,
-    manner: Manner,
+    manner: Manner<'_>,
 ) -> io::Result<ExitCode> {
     let refused = ended.seen.refused();
     tell_refused(rt, refused);
@@ -154,7 +155,7 @@ pub fn finish(
     rt: &HostRuntime,
     ended: Result<Ended, Fault>,
     saving: Option<Saving<'_>>,
-    manner: Manner,
+    manner: Manner<'_>,
 ) -> io::Result<ExitCode> {
     match ended {
         Ok(ended) => finish_run(rt, &ended, saving, manner),

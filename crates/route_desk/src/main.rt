@@ -14,14 +14,14 @@
 //! 3. `route_desk serve NET SEATS` answers many sessions at one desk over the network of the file NET, each with the input and the
 //!    output that the file SEATS says, in a thread of its own. `--workers N` is 1 if it isn't given. A FIFO that a session reads is
 //!    opened again when its writers have gone, if SEATS doesn't say otherwise, and what was cut off in the middle of a line is dropped.
-//!    A fault of one session ends that session alone. Once all have ended the network is saved, if a file is named. With `--no-files`
-//!    pictures aren't written, and refused.
+//!    A fault of one session ends that session alone. Once all have ended the network is saved, if a file is named.
 //! 4. `route_desk check NET` works out the tables of all planned destinations of that network, by as many threads as
 //!    there are processors, checks each by the local rule, and writes `ok P` for P plans, or `bad X Y c` for the first
 //!    wrong one.
 //! 5. `route_desk picture NET` writes the network as a Graphviz DOT text, or with `--svg` as an SVG document; with `--about X`
 //!    it shows how traffic goes to the destination X. The words `picture FILE` and `picture FILE X` of a script write the picture of
-//!    what is published then to a file.
+//!    what is published then to a file, and `save FILE` the network after all accepted events; with `--no-files` the commands `run`,
+//!    `play` and `serve` refuse them.
 //! 6. `route_desk import DIR` writes the network text that the tables points.csv, sets.csv and routes.csv of a folder say;
 //!    `route_desk export NET DIR` writes these tables.
 //! 7. If standard input is a terminal, `run NET` says on standard error how large the network is, and prompts for each line there.
@@ -78,7 +78,7 @@ ghost use Rattle.std.specs.Prelude.{◌≤◌};
 ghost use Rattle.command_line.specs.Words.{IsWithin};
 
 use clap::Error;
-use clerks::Pictures;
+use clerks::Files;
 use command_line::{Order, WordFault, read_words};
 use console::Fault;
 use endings::{Saving, finish};
@@ -135,12 +135,11 @@ fn run(
     threads: &(impl Threads + Wait + Sync),
     net: &str,
     workers: u32,
-    save: Option<&str>,
-    manner: Manner,
+    manner: Manner<'_>,
 ) -> io::Result<ExitCode>
     requires { workers ≤ 32 }
 {
-    match Saving::new(rt, save, manner.explained) {
+    match Saving::new(rt, manner.saved, manner.explained) {
         Ok(saving) => finish(
             rt,
             run_net(rt, threads, net, workers, manner),
@@ -152,25 +151,11 @@ fn run(
 }
 
 /// The same for the script of a file.
-fn play(
-    rt: &HostRuntime,
-    net: &str,
-    steps: &str,
-    save: Option<&str>,
-    manner: Manner,
-) -> io::Result<ExitCode> {
-    match Saving::new(rt, save, manner.explained) {
+fn play(rt: &HostRuntime, net: &str, steps: &str, manner: Manner<'_>) -> io::Result<ExitCode> {
+    match Saving::new(rt, manner.saved, manner.explained) {
         Ok(saving) => finish(rt, play_file(rt, net, steps, manner), saving, manner),
         Err(fault) => report(rt, Some(fault)),
     }
-}
-
-/// What is done with pictures, if files may be written or not.
-fn pictures_of(no_files: bool) -> Pictures<'static> {
-    if no_files {
-        return Pictures::Refused;
-    }
-    Pictures::Written(&[])
 }
 
 /// The form of the answers, by whether they are to be objects of JSON.
@@ -197,13 +182,16 @@ fn obey(
             explained,
             json,
             strict,
+            no_files,
         } => {
             let manner = Manner {
                 explained,
                 form: form_of(json),
                 strict,
+                saved: save,
+                allowed: Files::of(no_files),
             };
-            run(rt, threads, net, workers, save, manner)
+            run(rt, threads, net, workers, manner)
         }
         Order::Play {
             net,
@@ -212,13 +200,16 @@ fn obey(
             explained,
             json,
             strict,
+            no_files,
         } => {
             let manner = Manner {
                 explained,
                 form: form_of(json),
                 strict,
+                saved: save,
+                allowed: Files::of(no_files),
             };
-            play(rt, net, steps, save, manner)
+            play(rt, net, steps, manner)
         }
         Order::Serve {
             net,
@@ -232,7 +223,7 @@ fn obey(
             let manner = SeatManner {
                 explained,
                 form: form_of(json),
-                pictures: pictures_of(no_files),
+                allowed: Files::of(no_files),
             };
             serve_seats(rt, threads, net, seats, workers, save, manner)
         }

@@ -3,7 +3,7 @@
 
 ghost use Rattle.std.specs.Prelude.{◌≤◌};
 
-use crate::clerks::{Pictures, ScriptClerk};
+use crate::clerks::{Files, ScriptClerk};
 use crate::explaining::{ExplainingWriter, NotedReader};
 use crate::loading::{explain_input, load_file, open_file};
 use crate::notes::Notes;
@@ -24,14 +24,31 @@ use worker_pool::Plain;
 
 /// How a run tells what it does.
 #[derive(Clone, Copy)]
-pub struct Manner {
+pub struct Manner<'a> {
     /// Whether each refused line and a fault is explained on standard error.
     pub explained: bool,
     /// The form of the answers.
     pub form: Form,
     /// Whether nothing is saved, and the run doesn't end with 0, if a line was refused.
     pub strict: bool,
+    /// The file that the network is saved to in the end, if one is named.
+    pub saved: Option<&'a str>,
+    /// Which files may be written for lines.
+    pub allowed: Files<'a>,
 }
+
+impl<'a> Manner<'a> {
+    /// The same for a run over the network of this file, which reads or writes those of other names itself.
+    fn over(self, net: Option<&'a str>, others: &'a [&'a str]) -> Manner<'a> {
+        Manner {
+            allowed: self.allowed.over(net, others),
+            ..self
+        }
+    }
+}
+
+/// The file of standard input.
+const STANDARD_INPUT: &str = "/dev/stdin";
 
 /// How a run ended, and what was seen of it.
 #[derive(Drop)]
@@ -78,20 +95,18 @@ fn output_of<'a>(
     ExplainingWriter::new(rt, notes, SeenWriter::new(seen, io::writer(rt)))
 }
 
-/// Who tells the answers of a run that reads the files of these names, with the notes of its script, and where it tells what is seen
-/// of it.
+/// Who tells the answers of a run in a manner, with the notes of its script, and where it tells what is seen of it.
 fn telling_of<'a>(
     rt: &'a HostRuntime,
-    names: &'a [&'a str],
     notes: Option<&'a RefCell<Notes>>,
     seen: &'a Seen,
-    manner: Manner,
+    manner: Manner<'a>,
 ) -> Filing<ScriptClerk<'a>> {
     Filing {
         form: manner.form,
         clerk: ScriptClerk {
             rt,
-            pictures: Pictures::Written(names),
+            allowed: manner.allowed,
             counted: manner.strict.then_some(seen),
             notes,
         },
@@ -133,7 +148,7 @@ fn run_from(
     name: &str,
     net: Net,
     workers: u32,
-    manner: Manner,
+    manner: Manner<'_>,
 ) -> Ended
     requires { workers ≤ 32 }
 {
@@ -142,13 +157,14 @@ fn run_from(
     if wanted {
         greet(rt, &net);
     }
-    let names = [name];
+    let others = [manner.saved.unwrap_or(STANDARD_INPUT)];
+    let manner = manner.over(Some(name), &others);
     let notes = script_notes(alloc, manner.explained);
     let seen = Seen::new();
     let input = SeenReader::new(&seen, Prompting::new(rt, rt.reader(), wanted));
     let reader = input;
     let writer = output_of(rt, notes.as_ref(), &seen);
-    let telling = telling_of(rt, &names, notes.as_ref(), &seen, manner);
+    let telling = telling_of(rt, notes.as_ref(), &seen, manner);
     let end = run_over(rt, threads, net, workers, &telling, reader, writer);
     Ended::new(end, seen)
 }
@@ -184,7 +200,7 @@ fn run_whole(
     rt: &HostRuntime,
     threads: &(impl Threads + Wait + Sync),
     workers: u32,
-    manner: Manner,
+    manner: Manner<'_>,
 ) -> Ended
     requires { workers ≤ 32 }
 {
@@ -192,7 +208,9 @@ fn run_whole(
     let seen = Seen::new();
     let reader = NotedReader::new(notes.as_ref(), SeenReader::new(&seen, rt.reader()));
     let writer = output_of(rt, notes.as_ref(), &seen);
-    let telling = telling_of(rt, &[], notes.as_ref(), &seen, manner);
+    let others = [manner.saved.unwrap_or(STANDARD_INPUT)];
+    let manner = manner.over(None, &others);
+    let telling = telling_of(rt, notes.as_ref(), &seen, manner);
     let end = run_input_from(rt, threads, workers, &telling, reader, writer);
     if let (Some(notes), Some(Fault::Load(fault))) = (&notes, end.fault) {
         explain_input(rt, notes, Fault::Load(fault));
@@ -200,32 +218,30 @@ fn run_whole(
     Ended::new(end, seen)
 }
 
-/// Runs the script of a reader from a network, in line, of which it is seen how it goes. No picture is written to a file of these names.
+/// Runs the script of a reader from a network, in line, of which it is seen how it goes.
 fn play_seen<R: io::Read + Drop>(
     rt: &HostRuntime,
-    names: &[&str],
     net: Net,
     script: R,
     seen: &Seen,
-    manner: Manner,
+    manner: Manner<'_>,
 ) -> ScriptEnd {
     let notes = script_notes(rt.alloc(), manner.explained);
     let mut reader = script;
     let mut writer = output_of(rt, notes.as_ref(), seen);
-    let telling = telling_of(rt, names, notes.as_ref(), seen, manner);
+    let telling = telling_of(rt, notes.as_ref(), seen, manner);
     run_script(rt.alloc(), &telling, &mut reader, &mut writer, net)
 }
 
-/// Runs the script of a reader from a network, in line. No picture is written to a file of these names.
+/// Runs the script of a reader from a network, in line.
 fn play_from<R: io::Read + Drop>(
     rt: &HostRuntime,
-    names: &[&str],
     net: Net,
     script: R,
-    manner: Manner,
+    manner: Manner<'_>,
 ) -> Ended {
     let seen = Seen::new();
-    let end = play_seen(rt, names, net, script, &seen, manner);
+    let end = play_seen(rt, net, script, &seen, manner);
     Ended::new(end, seen)
 }
 
@@ -234,11 +250,13 @@ pub fn play_file(
     rt: &HostRuntime,
     name: &str,
     steps: &str,
-    manner: Manner,
+    manner: Manner<'_>,
 ) -> Result<Ended, Fault> {
     let net = load_file(rt, name, manner.explained)?;
     let script = open_file(rt, steps, manner.explained)?;
-    Ok(play_from(rt, &[name, steps], net, script, manner))
+    let others = [steps, manner.saved.unwrap_or(steps)];
+    let manner = manner.over(Some(name), &others);
+    Ok(play_from(rt, net, script, manner))
 }
 
 /// Runs the script on standard input, from the network of a file or from that of the text before the script.
@@ -247,7 +265,7 @@ pub fn run_net(
     threads: &(impl Threads + Wait + Sync),
     net: &str,
     workers: u32,
-    manner: Manner,
+    manner: Manner<'_>,
 ) -> Result<Ended, Fault>
     requires { workers ≤ 32 }
 {

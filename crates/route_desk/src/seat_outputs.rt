@@ -1,13 +1,12 @@
-//! Where the answers of a seat go, and who files its pictures.
+//! Where the answers of a seat go, and who files its pictures and networks.
 
-use crate::clerks::{Pictures, put_picture};
+use crate::clerks::{Files, put_content};
 use crate::notes::Notes;
-use crate::reasons::write_reason;
 use crate::saying::say;
 use crate::seat_files::OutputKind;
 use crate::seat_text::SeatEntry;
 use answers::{Answer, Asked, Reason};
-use json_answers::Clerk;
+use json_answers::{Clerk, Content, Outcome};
 use net_data::Net;
 use std::alloc::{AllocError, Global};
 use std::cell::{RefCell, RefMut};
@@ -78,13 +77,13 @@ impl<'a> io::Write for SeatOutput<'a> {
     }
 }
 
-/// Who files the pictures of a seat, and says why its lines are refused, if that is explained.
+/// Who files the pictures and networks of a seat, and says why its lines are refused, if that is explained.
 #[derive(Drop)]
 pub struct SeatClerk<'a> {
     /// What the files are written by.
     pub rt: &'a HostRuntime,
-    /// What is done with pictures.
-    pub pictures: Pictures<'a>,
+    /// Which files may be written.
+    pub allowed: Files<'a>,
     /// The name of the seat.
     pub seat: &'a str,
     /// What there is to say of the seat's refused lines, if they are explained.
@@ -111,18 +110,16 @@ impl<'a> Clerk for SeatClerk<'a> {
 
     fn put(
         &self,
-        alloc: Global,
+        _alloc: Global,
         asked: Asked<'_>,
         file: &str,
-        picture: &str,
-    ) -> Result<bool, AllocError> {
-        let Some(error) = put_picture(self.rt, self.pictures, file, picture)? else {
-            return Ok(true);
-        };
-        if let Some(mut notes) = self.notes() {
-            notes.give_reason(asked, write_reason(alloc, file, &error));
+        content: Content<'_>,
+    ) -> Result<Outcome, AllocError> {
+        let filed = put_content(self.rt, self.allowed, file, content)?;
+        if let (Some(reason), Some(mut notes)) = (filed.reason, self.notes()) {
+            notes.give_reason(asked, reason);
         }
-        Ok(false)
+        Ok(filed.outcome)
     }
 
     fn see(&self, _alloc: Global, asked: Asked<'_>, answer: &Answer) {

@@ -2,7 +2,7 @@
 
 ghost use Rattle.std.specs.Prelude.{◌≤◌};
 
-use crate::clerks::Pictures;
+use crate::clerks::Files;
 use crate::endings::{Saving, save_net};
 use crate::loading::load_file;
 use crate::notes::Notes;
@@ -35,8 +35,8 @@ pub struct SeatManner<'a> {
     pub explained: bool,
     /// The form of the answers, if a seat doesn't say it otherwise.
     pub form: Form,
-    /// What is done with pictures.
-    pub pictures: Pictures<'a>,
+    /// Which files may be written.
+    pub allowed: Files<'a>,
 }
 
 /// The lines of a seat, of which it is seen why they can't be read.
@@ -86,7 +86,7 @@ fn telling_of<'a>(
         form: entry.form.unwrap_or(manner.form),
         clerk: SeatClerk {
             rt,
-            pictures: manner.pictures,
+            allowed: manner.allowed,
             seat: entry.name.as_str(),
             notes: notes_of(rt.alloc(), manner),
         },
@@ -252,16 +252,19 @@ fn run_over(
     }
 }
 
-/// The names of the files that the seats of a text, the text and the network are read from or written to.
+/// The names of the files, besides that of the network, that a desk reads or writes: those of the seats of a text and of the text, and
+/// the one that it saves to.
 fn names_of<'a>(
     alloc: Global,
-    net: &'a str,
+    saving: Option<Saving<'a>>,
     text: &'a str,
     entries: &'a [SeatEntry],
 ) -> Result<Vec<&'a str>, AllocError> {
     let mut names = Vec::new(alloc);
-    names.push(net)?;
     names.push(text)?;
+    if let Some(saving) = saving {
+        names.push(saving.name)?;
+    }
     for entry in entries {
         names.push(entry.input.as_str())?;
         names.push(entry.output.as_str())?;
@@ -286,11 +289,11 @@ fn run_text(
         Err(fault) => return refuse_text(rt, text, &fault, manner.explained),
     };
     let entries = entries.as_slice();
-    let Ok(names) = names_of(rt.alloc(), net, text.name, entries) else {
+    let Ok(names) = names_of(rt.alloc(), saving, text.name, entries) else {
         return report(rt, Some(Fault::OutOfMemory));
     };
     let manner = SeatManner {
-        pictures: manner.pictures.sparing(names.as_slice()),
+        allowed: manner.allowed.over(Some(net), names.as_slice()),
         ..manner
     };
     match inputs_of(rt, entries) {

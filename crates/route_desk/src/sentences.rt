@@ -8,7 +8,7 @@ use answers::{Asked, Reason};
 use explanations::explain_reason;
 use net_data::{Event, Net};
 use point_codes::PointCode;
-use script_words::{Command, Form, Show, form_of, read_line};
+use script_words::{Command, Events, Form, Show, form_of, read_line};
 use std::alloc::{AllocError, Global};
 
 /// What a script begins with that some editors put there.
@@ -33,6 +33,7 @@ fn meaning_of(place: &str) -> Option<&'static str> {
         "SLC" => Some("a signalling link code, 0 to 15"),
         "END" => Some("a or b"),
         "K" => Some("a slot, 0 to 31"),
+        "C" => Some("a collector, 0 to 255"),
         "S" => Some("a signalling link selection, 0 to 15"),
         _ => None,
     }
@@ -55,6 +56,7 @@ fn fits(place: &str, word: &str) -> bool {
         "S" => is_number(word, 15),
         "END" => word == "a" || word == "b",
         "K" => is_number(word, 31),
+        "C" => is_number(word, 255),
         _ => true,
     }
 }
@@ -220,6 +222,14 @@ fn asked_in(command: &Command) -> Option<(PointCode, PointCode)> {
     }
 }
 
+/// The events that a command tries on a copy of the network.
+fn tried_in(command: &Command) -> Option<&Events> {
+    match command {
+        Command::WhatIf(events) | Command::Reroutes(events) => Some(events),
+        _ => None,
+    }
+}
+
 /// What a command asks to be shown; a picture about a destination shows its plan.
 fn shown_in(command: &Command) -> Option<Show> {
     match command {
@@ -236,7 +246,7 @@ fn write_about(
     command: &Command,
     why: Reason,
 ) -> Result<String, AllocError> {
-    if let (Command::WhatIf(events), Reason::Event(refused)) = (command, why) {
+    if let (Some(events), Reason::Event(refused)) = (tried_in(command), why) {
         return write_tried(alloc, net, events.as_slice(), &refused);
     }
     if let Some(what) = shown_in(command) {

@@ -1,7 +1,7 @@
 //! What a line of a script is answered, and who tells it.
 
 pub use answers::{
-    Answer, Asked, NetAnswer, Offer, Publication, Reason, Reply, RowAnswer, Telling, Text, Way,
-    Ways, print_answer, put_answer,
+    Action, Answer, Asked, Moved, NetAnswer, Offer, Publication, Reason, Remedy, Reply, RowAnswer,
+    Telling, Text, Way, Ways, print_answer, put_answer,
 };
-pub use json_answers::{Clerk, Filing, Form};
+pub use json_answers::{Clerk, Content, Filing, Form, Outcome};

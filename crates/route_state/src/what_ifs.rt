@@ -1,5 +1,6 @@
-//! What events would change, what a publication changed, and what would mend a point.
+//! What events would change and move, what moved between versions, and what would mend a point.
 
 pub use what_if::{
-    Change, Changes, Mend, Refused, Report, SetLink, changes_since, find_mend, what_if,
+    Change, Changes, Mend, Refused, Report, Reroute, RerouteCounts, Reroutes, SetLink, Wanted,
+    find_mend, reroutes_by, reroutes_since, what_if,
 };

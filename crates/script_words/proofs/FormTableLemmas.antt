@@ -55,14 +55,19 @@ ascii (b ∷ text) h =
     let parts = both (nat_lt b 128) (list_all (λ b. nat_lt b 128) text) h in
     IsAscii-cons b text (ltb-true b 128 parts.0) (ascii text parts.1)
 
--- the name of the file in the example of `picture`
-name_read : is_utf8 (codes "net.svg") ≡ true
-name_read =
+-- the names of the files in the examples of `picture` and `save`
+picture_named : is_utf8 (codes "net.svg") ≡ true
+picture_named =
     let name = codes "net.svg" in
     is_utf8-from_IsUtf8 name (name, (refl, encodes-IsAscii name (ascii name refl)))
 
+save_named : is_utf8 (codes "net.toml") ≡ true
+save_named =
+    let name = codes "net.toml" in
+    is_utf8-from_IsUtf8 name (name, (refl, encodes-IsAscii name (ascii name refl)))
+
 pub examples : All IsExample command_forms
-examples = all_examples command_forms (rw name_read refl)
+examples = all_examples command_forms (rw (picture_named, save_named) refl)
 
 -- ---- the words stand in the table
 
@@ -91,15 +96,16 @@ verb_found word =
 
 desk_word_found : (word : List ℕ) → IsSome (desk_word_of word) → IsFound word
 desk_word_found word =
-    found_or word (codes "sync") _ _ refl (found_or word (codes "whatif") _ _ refl (found_or word (codes "post") _ _ refl (found_or word (codes "open") _ _ refl
+    found_or word (codes "sync") _ _ refl (found_or word (codes "whatif") _ _ refl (found_or word (codes "reroutes") _ _ refl (found_or word (codes "post") _ _ refl (found_or word (codes "open") _ _ refl
     (found_or word (codes "take") _ _ refl (found_or word (codes "give") _ _ refl (found_or word (codes "abandon") _ _ refl (found_or word (codes "publish") _ _ refl
-    (found_or word (codes "version") _ _ refl (found_or word (codes "show") _ _ refl (found_or word (codes "statuses") _ _ refl (found_or word (codes "audit") _ _ refl
-    (found_or word (codes "changes") _ _ refl (found_or word (codes "watch") _ _ refl (found_or word (codes "picture") _ _ refl (none_found CommandWord word)))))))))))))))
+    (found_or word (codes "version") _ _ refl (found_or word (codes "last") _ _ refl (found_or word (codes "show") _ _ refl (found_or word (codes "statuses") _ _ refl (found_or word (codes "audit") _ _ refl
+    (found_or word (codes "changes") _ _ refl (found_or word (codes "watch") _ _ refl (found_or word (codes "picture") _ _ refl
+    (found_or word (codes "save") _ _ refl (none_found CommandWord word))))))))))))))))))
 
 command_word_found : (word : List ℕ) → IsSome (command_word_of word) → IsFound word
 command_word_found word =
     found_or word (codes "status") _ _ refl (found_or word (codes "sls") _ _ refl (found_or word (codes "messages") _ _ refl (found_or word (codes "octets") _ _ refl
-    (found_or word (codes "why") _ _ refl (found_or word (codes "mend") _ _ refl (found_or word (codes "trace") _ _ refl (desk_word_found word)))))))
+    (found_or word (codes "why") _ _ refl (found_or word (codes "mend") _ _ refl (found_or word (codes "remedy") _ _ refl (found_or word (codes "trace") _ _ refl (desk_word_found word))))))))
 
 first_found : (word : List ℕ) (rest : List (List ℕ)) (other : Option CommandWord) (verb : Option Verb) → (IsSome other → IsFound word) → (IsSome verb → IsFound word)
     → IsSome (option_map_or (λ w. command_by w rest) other (option_map (λ event. Command.Event event) (option_and_then (λ v. event_by v rest) verb))) → IsFound word

@@ -9,7 +9,7 @@ use Rattle.tokens.specs.Numbers.{id_of}
 use Rattle.tokens.specs.Pieces.{all_of}
 use Rattle.script_words.specs.Events.{event_of}
 use Rattle.script_words.specs.declared.questions.Question.{Question}
-use Rattle.script_words.specs.declared.questions.Question.TheVariants.{Status, Links, Messages, Octets, Why, Mend}
+use Rattle.script_words.specs.declared.questions.Question.TheVariants.{Status, Links, Messages, Octets, Why, Mend, MendAllowed, Remedy, RemedyAllowed}
 use Rattle.script_words.specs.declared.shows.Show.{Show}
 use Rattle.script_words.specs.declared.shows.Show.TheVariants as show
 use Rattle.script_words.specs.declared.commands.Command.{Command}
@@ -32,6 +32,17 @@ abbrev pub slot_alone : List (List ℕ) → Option ℕ
 slot_alone (k ∷ []) = slot_of k
 slot_alone _ = None
 
+-- `C`
+abbrev pub collector_alone : List (List ℕ) → Option ℕ
+collector_alone (c ∷ []) = collector_of c
+collector_alone _ = None
+
+-- nothing, or `N`: the number of a version
+abbrev pub version_asked : List (List ℕ) → Option (Option ℕ)
+version_asked [] = Some None
+version_asked (n ∷ []) = option_map (λ n. Some n) (sequence_of n)
+version_asked _ = None
+
 -- something of the row of a point in the table of a destination, if both are there
 abbrev pub about : Question → Option ℕ → Option ℕ → Option Command
 about asked point dest = option_and_then (λ y. option_map (λ x. Command.About asked y x) dest) point
@@ -40,6 +51,11 @@ about asked point dest = option_and_then (λ y. option_map (λ x. Command.About 
 abbrev pub about_of : Question → List (List ℕ) → Option Command
 about_of asked (y ∷ x ∷ []) = about asked (code_of y) (code_of x)
 about_of asked _ = None
+
+-- `Y X`, of which the first question is asked, or `allowed Y X`, of which the second is
+abbrev pub about_either : Question → Question → List (List ℕ) → Option Command
+about_either reached allowed (goal ∷ rest) = if bytes_eq goal (codes "allowed") then about_of allowed rest else about_of reached (goal ∷ rest)
+about_either reached allowed [] = None
 
 -- `Y Z X`
 abbrev pub octets_of : List (List ℕ) → Option Command
@@ -91,6 +107,11 @@ abbrev pub picture_of : List (List ℕ) → Option Command
 picture_of (file ∷ rest) = option_and_then (λ about. option_map (λ name. Command.Picture name about) (name_of file)) (destination_of rest)
 picture_of [] = None
 
+-- `FILE`
+abbrev pub save_of : List (List ℕ) → Option Command
+save_of (file ∷ []) = option_map (λ name. Command.Save name) (name_of file)
+save_of _ = None
+
 -- the words before, between and after the words `;`, piece by piece
 abbrev pub pieces_at : List (List ℕ) → List (List (List ℕ))
 pieces_at words = slice_split (λ w. bytes_eq w (codes ";")) words
@@ -104,6 +125,7 @@ abbrev pub desk_word_of : List ℕ → Option CommandWord
 desk_word_of text =
     if bytes_eq text (codes "sync") then Some word.Sync
     else if bytes_eq text (codes "whatif") then Some word.WhatIf
+    else if bytes_eq text (codes "reroutes") then Some word.Reroutes
     else if bytes_eq text (codes "post") then Some word.Post
     else if bytes_eq text (codes "open") then Some word.Open
     else if bytes_eq text (codes "take") then Some word.Take
@@ -111,12 +133,14 @@ desk_word_of text =
     else if bytes_eq text (codes "abandon") then Some word.Abandon
     else if bytes_eq text (codes "publish") then Some word.Publish
     else if bytes_eq text (codes "version") then Some word.Version
+    else if bytes_eq text (codes "last") then Some word.Last
     else if bytes_eq text (codes "show") then Some word.Show
     else if bytes_eq text (codes "statuses") then Some word.Statuses
     else if bytes_eq text (codes "audit") then Some word.Audit
     else if bytes_eq text (codes "changes") then Some word.Changes
     else if bytes_eq text (codes "watch") then Some word.Watch
     else if bytes_eq text (codes "picture") then Some word.Picture
+    else if bytes_eq text (codes "save") then Some word.Save
     else None
 
 -- the first word of a command that is no event
@@ -128,6 +152,7 @@ command_word_of text =
     else if bytes_eq text (codes "octets") then Some word.Octets
     else if bytes_eq text (codes "why") then Some word.Why
     else if bytes_eq text (codes "mend") then Some word.Mend
+    else if bytes_eq text (codes "remedy") then Some word.Remedy
     else if bytes_eq text (codes "trace") then Some word.Trace
     else desk_word_of text
 
@@ -143,8 +168,10 @@ command_by word.Messages rest = about_of Messages rest
 command_by word.Octets rest = octets_of rest
 -- `why Y X`
 command_by word.Why rest = about_of Why rest
--- `mend Y X`
-command_by word.Mend rest = about_of Mend rest
+-- `mend Y X` and `mend allowed Y X`
+command_by word.Mend rest = about_either Mend MendAllowed rest
+-- `remedy Y X` and `remedy allowed Y X`
+command_by word.Remedy rest = about_either Remedy RemedyAllowed rest
 -- `trace Y X S`
 command_by word.Trace rest = trace_of rest
 -- `show`, `show down`, `show set ID`, `show point CODE` and `show plan X`
@@ -155,6 +182,8 @@ command_by word.Statuses rest = option_map (λ what. Command.Show what) (statuse
 command_by word.Sync rest = alone Command.Sync rest
 -- `whatif EVENT ; EVENT ..`
 command_by word.WhatIf rest = option_map (λ events. Command.WhatIf events) (events_of rest)
+-- `reroutes EVENT ; EVENT ..`
+command_by word.Reroutes rest = option_map (λ events. Command.Reroutes events) (events_of rest)
 -- `post C SEQ EVENT`
 command_by word.Post rest = post_of rest
 -- `open`
@@ -169,14 +198,18 @@ command_by word.Abandon rest = option_map (λ k. Command.Abandon k) (slot_alone 
 command_by word.Publish rest = alone Command.Publish rest
 -- `version`
 command_by word.Version rest = alone Command.Version rest
+-- `last C`
+command_by word.Last rest = option_map (λ c. Command.Last c) (collector_alone rest)
 -- `audit`
 command_by word.Audit rest = alone Command.Audit rest
--- `changes`
-command_by word.Changes rest = alone Command.Changes rest
+-- `changes` and `changes N`
+command_by word.Changes rest = option_map (λ since. Command.Changes since) (version_asked rest)
 -- `watch on` and `watch off`
 command_by word.Watch rest = option_map (λ is_on. Command.Watch is_on) (switch_of rest)
 -- `picture FILE` and `picture FILE X`
 command_by word.Picture rest = picture_of rest
+-- `save FILE`
+command_by word.Save rest = save_of rest
 
 -- the command that the words of a line say: by its first word if that is a command's, else the line is an EVENT
 abbrev pub command_of : List (List ℕ) → Option Command

@@ -40,6 +40,7 @@ command_forms =
     record { word = codes "publish"; form = codes "publish"; example = codes "publish" } ∷
     record { word = codes "sync"; form = codes "sync"; example = codes "sync" } ∷
     record { word = codes "version"; form = codes "version"; example = codes "version" } ∷
+    record { word = codes "last"; form = codes "last C"; example = codes "last 0" } ∷
     record { word = codes "show"; form = codes "show or show down or show set ID or show point CODE or show plan X"; example = codes "show down" } ∷
     record { word = codes "statuses"; form = codes "statuses X"; example = codes "statuses 2-1-2" } ∷
     record { word = codes "status"; form = codes "status Y X"; example = codes "status 2-1-1 2-1-2" } ∷
@@ -47,11 +48,14 @@ command_forms =
     record { word = codes "messages"; form = codes "messages Y X"; example = codes "messages 2-10-1 2-1-2" } ∷
     record { word = codes "octets"; form = codes "octets Y Z X"; example = codes "octets 2-10-1 2-1-1 2-1-2" } ∷
     record { word = codes "why"; form = codes "why Y X"; example = codes "why 2-1-1 2-1-2" } ∷
-    record { word = codes "mend"; form = codes "mend Y X"; example = codes "mend 2-1-1 2-1-2" } ∷
+    record { word = codes "mend"; form = codes "mend Y X or mend allowed Y X"; example = codes "mend 2-1-1 2-1-2" } ∷
+    record { word = codes "remedy"; form = codes "remedy Y X or remedy allowed Y X"; example = codes "remedy allowed 2-1-1 2-1-2" } ∷
     record { word = codes "trace"; form = codes "trace Y X S"; example = codes "trace 2-1-1 2-1-2 0" } ∷
     record { word = codes "whatif"; form = codes "whatif EVENT ; EVENT .."; example = codes "whatif fail 2 0 ; inhibit 1 0 a" } ∷
+    record { word = codes "reroutes"; form = codes "reroutes EVENT ; EVENT .."; example = codes "reroutes fail 2 0 ; inhibit 1 0 a" } ∷
     record { word = codes "picture"; form = codes "picture FILE or picture FILE X"; example = codes "picture net.svg 2-1-2" } ∷
-    record { word = codes "changes"; form = codes "changes"; example = codes "changes" } ∷
+    record { word = codes "save"; form = codes "save FILE"; example = codes "save net.toml" } ∷
+    record { word = codes "changes"; form = codes "changes or changes N"; example = codes "changes 2" } ∷
     record { word = codes "watch"; form = codes "watch on or watch off"; example = codes "watch on" } ∷
     record { word = codes "audit"; form = codes "audit"; example = codes "audit" } ∷
     []

@@ -20,12 +20,16 @@ pub enum CommandWord {
     Why,
     /// `mend`.
     Mend,
+    /// `remedy`.
+    Remedy,
     /// `trace`.
     Trace,
     /// `sync`.
     Sync,
     /// `whatif`.
     WhatIf,
+    /// `reroutes`.
+    Reroutes,
     /// `post`.
     Post,
     /// `open`.
@@ -40,6 +44,8 @@ pub enum CommandWord {
     Publish,
     /// `version`.
     Version,
+    /// `last`.
+    Last,
     /// `show`.
     Show,
     /// `statuses`.
@@ -52,6 +58,8 @@ pub enum CommandWord {
     Watch,
     /// `picture`.
     Picture,
+    /// `save`.
+    Save,
 }
 
 /// The first word of a command that is neither an event nor a question about a row.
@@ -61,6 +69,7 @@ fn read_desk_word(word: &[u8]) -> Option<CommandWord>
     match word {
         _ if is_word(word, "sync") => Some(CommandWord::Sync),
         _ if is_word(word, "whatif") => Some(CommandWord::WhatIf),
+        _ if is_word(word, "reroutes") => Some(CommandWord::Reroutes),
         _ if is_word(word, "post") => Some(CommandWord::Post),
         _ if is_word(word, "open") => Some(CommandWord::Open),
         _ if is_word(word, "take") => Some(CommandWord::Take),
@@ -68,12 +77,14 @@ fn read_desk_word(word: &[u8]) -> Option<CommandWord>
         _ if is_word(word, "abandon") => Some(CommandWord::Abandon),
         _ if is_word(word, "publish") => Some(CommandWord::Publish),
         _ if is_word(word, "version") => Some(CommandWord::Version),
+        _ if is_word(word, "last") => Some(CommandWord::Last),
         _ if is_word(word, "show") => Some(CommandWord::Show),
         _ if is_word(word, "statuses") => Some(CommandWord::Statuses),
         _ if is_word(word, "audit") => Some(CommandWord::Audit),
         _ if is_word(word, "changes") => Some(CommandWord::Changes),
         _ if is_word(word, "watch") => Some(CommandWord::Watch),
         _ if is_word(word, "picture") => Some(CommandWord::Picture),
+        _ if is_word(word, "save") => Some(CommandWord::Save),
         _ => None,
     }
 }
@@ -89,6 +100,7 @@ pub fn read_command_word(word: &[u8]) -> Option<CommandWord>
         _ if is_word(word, "octets") => Some(CommandWord::Octets),
         _ if is_word(word, "why") => Some(CommandWord::Why),
         _ if is_word(word, "mend") => Some(CommandWord::Mend),
+        _ if is_word(word, "remedy") => Some(CommandWord::Remedy),
         _ if is_word(word, "trace") => Some(CommandWord::Trace),
         _ => read_desk_word(word),
     }

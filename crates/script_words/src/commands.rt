@@ -104,14 +104,20 @@ pub enum Command {
     Trace(PointCode, PointCode, u8),
     /// What events would change is asked.
     WhatIf(Events),
+    /// What events would move is asked.
+    Reroutes(Events),
     /// A check of all tables is asked.
     Audit,
     /// Something of the published network is to be shown.
     Show(Show),
-    /// What the last publication changed is asked.
-    Changes,
+    /// What moved since the version before, or since the one of this number, is asked.
+    Changes(Option<u64>),
+    /// A collector's last sequence number is asked.
+    Last(u8),
     /// What each publication changes is told behind its reply from now on, or no more.
     Watch(bool),
     /// A picture of the published network is asked, for a file, about a destination if one is named.
     Picture(FileName, Option<PointCode>),
+    /// The network after all accepted events is asked, for a file.
+    Save(FileName),
 }

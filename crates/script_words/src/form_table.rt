@@ -123,6 +123,11 @@ const FORMS: &[Form] = &[
         example: "version",
     },
     Form {
+        word: "last",
+        form: "last C",
+        example: "last 0",
+    },
+    Form {
         word: "show",
         form: "show or show down or show set ID or show point CODE or show plan X",
         example: "show down",
@@ -159,8 +164,13 @@ const FORMS: &[Form] = &[
     },
     Form {
         word: "mend",
-        form: "mend Y X",
+        form: "mend Y X or mend allowed Y X",
         example: "mend 2-1-1 2-1-2",
+    },
+    Form {
+        word: "remedy",
+        form: "remedy Y X or remedy allowed Y X",
+        example: "remedy allowed 2-1-1 2-1-2",
     },
     Form {
         word: "trace",
@@ -173,14 +183,24 @@ const FORMS: &[Form] = &[
         example: "whatif fail 2 0 ; inhibit 1 0 a",
     },
     Form {
+        word: "reroutes",
+        form: "reroutes EVENT ; EVENT ..",
+        example: "reroutes fail 2 0 ; inhibit 1 0 a",
+    },
+    Form {
         word: "picture",
         form: "picture FILE or picture FILE X",
         example: "picture net.svg 2-1-2",
     },
     Form {
+        word: "save",
+        form: "save FILE",
+        example: "save net.toml",
+    },
+    Form {
         word: "changes",
-        form: "changes",
-        example: "changes",
+        form: "changes or changes N",
+        example: "changes 2",
     },
     Form {
         word: "watch",

@@ -18,13 +18,13 @@
 //!
 //! 9. EVENT: an event, posted by collector 0. `post C SEQ EVENT`: a post by the collector C, 0 to 255, with the sequence
 //!    number SEQ, a number of 64 bits.
-//! 10. `open`, `publish`, `sync`, `version`, `audit` and `changes` stand alone; `take K`, `give K` and `abandon K` name a slot, 0 to
-//!     31; `watch on` and `watch off`.
-//! 11. `status Y X`, `sls Y X`, `messages Y X`, `octets Y Z X`, `why Y X` and `mend Y X`: a question about the row of the point Y
-//!     in the table of the destination X; `trace Y X S`: the trace of the signalling link selection S, 0 to 15; `picture FILE` and
-//!     `picture FILE X`: a picture for a file, whose name is a text in UTF-8. `show`, `show down`, `show set ID`, `show point CODE` and
+//! 10. `open`, `publish`, `sync`, `version` and `audit` stand alone; `take K`, `give K` and `abandon K` name a slot, 0 to 31; `last C`
+//!     names a collector; `changes` and `changes N`, N a number of 64 bits; `watch on` and `watch off`.
+//! 11. `status Y X`, `sls Y X`, `messages Y X`, `octets Y Z X`, `why Y X`, `mend Y X`, `mend allowed Y X`, `remedy Y X` and `remedy allowed
+//!     Y X`: a question about the row of the point Y in the table of the destination X; `trace Y X S`: the trace of the signalling link selection S, 0 to 15; `picture FILE` and
+//!     `picture FILE X`: a picture for a file, whose name is a text in UTF-8; `save FILE`. `show`, `show down`, `show set ID`, `show point CODE` and
 //!     `show plan X`: something of the published network; `statuses X`: how each point of the plan of X reaches X.
-//! 12. `whatif EVENT ; EVENT ..`: what the events would change. `;` is a word of its own between two events, and there is
+//! 12. `whatif EVENT ; EVENT ..`: what the events would change, and so `reroutes`: what they would move. `;` is a word of its own between two events, and there is
 //!     at least one EVENT.
 //! 13. Words are read exactly if they are what is written of their event or command: no other word, and none too many or
 //!     too few. Only a change of the first end has two forms, with `a` and without.

@@ -2,14 +2,14 @@
 
 ghost use Rattle.std.specs.Prelude.{◌≡◌, ◌≢◌, ◌<◌, map, IfOk, IfSome};
 ghost use Rattle.tokens.specs.Words.{words_of};
-ghost use Rattle.script_words.specs.Commands.{IsWithin, alone, slot_alone, switch_of, post_of, command_by, command_of};
+ghost use Rattle.script_words.specs.Commands.{IsWithin, alone, collector_alone, slot_alone, switch_of, post_of, command_by, command_of, version_asked};
 
 use crate::command_words::{CommandWord, read_command_word};
 use crate::commands::Command;
 use crate::events::read_event_by;
 use crate::numbers::{read_collector, read_sequence, read_slot};
-use crate::pictures::read_picture;
-use crate::queries::{read_about, read_octets, read_trace};
+use crate::pictures::{read_picture, read_save};
+use crate::queries::{read_about, read_either, read_octets, read_trace};
 use crate::questions::Question;
 use crate::read_event;
 use crate::shows::{read_show, read_statuses};
@@ -39,6 +39,28 @@ fn read_only_slot(words: &[&[u8]]) -> Option<u8>
     match words {
         [slot] => read_slot(*slot),
         [] => None,
+        [_, _, ..] => None,
+    }
+}
+
+/// `C`.
+fn read_only_collector(words: &[&[u8]]) -> Option<u8>
+    ensures { result ≡ collector_alone (map (λ w. w.now) words.now) }
+{
+    match words {
+        [collector] => read_collector(*collector),
+        [] => None,
+        [_, _, ..] => None,
+    }
+}
+
+/// No word, or `N`. `None` if it is neither.
+fn read_version(words: &[&[u8]]) -> Option<Option<u64>>
+    ensures { result ≡ version_asked (map (λ w. w.now) words.now) }
+{
+    match words {
+        [] => Some(None),
+        [number] => read_sequence(*number).map(Some),
         [_, _, ..] => None,
     }
 }
@@ -83,7 +105,8 @@ fn read_post(alloc: Global, words: &[&[u8]]) -> Result<Option<Command>, AllocErr
 
 /// The command of a first word that neither an event nor a file follows, and the words after it.
 fn read_plain(word: CommandWord, rest: &[&[u8]]) -> Option<Command>
-    requires { (word ≢ CommandWord.WhatIf) × (word ≢ CommandWord.Post) × (word ≢ CommandWord.Picture) }
+    requires events { (word ≢ CommandWord.WhatIf) × (word ≢ CommandWord.Reroutes) × (word ≢ CommandWord.Post) }
+    requires files { (word ≢ CommandWord.Picture) × (word ≢ CommandWord.Save) }
     ensures value { result ≡ command_by word (map (λ w. w.now) rest.now) }
     ensures within { IfSome result IsWithin }
 {
@@ -93,7 +116,8 @@ fn read_plain(word: CommandWord, rest: &[&[u8]]) -> Option<Command>
         CommandWord::Messages => read_about(Question::Messages, rest),
         CommandWord::Octets => read_octets(rest),
         CommandWord::Why => read_about(Question::Why, rest),
-        CommandWord::Mend => read_about(Question::Mend, rest),
+        CommandWord::Mend => read_either(Question::Mend, Question::MendAllowed, rest),
+        CommandWord::Remedy => read_either(Question::Remedy, Question::RemedyAllowed, rest),
         CommandWord::Trace => read_trace(rest),
         CommandWord::Show => read_show(rest).map(Command::Show),
         CommandWord::Statuses => read_statuses(rest).map(Command::Show),
@@ -104,10 +128,15 @@ fn read_plain(word: CommandWord, rest: &[&[u8]]) -> Option<Command>
         CommandWord::Abandon => read_only_slot(rest).map(Command::Abandon),
         CommandWord::Publish => only(Command::Publish, rest),
         CommandWord::Version => only(Command::Version, rest),
+        CommandWord::Last => read_only_collector(rest).map(Command::Last),
         CommandWord::Audit => only(Command::Audit, rest),
-        CommandWord::Changes => only(Command::Changes, rest),
+        CommandWord::Changes => read_version(rest).map(Command::Changes),
         CommandWord::Watch => read_switch(rest).map(Command::Watch),
-        CommandWord::WhatIf | CommandWord::Post | CommandWord::Picture => unreachable!(),
+        CommandWord::WhatIf
+        | CommandWord::Reroutes
+        | CommandWord::Post
+        | CommandWord::Picture
+        | CommandWord::Save => unreachable!(),
     }
 }
 
@@ -118,8 +147,10 @@ fn read_by(alloc: Global, word: CommandWord, rest: &[&[u8]]) -> Result<Option<Co
 {
     match word {
         CommandWord::WhatIf => Ok(read_events(alloc, rest)?.map(Command::WhatIf)),
+        CommandWord::Reroutes => Ok(read_events(alloc, rest)?.map(Command::Reroutes)),
         CommandWord::Post => read_post(alloc, rest),
         CommandWord::Picture => read_picture(alloc, rest),
+        CommandWord::Save => read_save(alloc, rest),
         _ => Ok(read_plain(word, rest)),
     }
 }

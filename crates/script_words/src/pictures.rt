@@ -1,7 +1,7 @@
-//! Pictures for files.
+//! Pictures and networks for files.
 
 ghost use Rattle.std.specs.Prelude.{◌≡◌, map, IfOk, IfSome};
-ghost use Rattle.script_words.specs.Commands.{IsWithin, destination_of, name_of, picture_of};
+ghost use Rattle.script_words.specs.Commands.{IsWithin, destination_of, name_of, picture_of, save_of};
 
 use crate::commands::{Command, FileName};
 use point_codes::PointCode;
@@ -43,5 +43,17 @@ pub fn read_picture(alloc: Global, words: &[&[u8]]) -> Result<Option<Command>, A
     match read_name(alloc, *file)? {
         Some(name) => Ok(Some(Command::Picture(name, about))),
         None => Ok(None),
+    }
+}
+
+/// `FILE`.
+pub fn read_save(alloc: Global, words: &[&[u8]]) -> Result<Option<Command>, AllocError>
+    ensures value { IfOk result (λ command. command ≡ save_of (map (λ w. w.now) words.now)) }
+    ensures within { IfOk result (λ command. IfSome command IsWithin) }
+{
+    match words {
+        [file] => Ok(read_name(alloc, *file)?.map(Command::Save)),
+        [] => Ok(None),
+        [_, _, ..] => Ok(None),
     }
 }

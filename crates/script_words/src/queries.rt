@@ -2,11 +2,12 @@
 
 ghost use Rattle.std.specs.Prelude.{◌≡◌, map, IfSome};
 ghost use Rattle.point_codes.specs.Codes.{code_of};
-ghost use Rattle.script_words.specs.Commands.{IsWithin, about, about_of, octets_of, trace_of};
+ghost use Rattle.script_words.specs.Commands.{IsWithin, about, about_of, about_either, octets_of, trace_of};
 
 use crate::commands::Command;
 use crate::numbers::read_selection;
 use crate::questions::Question;
+use crate::words::is_word;
 use tokens::read_code;
 
 /// Something of the row of a point in the table of a destination, if both are codes.
@@ -29,6 +30,17 @@ pub fn read_about(asked: Question, words: &[&[u8]]) -> Option<Command>
         [] => None,
         [_] => None,
         [_, _, _, ..] => None,
+    }
+}
+
+/// `Y X`, of which the first question is asked, or `allowed Y X`, of which the second is.
+pub fn read_either(reached: Question, allowed: Question, words: &[&[u8]]) -> Option<Command>
+    ensures value { result ≡ about_either reached allowed (map (λ w. w.now) words.now) }
+    ensures within { IfSome result IsWithin }
+{
+    match words {
+        [goal, rest @ ..] if is_word(*goal, "allowed") => read_about(allowed, rest),
+        _ => read_about(reached, words),
     }
 }
 

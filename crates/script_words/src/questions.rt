@@ -15,6 +15,12 @@ pub enum Question {
     Octets(PointCode),
     /// Why it uses that: what stands for and against each of its vias, and its mate.
     Why,
-    /// The fewest links that have to be restored for its point to reach the destination.
+    /// The links that have to be restored for its point to reach the destination.
     Mend,
+    /// The links that have to be restored for its status to be allowed.
+    MendAllowed,
+    /// The commands that restore the links for its point to reach the destination.
+    Remedy,
+    /// The commands that restore the links for its status to be allowed.
+    RemedyAllowed,
 }

@@ -239,13 +239,18 @@ module _ (start : Network) (seats : ℕ) (b : BesideValue) (line : List ℕ) (to
       (prefix_then b.seen is.there.seen new.seen (subst (IsPrefix b.seen) (sym (ap (λ (x : BesideValue). x.seen) visit.1)) visit.0.seen) look.seen)
   obeyed a is_told may collector other (Some command.Version) here is =
       looks_there (Does command.Version) is.0 a (nothing_taken line told (rw here refl)) is.1 (left_same is.0 is.1.shown is.1.done.1)
+  obeyed a is_told may collector other (Some (command.Last k)) here is =
+      looks_there (Does (command.Last k)) is.0 a (nothing_taken line told (rw here refl)) is.1 (left_same is.0 is.1.shown is.1.done.1)
+  obeyed a is_told may collector other (Some (command.Save file)) here is =
+      looks_there (Does (command.Save file)) is.0 a (nothing_taken line told (rw here refl)) is.1 (left_same is.0 is.1.shown is.1.done.1)
   obeyed a is_told may collector other (Some (command.About asked y x)) here is = looks (rw here refl) is.1.seat is.1.seen
   obeyed a is_told may collector other (Some (command.Trace y x s)) here is = looks (rw here refl) is.1.seat is.1.seen
   obeyed a is_told may collector other (Some (command.WhatIf events)) here is = looks (rw here refl) is.1.seat is.1.seen
+  obeyed a is_told may collector other (Some (command.Reroutes events)) here is = looks (rw here refl) is.1.seat is.1.seen
   obeyed a is_told may collector other (Some command.Audit) here is = looks (rw here refl) is.1.seat is.1.seen
   obeyed a is_told may collector other (Some (command.Picture file about)) here is = looks (rw here refl) is.1.seat is.1.seen
   obeyed a is_told may collector other (Some (command.Show what)) here is = looks (rw here refl) is.1.seat is.1.seen
-  obeyed a is_told may collector other (Some command.Changes) here is = posts_none (rw here refl) is.1
+  obeyed a is_told may collector other (Some (command.Changes since)) here is = posts_none (rw here refl) is.1
   obeyed a is_told may collector other (Some (command.Watch is_on)) here is =
       looks (rw here refl) (ap (λ (x : BesideValue). x.seat) is.1) (versions_same b.seen new.seen (ap (λ (x : BesideValue). x.seen) is.1))
 

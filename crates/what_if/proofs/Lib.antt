@@ -1,6 +1,10 @@
 pub mod GatheringLemmas
 pub mod UnchangedLemmas
+pub mod RerouteLemmas
+pub mod CostLemmas
 pub mod MendUnfoldingLemmas
 pub mod RestoringLemmas
-pub mod FewestLemmas
+pub mod WeightLemmas
+pub mod WayLemmas
+pub mod LeastLemmas
 pub mod MendingLemmas

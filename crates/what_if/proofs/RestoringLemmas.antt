@@ -1,9 +1,9 @@
 -- What the restoring of links does to the sets of a source.
 use Rattle.std.proofs.Common.{◌≡◌, ℕ, List, [], ◌∷◌, Option, Some, None, All, map, cond, eqb, Bool, true, false, ◌&&◌, refl, sym, ap, ◌∙◌, inl, inr, ◌⊎◌, subst, IsSome}
-use Rattle.std.specs.List.{list_any}
-use Rattle.std.specs.Option.{option_map, option_map_or, option_and_then}
+use Rattle.std.specs.List.{Contains, list_any}
+use Rattle.std.specs.Option.{option_map, option_map_or}
 use Rattle.std.proofs.lemmas.Bool.{or_left, or_right, or_cases, true≢false}
-use Rattle.std.proofs.lemmas.List.Elements.{All-head, All-weaker}
+use Rattle.std.proofs.lemmas.List.Elements.{All-cons, All-contains, All-contains_itself, All-head, All-nil, All-weaker}
 use Rattle.std.proofs.lemmas.Option.{same_Some}
 use Rattle.net_items.specs.declared.links.Link.{Link}
 use Rattle.net_items.specs.declared.items.LinkSet.{LinkSet}
@@ -14,7 +14,8 @@ use Rattle.link_sets.proofs.ListLemmas.{and_first}
 use Rattle.profile.specs.Status.{Source}
 use Rattle.profile.specs.Valid.{IsLower, HasMate, IsVia, IsValidRow, IsValidSource}
 use Rattle.what_if.specs.declared.mending.SetLink.{SetLink}
-use Rattle.what_if.specs.Mending.{names, no_marks, restored_link, restored_set, restored, first_link, between}
+use Rattle.what_if.specs.Mending.{names, no_marks, restored_link, restored_set, restored, cost, takes_less, cheaper, alone, least_link, between}
+use Rattle.what_if.proofs.CostLemmas.{least_from}
 
 -- a list names some link of the set of this id
 abbrev pub names_of : List SetLink → ℕ → Bool
@@ -75,28 +76,41 @@ named_of (l ∷ list) id link e = elim (or_cases (eqb l.id id && eqb l.link.slc 
   | inr later ↦ or_right (eqb l.id id) (names_of list id) (named_of list id link later)
 ]
 
+-- some link of a set that has links is told
+least_there : (id : ℕ) (link : Link) (links : List Link) → (told : List SetLink) × (least_link id (link ∷ links) ≡ Some told)
+least_there id link links = go (least_link id links)
+  where
+    go : (o : Option (List SetLink)) → (told : List SetLink) × (cheaper (alone id link) o ≡ Some told)
+    go None = (record { id = id; link = link } ∷ [], refl)
+    go (Some other) = by (takes_less (cost other) (cost (record { id = id; link = link } ∷ []))) refl
+      where
+        by : (b : Bool) → takes_less (cost other) (cost (record { id = id; link = link } ∷ [])) ≡ b → (told : List SetLink) × (cheaper (alone id link) (Some other) ≡ Some told)
+        by true t = (other, rw t refl)
+        by false f = (record { id = id; link = link } ∷ [], rw f refl)
+
 -- a set that is available once links are restored was so before, or a link of it is named
 pub links_were : (list : List SetLink) (id : ℕ) (links : List Link) → list_any link_available (map (restored_link list id) links) ≡ true
-    → (list_any link_available links ≡ true) ⊎ ((names_of list id ≡ true) × ((first : Link) × (first_link id links ≡ Some (record { id = id; link = first } ∷ []))))
+    → (list_any link_available links ≡ true) ⊎ ((names_of list id ≡ true) × ((told : List SetLink) × (least_link id links ≡ Some told)))
 links_were list id [] up = inl up
 links_were list id (link ∷ links) up = elim (or_cases (link_available (restored_link list id link)) (list_any link_available (map (restored_link list id) links)) up) [
   | inl here ↦ elim (link_was list id link here) [
     | inl was ↦ inl (or_left (link_available link) (list_any link_available links) was)
-    | inr named ↦ inr (named_of list id link named, (link, refl))
+    | inr named ↦ inr (named_of list id link named, least_there id link links)
   ]
   | inr later ↦ elim (links_were list id links later) [
     | inl was ↦ inl (or_right (link_available link) (list_any link_available links) was)
-    | inr named ↦ inr (named.0, (link, refl))
+    | inr named ↦ inr (named.0, least_there id link links)
   ]
 ]
 
--- what stands between two points that are joined once links are restored: nothing, or one link of a set that the list names
+-- what stands between two points that are joined once links are restored: nothing, or a link of a set of which the list names one
 pub record IsOpened (src : Source) (list : List SetLink) (y z : ℕ) : Type 0 where
   pub set : LinkSet
   pub found : set_between src.sets y z ≡ Some set
   pub named : names_of list set.id ≡ true
-  pub link : SetLink
-  pub needed : between src y z ≡ Some (link ∷ [])
+  pub told : List SetLink
+  pub least : least_link set.id set.links ≡ Some told
+  pub needed : between src y z ≡ Some told
 
 pub opened_cases : (src : Source) (list : List SetLink) (y z : ℕ) → connected (restored list src).sets y z ≡ true → (between src y z ≡ Some []) ⊎ IsOpened src list y z
 opened_cases src list y z up = go (connected src.sets y z) refl
@@ -110,7 +124,8 @@ opened_cases src list y z up = go (connected src.sets y z) refl
         set = set;
         found = e;
         named = named.0;
-        link = record { id = set.id; link = named.1.0 };
+        told = named.1.0;
+        least = named.1.1;
         needed = rw (shut, e) named.1.1;
       }
     ]
@@ -121,27 +136,58 @@ opened_cases src list y z up = go (connected src.sets y z) refl
         let is = set_between_restored list src.sets y z in
         inr (down e (set_between src.sets y z) refl (sym (ap (λ (o : Option LinkSet). option_map_or set_available o false) is) ∙ up))
 
+-- a link of the set between two points, alone
+pub record IsLinked (src : Source) (y z : ℕ) (front : List SetLink) : Type 0 where
+  pub set : LinkSet
+  pub found : set_between src.sets y z ≡ Some set
+  pub link : Link
+  pub has : Contains set.links link
+  pub is : record { id = set.id; link = link } ∷ [] ≡ front
+
+-- the link that is told of a set is one of it
+pub least_link_is : (id : ℕ) (links : List Link) (told : List SetLink) → least_link id links ≡ Some told → (link : Link) × Contains links link × (record { id = id; link = link } ∷ [] ≡ told)
+least_link_is id links told e =
+    let from = least_from (alone id) (Contains links) links told (All-contains_itself links) e in
+    (from.0, from.1, same_Some (record { id = id; link = from.0 } ∷ []) told from.2)
+
+-- nothing stands between two points that are joined, and else a link
+pub between_cases : (src : Source) (y z : ℕ) (front : List SetLink) → between src y z ≡ Some front → ((connected src.sets y z ≡ true) × ([] ≡ front)) ⊎ IsLinked src y z front
+between_cases src y z front e = go (connected src.sets y z) refl (set_between src.sets y z) refl
+  where
+    go : (b : Bool) → connected src.sets y z ≡ b → (o : Option LinkSet) → set_between src.sets y z ≡ o → ((connected src.sets y z ≡ true) × ([] ≡ front)) ⊎ IsLinked src y z front
+    go true up o f = inl (up, same_Some [] front (rw up at e))
+    go false down None f = let none : None ≡ Some front = rw (down, f) at e in cc
+    go false down (Some set) f =
+        let told = least_link_is set.id set.links front (rw (down, f) at e) in
+        inr (record {
+          set = set;
+          found = f;
+          link = told.0;
+          has = told.1;
+          is = told.2;
+        })
+
+-- a set with a link that is named is available once the list is restored
+links_open : (list : List SetLink) (id : ℕ) (links : List Link) → All (λ link. names list id link ≡ true → list_any link_available (map (restored_link list id) links) ≡ true) links
+links_open list id [] = All-nil (λ link. names list id link ≡ true → false ≡ true)
+links_open list id (x ∷ links) =
+    All-cons (λ link. names list id link ≡ true → list_any link_available (map (restored_link list id) (x ∷ links)) ≡ true) x links
+    (λ named. or_left (link_available (restored_link list id x)) (list_any link_available (map (restored_link list id) links)) (restored_available list id x named))
+    (All-weaker (λ link. names list id link ≡ true → list_any link_available (map (restored_link list id) links) ≡ true)
+    (λ link. names list id link ≡ true → list_any link_available (map (restored_link list id) (x ∷ links)) ≡ true)
+    (λ link opens named. or_right (link_available (restored_link list id x)) (list_any link_available (map (restored_link list id) links)) (opens named)) links (links_open list id links))
+
 -- where all that stands between two points is named, they are joined once the list is restored
 pub between_opens : (src : Source) (list : List SetLink) (y z : ℕ) (front : List SetLink) → between src y z ≡ Some front → All (λ (l : SetLink). names list l.id l.link ≡ true) front → connected (restored list src).sets y z ≡ true
-between_opens src list y z front is named = go (connected src.sets y z) refl
-  where
-    set_opens : (set : LinkSet) (links : List Link) → first_link set.id links ≡ Some front → list_any link_available (map (restored_link list set.id) links) ≡ true
-    set_opens set [] e = let none : None ≡ Some front = e in cc
-    set_opens set (link ∷ links) e =
-        let same : record { id = set.id; link = link } ∷ [] ≡ front = same_Some (record { id = set.id; link = link } ∷ []) front e in
-        let all : All (λ (l : SetLink). names list l.id l.link ≡ true) (record { id = set.id; link = link } ∷ []) = subst (All (λ (l : SetLink). names list l.id l.link ≡ true)) (sym same) named in
-        or_left (link_available (restored_link list set.id link)) (list_any link_available (map (restored_link list set.id) links))
-        (restored_available list set.id link (All-head (λ (l : SetLink). names list l.id l.link ≡ true) (record { id = set.id; link = link }) [] all))
-
-    down : (o : Option LinkSet) → set_between src.sets y z ≡ o → option_and_then (λ (set : LinkSet). first_link set.id set.links) o ≡ Some front → option_map_or set_available (option_map (restored_set list) o) false ≡ true
-    down None e f = let none : None ≡ Some front = f in cc
-    down (Some set) e f = set_opens set set.links f
-
-    go : (b : Bool) → connected src.sets y z ≡ b → connected (restored list src).sets y z ≡ true
-    go true e = connected_kept list src.sets y z e
-    go false e =
-        let shut : option_and_then (λ (set : LinkSet). first_link set.id set.links) (set_between src.sets y z) ≡ Some front = rw e at is in
-        ap (λ (o : Option LinkSet). option_map_or set_available o false) (set_between_restored list src.sets y z) ∙ down (set_between src.sets y z) refl shut
+between_opens src list y z front is named = elim (between_cases src y z front is) [
+  | inl up ↦ connected_kept list src.sets y z up.0
+  | inr w ↦
+      let all : All (λ (l : SetLink). names list l.id l.link ≡ true) (record { id = w.set.id; link = w.link } ∷ []) = subst (All (λ (l : SetLink). names list l.id l.link ≡ true)) (sym w.is) named in
+      let open_set : list_any link_available (map (restored_link list w.set.id) w.set.links) ≡ true =
+      All-contains (λ link. names list w.set.id link ≡ true → list_any link_available (map (restored_link list w.set.id) w.set.links) ≡ true) w.set.links w.link
+      (links_open list w.set.id w.set.links) w.has (All-head (λ (l : SetLink). names list l.id l.link ≡ true) (record { id = w.set.id; link = w.link }) [] all) in
+      ap (λ (o : Option LinkSet). option_map_or set_available o false) (set_between_restored list src.sets y z ∙ ap (option_map (restored_set list)) w.found) ∙ open_set
+]
 
 -- a set that is there stays there
 some_restored : (list : List SetLink) (sets : List LinkSet) (y z : ℕ) → IsSome (set_between sets y z) → IsSome (set_between (map (restored_set list) sets) y z)

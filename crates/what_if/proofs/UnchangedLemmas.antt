@@ -1,12 +1,14 @@
--- Nothing changes towards a destination that reads the same.
-use Rattle.std.proofs.Common.{◌≡◌, ℕ, ◌+◌, eqb, cond, true, false, List, [], ◌∷◌, ◌++◌, map, Option, Some, None, Ok, Err, if◌then◌else◌, Bool, refl, sym, ap, subst, ◌∙◌}
-use Rattle.std.proofs.lemmas.Bool.{eqb-true}
-use Rattle.std.specs.List.{find, flat_map}
-use Rattle.std.specs.Option.{option_map}
+-- Nothing is told towards a destination that reads the same, or whose choices or statuses stay.
+use Rattle.std.proofs.Common.{◌≡◌, ℕ, ◌+◌, eqb, cond, true, false, List, [], ◌∷◌, ◌++◌, ◌&&◌, map, Option, Some, None, Ok, Err, if◌then◌else◌, Bool, refl, sym, ap, ◌∙◌}
+use Rattle.std.proofs.lemmas.Bool.{and_parts, eqb-true, eq-eqb, or_left, or_right}
+use Rattle.std.proofs.lemmas.List.Folds.{Any-from_list_any, list_any-from_Any}
+use Rattle.std.specs.List.{find, flat_map, list_any}
+use Rattle.std.specs.Option.{option_map, option_map_or}
 use Rattle.std.proofs.lemmas.Option.{same_Some}
+use Rattle.std.proofs.lemmas.Simd.{map-map}
 use Rattle.net_items.specs.declared.items.Plan.{Plan}
 use Rattle.net_items.specs.declared.lists.Row.{Row}
-use Rattle.net_items.specs.Lookups.{plan_at}
+use Rattle.net_items.specs.Lookups.{mate_of, plan_at, row_at}
 use Rattle.net_data.specs.declared.events.Event.{Event}
 use Rattle.net_data.specs.declared.events.Refusal.{Refusal}
 use Rattle.net_data.specs.Edits.{refusal_of, changed, replay}
@@ -17,18 +19,30 @@ use Rattle.route_choice.specs.declared.choices.Far.{Far}
 use Rattle.route_choice.specs.declared.choices.Far.TheVariants.{Allowed, Restricted, Prohibited}
 use Rattle.profile.specs.declared.tables.RowState.{RowState}
 use Rattle.profile.specs.declared.tables.Table.{Table}
-use Rattle.profile.specs.Status.{choice}
+use Rattle.profile.specs.Status.{Source, choice}
 use Rattle.excerpts.specs.declared.turned.Ends.{Ends}
-use Rattle.excerpts.specs.Turned.{HasTurned}
-use Rattle.transfer_state.specs.Following.{KeepsStatuses}
-use Rattle.transfer_state.specs.Routing.{RoutingValue, routed_excerpt, settled_routing, statuses_of}
-use Rattle.net_versions.specs.Versions.{routing_at}
-use Rattle.excerpts.specs.Excerpt.{ExcerptValue, IsRight, source_of, content_in, content_of, content_at, excerpt_in, excerpt_at}
+use Rattle.excerpts.specs.Turned.{HasTurned, has_ends}
+use Rattle.transfer_state.specs.Following.{HasMarksOf, rests_on}
+use Rattle.transfer_state.specs.Kept.{KeptValue, kept, opened_rows}
+use Rattle.transfer_state.specs.Routing.{IsChosen, RoutingValue, statuses_of}
+use Rattle.transfer_state.proofs.FollowLemmas.{kept_whole, same_plan}
+use Rattle.transfer_state.proofs.RouteLemmas.{opened_chosen}
+use Rattle.excerpts.specs.Excerpt.{ExcerptValue, IsRight, source_of, content_in, content_of, content_at, excerpt_in, excerpt_at, leads}
 use Rattle.excerpts.proofs.ExcerptLemmas.{extract_right, table_equal}
-use Rattle.excerpts.proofs.TurnedLemmas.{place_found}
 use Rattle.what_if.specs.declared.changes.Change.{Change}
-use Rattle.what_if.specs.Reports.{IsAlike, apply_from, both, points, status_of, is_same, change_between, changes_between}
-use Rattle.what_if.proofs.GatheringLemmas.{status_is}
+use Rattle.what_if.specs.Reports.{IsQuiet, Account, apply_from, both, points, choice_of, status_of, is_same, change_between, each_point}
+use Rattle.what_if.proofs.GatheringLemmas.{choice_is, fused}
+
+-- ---- where nothing is told of a point
+
+module _ {X : Type 0} (tell : Account X) where
+  none_at : (old new : Option ExcerptValue) (dest : ℕ) → ((point : ℕ) → tell old new dest point ≡ []) → (ps : List ℕ) → flat_map (tell old new dest) ps ≡ []
+  none_at old new dest none [] = refl
+  none_at old new dest none (p ∷ ps) = ap (λ (xs : List X). xs ++ flat_map (tell old new dest) ps) (none p) ∙ none_at old new dest none ps
+
+  -- where nothing is told of any point nothing is told
+  pub none_told : (old new : Option ExcerptValue) (dest : ℕ) → ((point : ℕ) → tell old new dest point ≡ []) → each_point tell old new dest ≡ []
+  none_told old new dest none = none_at old new dest none (both (points old) (points new))
 
 same_as_itself : (status : Option Far) → is_same status status ≡ true
 same_as_itself None = refl
@@ -36,138 +50,128 @@ same_as_itself (Some Allowed) = refl
 same_as_itself (Some Restricted) = refl
 same_as_itself (Some Prohibited) = refl
 
-module _ (x y : ExcerptValue) (dest : ℕ) (same_status : (point : ℕ) → status_of (Some x) point ≡ status_of (Some y) point) where
-  same_point : (point : ℕ) → change_between (Some x) (Some y) dest point ≡ []
-  same_point point =
-      let build : Option Far → Bool → List Change = λ after b. if b then [] else record { point = point; dest = dest; before = status_of (Some x) point; after = after } ∷ [] in
-      ap (λ (s : Option Far). build s (is_same (status_of (Some x) point) s)) (sym (same_status point))
-      ∙ ap (build (status_of (Some x) point)) (same_as_itself (status_of (Some x) point))
+-- no change is told where the status stays
+pub no_change : (old new : Option ExcerptValue) (dest point : ℕ) → status_of old point ≡ status_of new point → change_between old new dest point ≡ []
+no_change old new dest point same =
+    let build : Option Far → Bool → List Change = λ after b. if b then [] else record { point = point; dest = dest; before = status_of old point; after = after } ∷ [] in
+    ap (λ (s : Option Far). build s (is_same (status_of old point) s)) (sym same)
+    ∙ ap (build (status_of old point)) (same_as_itself (status_of old point))
 
-  same_points : (ps : List ℕ) → flat_map (change_between (Some x) (Some y) dest) ps ≡ []
-  same_points [] = refl
-  same_points (p ∷ ps) = ap (λ (cs : List Change). cs ++ flat_map (change_between (Some x) (Some y) dest) ps) (same_point p) ∙ same_points ps
+-- ---- excerpts that read the same
 
-  -- where no status differs nothing changes
-  unchanged : changes_between (Some x) (Some y) dest ≡ []
-  unchanged = same_points (both (points (Some x)) (points (Some y)))
-
--- excerpts that read the same give the same statuses
-same_reads : (x y : ExcerptValue) → IsRight x → IsRight y → content_of x ≡ content_of y → (point : ℕ) → status_of (Some x) point ≡ status_of (Some y) point
+same_reads : (x y : ExcerptValue) → IsRight x → IsRight y → content_of x ≡ content_of y → (point : ℕ) → choice_of (Some x) point ≡ choice_of (Some y) point
 same_reads x y one other same point =
-    sym (status_is x point)
-    ∙ ap (λ (t : Table). option_map (λ (c : Choice). c.status) (option_map (λ (s : RowState). s.choice) (find (λ (s : RowState). eqb s.point point) t.rows))) (table_equal x y one other same)
-    ∙ status_is y point
+    sym (choice_is x point)
+    ∙ ap (λ (t : Table). option_map (λ (s : RowState). s.choice) (find (λ (s : RowState). eqb s.point point) t.rows)) (table_equal x y one other same)
+    ∙ choice_is y point
 
--- a destination that reads the same in a network has no changes
-pub unchanged_at : (x : ExcerptValue) → IsRight x → (net : Network) → IsValidNet net → (dest : ℕ) → content_at net dest ≡ Some (content_of x) → changes_between (Some x) (excerpt_at net dest) dest ≡ []
-unchanged_at x right net valid dest same = go (plan_at net.plans dest) refl same
+-- towards a destination that reads the same in a network the choices stay
+pub choices_read : (x : ExcerptValue) → IsRight x → (net : Network) → IsValidNet net → (dest : ℕ) → content_at net dest ≡ Some (content_of x) → (point : ℕ) → choice_of (Some x) point ≡ choice_of (excerpt_at net dest) point
+choices_read x right net valid dest same point = go (plan_at net.plans dest) refl same
   where
-    go : (o : Option Plan) → plan_at net.plans dest ≡ o → option_map (content_in net) o ≡ Some (content_of x) → changes_between (Some x) (option_map (excerpt_in net) o) dest ≡ []
+    go : (o : Option Plan) → plan_at net.plans dest ≡ o → option_map (content_in net) o ≡ Some (content_of x) → choice_of (Some x) point ≡ choice_of (option_map (excerpt_in net) o) point
     go None at e = absurd (cc)
-    go (Some plan) at e = unchanged x (excerpt_in net plan) dest (same_reads x (excerpt_in net plan) right (extract_right net valid dest plan at) (sym (same_Some (content_in net plan) (content_of x) e)))
+    go (Some plan) at e = same_reads x (excerpt_in net plan) right (extract_right net valid dest plan at) (sym (same_Some (content_in net plan) (content_of x) e)) point
 
-first_same : (f g : Far) (fs gs : List Far) → f ∷ fs ≡ g ∷ gs → f ≡ g
+-- ---- routings with the same statuses
+
+first_same : {A : Type 0} (f g : A) (fs gs : List A) → f ∷ fs ≡ g ∷ gs → f ≡ g
 first_same f g fs gs e = cc
 
-rest_same : (f g : Far) (fs gs : List Far) → f ∷ fs ≡ g ∷ gs → fs ≡ gs
+rest_same : {A : Type 0} (f g : A) (fs gs : List A) → f ∷ fs ≡ g ∷ gs → fs ≡ gs
 rest_same f g fs gs e = cc
 
--- rows whose choices have the same statuses have the same status where one is found
-found_alike : (h k : Row → Choice) (p : Row → Bool) (rows : List Row) → statuses_of (map h rows) ≡ statuses_of (map k rows) → option_map (λ row. (h row).status) (find p rows) ≡ option_map (λ row. (k row).status) (find p rows)
-found_alike h k p [] e = refl
-found_alike h k p (row ∷ rows) e =
-    go (p row) (first_same (h row).status (k row).status (statuses_of (map h rows)) (statuses_of (map k rows)) e) (found_alike h k p rows (rest_same (h row).status (k row).status (statuses_of (map h rows)) (statuses_of (map k rows)) e))
-  where
-    go : (b : Bool) → (h row).status ≡ (k row).status → option_map (λ row. (h row).status) (find p rows) ≡ option_map (λ row. (k row).status) (find p rows)
-        → option_map (λ row. (h row).status) (cond b (Some row) (find p rows)) ≡ option_map (λ row. (k row).status) (cond b (Some row) (find p rows))
-    go true here rest = ap Some here
-    go false here rest = rest
-
-first_code : (m n : ℕ) (ms ns : List ℕ) → m ∷ ms ≡ n ∷ ns → m ≡ n
-first_code m n ms ns e = cc
-
-rest_codes : (m n : ℕ) (ms ns : List ℕ) → m ∷ ms ≡ n ∷ ns → ms ≡ ns
-rest_codes m n ms ns e = cc
-
--- and so rows of the same points
-found_same : (h k : Row → Choice) (y : ℕ) (rows others : List Row) → map (λ (row : Row). row.point) rows ≡ map (λ (row : Row). row.point) others → statuses_of (map h rows) ≡ statuses_of (map k others)
-    → option_map (λ row. (h row).status) (find (λ (row : Row). eqb row.point y) rows) ≡ option_map (λ row. (k row).status) (find (λ (row : Row). eqb row.point y) others)
+-- rows of the same points that give the same in their places give the same where one is found
+found_same : {A : Type 0} (h k : Row → A) (y : ℕ) (rows others : List Row) → map (λ (row : Row). row.point) rows ≡ map (λ (row : Row). row.point) others → map h rows ≡ map k others
+    → option_map h (row_at rows y) ≡ option_map k (row_at others y)
 found_same h k y [] [] points e = refl
 found_same h k y [] (other ∷ others) points e = absurd (cc)
 found_same h k y (row ∷ rows) [] points e = absurd (cc)
-found_same h k y (row ∷ rows) (other ∷ others) points e =
-    go (eqb row.point y) (first_same (h row).status (k other).status (statuses_of (map h rows)) (statuses_of (map k others)) e)
-    (found_same h k y rows others (rest_codes row.point other.point (map (λ (r : Row). r.point) rows) (map (λ (r : Row). r.point) others) points) (rest_same (h row).status (k other).status (statuses_of (map h rows)) (statuses_of (map k others)) e))
-    ∙ ap (λ (n : ℕ). option_map (λ r. (k r).status) (cond (eqb n y) (Some other) (find (λ (r : Row). eqb r.point y) others))) (first_code row.point other.point (map (λ (r : Row). r.point) rows) (map (λ (r : Row). r.point) others) points)
+found_same {A} h k y (row ∷ rows) (other ∷ others) points e =
+    go (eqb row.point y) (first_same (h row) (k other) (map h rows) (map k others) e)
+    (found_same h k y rows others (rest_same row.point other.point (map (λ (r : Row). r.point) rows) (map (λ (r : Row). r.point) others) points) (rest_same (h row) (k other) (map h rows) (map k others) e))
+    ∙ ap (λ (n : ℕ). option_map k (cond (eqb n y) (Some other) (row_at others y))) (first_same row.point other.point (map (λ (r : Row). r.point) rows) (map (λ (r : Row). r.point) others) points)
   where
-    p : Row → Bool
-    p r = eqb r.point y
-
-    go : (b : Bool) → (h row).status ≡ (k other).status → option_map (λ r. (h r).status) (find p rows) ≡ option_map (λ r. (k r).status) (find p others)
-        → option_map (λ r. (h r).status) (cond b (Some row) (find p rows)) ≡ option_map (λ r. (k r).status) (cond b (Some other) (find p others))
+    go : (b : Bool) → h row ≡ k other → option_map h (row_at rows y) ≡ option_map k (row_at others y)
+        → option_map h (cond b (Some row) (row_at rows y)) ≡ option_map k (cond b (Some other) (row_at others y))
     go true here rest = ap Some here
     go false here rest = rest
 
--- the excerpt of a destination's routing
-routed_at : (net : Network) (dest : ℕ) → routed_excerpt (routing_at net dest) ≡ excerpt_at net dest
-routed_at net dest = go (excerpt_at net dest)
-  where
-    go : (o : Option ExcerptValue) → routed_excerpt (option_map settled_routing o) ≡ o
-    go None = refl
-    go (Some x) = refl
-
--- what changes between routings is what changes between the networks that they are of
-pub none_between : (old new : Network) (dest : ℕ) (before after : Option RoutingValue) → before ≡ routing_at old dest → after ≡ routing_at new dest
-    → changes_between (routed_excerpt before) (routed_excerpt after) dest ≡ [] → changes_between (excerpt_at old dest) (excerpt_at new dest) dest ≡ []
-none_between old new dest before after one other none =
-    ap (λ (x : Option ExcerptValue). changes_between x (excerpt_at new dest) dest) (sym (ap routed_excerpt one ∙ routed_at old dest))
-    ∙ ap (λ (y : Option ExcerptValue). changes_between (routed_excerpt before) y dest) (sym (ap routed_excerpt other ∙ routed_at new dest)) ∙ none
-
--- a destination whose routing has rows of the same points, with the same statuses, has no changes
-pub same_rows_unchanged : (r s : RoutingValue) (dest : ℕ) → r ≡ settled_routing r.excerpt → s ≡ settled_routing s.excerpt → map (λ (row : Row). row.point) r.excerpt.plan.rows ≡ map (λ (row : Row). row.point) s.excerpt.plan.rows
-    → statuses_of r.choices ≡ statuses_of s.choices → changes_between (Some r.excerpt) (Some s.excerpt) dest ≡ []
-same_rows_unchanged r s dest one other points same =
+-- no change is told of routings with the same statuses
+pub alike_quiet : (r s : RoutingValue) → statuses_of s.choices ≡ statuses_of r.choices → IsQuiet change_between r (Some s)
+alike_quiet r s same one other points dest point =
     let x : ExcerptValue = r.excerpt in
     let y : ExcerptValue = s.excerpt in
-    let both_same : statuses_of (map (choice (source_of x)) x.plan.rows) ≡ statuses_of (map (choice (source_of y)) y.plan.rows)
-    = sym (ap (λ (q : RoutingValue). statuses_of q.choices) one) ∙ same ∙ ap (λ (q : RoutingValue). statuses_of q.choices) other in
-    unchanged x y dest (λ point. found_same (choice (source_of x)) (choice (source_of y)) point x.plan.rows y.plan.rows points both_same)
+    let status : Choice → Far = λ c. c.status in
+    let old : Row → Far = λ row. status (choice (source_of x) row) in
+    let new : Row → Far = λ row. status (choice (source_of y) row) in
+    let both_same : map old x.plan.rows ≡ map new y.plan.rows
+    = sym (ap (λ (q : RoutingValue). statuses_of q.choices) one ∙ map-map status (choice (source_of x)) x.plan.rows) ∙ sym same
+    ∙ (ap (λ (q : RoutingValue). statuses_of q.choices) other ∙ map-map status (choice (source_of y)) y.plan.rows) in
+    no_change (Some x) (Some y) dest point
+    (fused status (choice (source_of x)) (row_at x.plan.rows point) ∙ found_same old new point x.plan.rows y.plan.rows points both_same ∙ sym (fused status (choice (source_of y)) (row_at y.plan.rows point)))
 
--- the excerpt of a destination is of that network and destination
-pub excerpt_is : (net : Network) (dest : ℕ) (x : ExcerptValue) → excerpt_at net dest ≡ Some x → (x.network ≡ net) × (x.plan.dest ≡ dest) × (plan_at net.plans dest ≡ Some x.plan)
-excerpt_is net dest x e = go (plan_at net.plans dest) refl
+-- ---- routings no row of which rests on a set that turned
+
+-- the excerpt of a destination has its plan
+plan_is : (net : Network) (dest : ℕ) (x : ExcerptValue) → excerpt_at net dest ≡ Some x → plan_at net.plans dest ≡ Some x.plan
+plan_is net dest x e = sym (back (plan_at net.plans dest)) ∙ ap (option_map (λ (y : ExcerptValue). y.plan)) e
   where
-    go : (o : Option Plan) → plan_at net.plans dest ≡ o → (x.network ≡ net) × (x.plan.dest ≡ dest) × (plan_at net.plans dest ≡ Some x.plan)
-    go None at = let no : None ≡ Some x = rw at at e in cc
-    go (Some plan) at =
-        let some : Some (excerpt_in net plan) ≡ Some x = rw at at e in
-        let is : excerpt_in net plan ≡ x = same_Some (excerpt_in net plan) x some in
-        let passes : plan.dest ≡ dest = eqb-true plan.dest dest (place_found (λ (p : Plan). eqb p.dest dest) net.plans plan at).2 in
-        (ap (λ (y : ExcerptValue). y.network) (sym is), ap (λ (y : ExcerptValue). y.plan.dest) (sym is) ∙ passes, at ∙ ap (λ (y : ExcerptValue). Some y.plan) is)
+    back : (o : Option Plan) → option_map (λ (y : ExcerptValue). y.plan) (option_map (excerpt_in net) o) ≡ o
+    back None = refl
+    back (Some plan) = refl
 
--- a destination whose routing has the statuses of the one before has no changes
-pub alike_unchanged : (r : RoutingValue) (net : Network) (turned : List Ends) (dest : ℕ) → r ≡ settled_routing r.excerpt → excerpt_at r.excerpt.network dest ≡ Some r.excerpt → HasTurned r.excerpt.network net turned
-    → (after : Option RoutingValue) → after ≡ routing_at net dest → IsAlike r after → changes_between (Some r.excerpt) (excerpt_at net dest) dest ≡ []
-alike_unchanged r net turned dest settled planned has after is alike =
-    let x : ExcerptValue = r.excerpt in
-    let there : plan_at net.plans dest ≡ Some x.plan = ap (λ (ps : List Plan). plan_at ps dest) has.plans ∙ (excerpt_is x.network dest x planned).2 in
-    let y : ExcerptValue = excerpt_in net x.plan in
-    let now : excerpt_at net dest ≡ Some y = ap (option_map (excerpt_in net)) there in
-    let routed : after ≡ Some (settled_routing y) = is ∙ ap (option_map settled_routing) now in
-    let same : statuses_of (map (choice (source_of y)) x.plan.rows) ≡ statuses_of r.choices = subst (IsAlike r) routed alike in
-    let both_same : statuses_of (map (choice (source_of x)) x.plan.rows) ≡ statuses_of (map (choice (source_of y)) x.plan.rows) = sym (ap (λ (q : RoutingValue). statuses_of q.choices) settled) ∙ sym same in
-    ap (λ (o : Option ExcerptValue). changes_between (Some x) o dest) now
-    ∙ unchanged x y dest (λ point. found_alike (choice (source_of x)) (choice (source_of y)) (λ (row : Row). eqb row.point point) x.plan.rows both_same)
+-- also in a network in which only links and sets changed
+plan_after : (x : ExcerptValue) (net : Network) (turned : List Ends) (dest : ℕ) → excerpt_at x.network dest ≡ Some x → HasTurned x.network net turned → plan_at net.plans dest ≡ Some x.plan
+plan_after x net turned dest planned has = ap (λ (ps : List Plan). plan_at ps dest) has.plans ∙ plan_is x.network dest x planned
 
--- nor has one whose routing keeps its statuses
-pub kept_unchanged : (r : RoutingValue) (net : Network) (turned : List Ends) (dest : ℕ) → r ≡ settled_routing r.excerpt → excerpt_at r.excerpt.network dest ≡ Some r.excerpt → HasTurned r.excerpt.network net turned
-    → IsValidNet net → KeepsStatuses r turned → changes_between (Some r.excerpt) (excerpt_at net dest) dest ≡ []
-kept_unchanged r net turned dest settled planned has valid keeps =
-    let x : ExcerptValue = r.excerpt in
-    let there : plan_at net.plans dest ≡ Some x.plan = ap (λ (ps : List Plan). plan_at ps dest) has.plans ∙ (excerpt_is x.network dest x planned).2 in
+-- ends that a list has don't pass a test that none of it passes
+none_rests : (p : ℕ → ℕ → Bool) (turned : List Ends) (y z : ℕ) → list_any (λ (ends : Ends). p ends.point ends.other) turned ≡ false → has_ends turned y z ≡ true → p y z ≡ true → ⊥
+none_rests p turned y z none has rests =
+    let found = Any-from_list_any (λ (ends : Ends). eqb ends.point y && eqb ends.other z) turned has in
+    let same = and_parts (eqb found.1.point y) (eqb found.1.other z) found.4 in
+    let here : p found.1.point found.1.other ≡ true = rw (eqb-true found.1.point y same.0, eqb-true found.1.other z same.1) rests in
+    let some : list_any (λ (ends : Ends). p ends.point ends.other) turned ≡ true = list_any-from_Any (λ (ends : Ends). p ends.point ends.other) turned (found.0, found.1, found.2, found.3, here) in
+    cc
+
+-- what is kept opens to the same choices, where the mates are the same
+opened_same : (src other : Source) → src.mate_of ≡ other.mate_of → (rows : List Row) (ks : List KeptValue) → opened_rows src rows ks ≡ opened_rows other rows ks
+opened_same src other mates [] ks = refl
+opened_same src other mates (row ∷ rows) [] = refl
+opened_same src other mates (row ∷ rows) (k ∷ ks) = let rest = opened_same src other mates rows ks in rw (mates, rest) refl
+
+module _ (old x : ExcerptValue) (was : IsRight old) (right : IsRight x) (turned : List Ends) (dest : x.plan.dest ≡ old.plan.dest) (has : HasTurned old.network x.network turned)
+    (none : list_any (λ (ends : Ends). rests_on old ends.point ends.other) turned ≡ false) where
+  no_marks : (y z : ℕ) → has_ends turned y z ≡ true → HasMarksOf x [] y z
+  no_marks y z ends = record {
+    via = λ leading.
+        let there : leads old.plan.rows y z ≡ true = sym (ap (λ (p : Plan). leads p.rows y z) (same_plan old x was right turned dest has)) ∙ leading in
+        absurd (none_rests (rests_on old) turned y z none ends (or_left (leads old.plan.rows y z) (option_map_or (λ m. eqb m z) (mate_of old.network.points y) false) there));
+    mate = λ paired.
+        let there : mate_of old.network.points y ≡ Some z = rw (← has.points) paired in
+        let yes : option_map_or (λ m. eqb m z) (mate_of old.network.points y) false ≡ true = rw there (eq-eqb z z refl) in
+        absurd (none_rests (rests_on old) turned y z none ends (or_right (leads old.plan.rows y z) (option_map_or (λ m. eqb m z) (mate_of old.network.points y) false) yes));
+  }
+
+  -- their choices stay
+  choices_stay : map (choice (source_of x)) x.plan.rows ≡ map (choice (source_of old)) old.plan.rows
+  choices_stay =
+      let choices : List KeptValue = map (λ row. kept (choice (source_of old) row)) old.plan.rows in
+      let now : IsChosen x choices = kept_whole old x was right turned dest has choices refl [] refl no_marks in
+      sym (opened_chosen x right choices now)
+      ∙ ap (λ (p : Plan). opened_rows (source_of x) p.rows choices) (same_plan old x was right turned dest has)
+      ∙ opened_same (source_of x) (source_of old) (ap mate_of has.points) old.plan.rows choices
+      ∙ opened_chosen old was choices refl
+
+-- so they do towards a destination no row of which rests on a set that turned
+pub choices_kept : (x : ExcerptValue) (net : Network) (turned : List Ends) (dest : ℕ) → IsRight x → IsValidNet net → excerpt_at x.network dest ≡ Some x → HasTurned x.network net turned
+    → list_any (λ (ends : Ends). rests_on x ends.point ends.other) turned ≡ false → (point : ℕ) → choice_of (Some x) point ≡ choice_of (excerpt_at net dest) point
+choices_kept x net turned dest right valid planned has none point =
+    let there : plan_at net.plans dest ≡ Some x.plan = plan_after x net turned dest planned has in
     let y : ExcerptValue = excerpt_in net x.plan in
-    let now : Some (settled_routing y) ≡ routing_at net dest = sym (ap (λ (o : Option Plan). option_map settled_routing (option_map (excerpt_in net) o)) there) in
-    alike_unchanged r net turned dest settled planned has (Some (settled_routing y)) now (keeps y (extract_right net valid dest x.plan there) refl has)
+    let same : map (choice (source_of y)) x.plan.rows ≡ map (choice (source_of x)) x.plan.rows = choices_stay x y right (extract_right net valid dest x.plan there) turned refl has none in
+    found_same (choice (source_of x)) (choice (source_of y)) point x.plan.rows x.plan.rows refl (sym same)
+    ∙ ap (λ (o : Option Plan). choice_of (option_map (excerpt_in net) o) point) (sym there)
 
 -- the network that events make, none of which is refused
 pub made_by : (place : ℕ) (net new : Network) (events : List Event) → apply_from place net events ≡ Ok new → new ≡ replay net events

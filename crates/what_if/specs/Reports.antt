@@ -12,12 +12,13 @@ use Rattle.net_data.specs.declared.events.Event.TheVariants as on
 use Rattle.net_data.specs.declared.events.Refusal.TheVariants.{OutOfMemory}
 use Rattle.net_data.specs.Network.{Network}
 use Rattle.net_data.specs.Edits.{refusal_of, changed}
+use Rattle.route_choice.specs.declared.choices.Choice.{Choice}
 use Rattle.route_choice.specs.declared.choices.Far.{Far}
 use Rattle.route_choice.specs.declared.choices.Far.TheVariants.{Prohibited}
 use Rattle.route_choice.specs.Routes.{same_far}
 use Rattle.profile.specs.Status.{choice}
 use Rattle.excerpts.specs.Excerpt.{ExcerptValue, excerpt_at, source_of}
-use Rattle.transfer_state.specs.Routing.{RoutingValue, statuses_of}
+use Rattle.transfer_state.specs.Routing.{RoutingValue, settled_routing}
 use Rattle.what_if.specs.declared.changes.Change.{Change}
 use Rattle.what_if.specs.declared.reports.Refused.{Refused}
 use Rattle.what_if.specs.declared.reports.Report.{Report}
@@ -35,9 +36,13 @@ dests net = map (λ (p : Plan). p.dest) net.plans
 abbrev pub points : Option ExcerptValue → List ℕ
 points x = option_map_or (λ e. map (λ row. row.point) e.plan.rows) x []
 
--- the status of a point by the table from scratch: none if there is no plan, or no row
+-- the choice of a point by the table from scratch: none if there is no plan, or no row
+abbrev pub choice_of : Option ExcerptValue → ℕ → Option Choice
+choice_of x y = option_and_then (λ e. option_map (choice (source_of e)) (row_at e.plan.rows y)) x
+
+-- its status
 abbrev pub status_of : Option ExcerptValue → ℕ → Option Far
-status_of x y = option_and_then (λ e. option_map (λ row. (choice (source_of e) row).status) (row_at e.plan.rows y)) x
+status_of x y = option_map (λ (c : Choice). c.status) (choice_of x y)
 
 -- whether two statuses are the same
 abbrev pub is_same : Option Far → Option Far → Bool
@@ -52,18 +57,28 @@ change_between old new x y =
     if is_same (status_of old y) (status_of new y) then []
     else record { point = y; dest = x; before = status_of old y; after = status_of new y } ∷ []
 
--- the changes towards a destination, of each point that has a row before or after
-abbrev pub changes_between : Option ExcerptValue → Option ExcerptValue → ℕ → List Change
-changes_between old new x = flat_map (change_between old new x) (both (points old) (points new))
+-- what is told of a point towards a destination, before and after
+abbrev pub Account : Type 0 → Type 0
+Account X = Option ExcerptValue → Option ExcerptValue → ℕ → ℕ → List X
 
--- a routing, if there is one, has the statuses of another in their places
-abbrev pub IsAlike : RoutingValue → Option RoutingValue → Type 0
-IsAlike before None = ⊥
-IsAlike before (Some after) = statuses_of after.choices ≡ statuses_of before.choices
+-- what is told towards a destination, of each point that has a row before or after
+abbrev pub each_point : {X : Type 0} → Account X → Option ExcerptValue → Option ExcerptValue → ℕ → List X
+each_point tell old new x = flat_map (tell old new x) (both (points old) (points new))
 
--- the changes from a network to another, towards each destination that is planned before or after
+-- and so towards each destination that is planned before or after, from a network to another
+abbrev pub each_dest : {X : Type 0} → Account X → Network → Network → List X
+each_dest tell old new = flat_map (λ x. each_point tell (excerpt_at old x) (excerpt_at new x) x) (both (dests old) (dests new))
+
+-- nothing is told of two settled routings whose rows are of the same points
+abbrev pub IsQuiet : {X : Type 0} → Account X → RoutingValue → Option RoutingValue → Type 0
+IsQuiet tell before None = ⊥
+IsQuiet tell before (Some after) =
+    before ≡ settled_routing before.excerpt → after ≡ settled_routing after.excerpt
+    → map (λ row. row.point) before.excerpt.plan.rows ≡ map (λ row. row.point) after.excerpt.plan.rows → (x y : ℕ) → tell (Some before.excerpt) (Some after.excerpt) x y ≡ []
+
+-- the changes from a network to another
 abbrev pub changes : Network → Network → List Change
-changes old new = flat_map (λ x. changes_between (excerpt_at old x) (excerpt_at new x) x) (both (dests old) (dests new))
+changes = each_dest change_between
 
 -- allowed or restricted
 abbrev pub is_usable : Option Far → Bool
@@ -108,6 +123,10 @@ report_after old events (Err refused) = Err refused
 abbrev pub report_of : Network → List Event → Result Report Refused
 report_of net events = report_after net events (apply_from 1 net events)
 
+-- out of memory
+abbrev pub no_memory : Refused
+no_memory = record { place = 0; refusal = OutOfMemory }
+
 -- the answer: the report or the refusal; out of memory may be told in the place of either
 abbrev pub IsReported : Network → List Event → Result Report Refused → Type 0
-IsReported net events result = (result ≡ report_of net events) ⊎ (result ≡ Err (record { place = 0; refusal = OutOfMemory }))
+IsReported net events result = (result ≡ report_of net events) ⊎ (result ≡ Err no_memory)

@@ -72,7 +72,7 @@ pub(crate) fn is_same(one: Option<Far>, other: Option<Far>) -> bool
 }
 
 /// Whether a status is allowed or restricted.
-fn is_usable(status: Option<Far>) -> bool
+pub(crate) fn is_usable(status: Option<Far>) -> bool
     ensures { result ≡ usable status }
 {
     match status {

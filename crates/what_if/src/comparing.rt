@@ -1,21 +1,54 @@
-//! The changes from a network to another.
+//! What is told from a network to another: of each point towards each destination, where something differs.
 
-ghost use Rattle.std.specs.Prelude.{◌≡◌, ◌++◌, [], true, Some, IfOk, OnOk};
+ghost use Rattle.std.specs.Prelude.{◌≡◌, ◌++◌, ℕ, true, Some, IfOk, OnOk};
 ghost use Rattle.std.specs.Option.{IfSome, option_copied};
 ghost use Rattle.excerpts.specs.Excerpt.{excerpt_at};
 ghost use Rattle.excerpts.specs.Turned.{HasTurned};
+ghost use Rattle.net_data.specs.Edits.{replay};
 ghost use Rattle.transfer_state.specs.Routing.{routed_excerpt, settled_routing};
 ghost use Rattle.net_versions.specs.Versions.{routing_at};
-ghost use Rattle.what_if.specs.Reports.{changes as the_changes, IsAlike, change_between, changes_between, status_of as the_status};
+ghost use Rattle.what_if.specs.Reports.{choice_of, each_dest, each_point, status_of as the_status};
 
 use crate::changes::{Change, is_same};
-use crate::codes::{dests_of_both, merged, points_of};
+use crate::codes::{dests_of_both, points_of_both};
+use crate::versions::add_unlike;
 use excerpts::{Ends, Excerpt, ExcerptFault, Frozen};
+use net_data::Event;
 use net_versions::Version;
 use point_codes::PointCode;
 use route_choice::Far;
 use std::alloc::{AllocError, Global};
 use transfer_state::Routing;
+
+/// What is told of a point towards a destination, where it isn't the same before and after.
+pub(crate) trait Difference: Copy {
+    ghost use Rattle.std.specs.Prelude.{◌≡◌, ◌++◌, [], ℕ, Option, OnOk, true};
+    ghost use Rattle.std.specs.Option.{option_copied};
+    ghost use Rattle.excerpts.specs.Excerpt.{ExcerptValue};
+    ghost use Rattle.transfer_state.specs.Routing.{routed_excerpt};
+    ghost use Rattle.what_if.specs.Reports.{choice_of, IsQuiet, Account};
+
+    // What is told of the excerpts before and after.
+    ghost told: { Account Self };
+
+    /// Adds what is told of a point towards a destination.
+    fn add(
+        before: Option<&Routing>,
+        after: Option<&Routing>,
+        dest: PointCode,
+        point: PointCode,
+        list: &mut Vec<Self>,
+    ) -> Result<(), AllocError>
+        ensures { OnOk result (list.new.items ≡ list.old.items ++ told (routed_excerpt (option_copied before.entry)) (routed_excerpt (option_copied after.entry)) dest point) };
+
+    /// Whether nothing is told of two routings whose rows are of the same points, as far as that shows at once.
+    fn is_alike(before: &Routing, after: Option<&Routing>) -> bool
+        ensures { result ≡ true → IsQuiet told before.now (option_copied after.entry) };
+
+    /// Nothing is told of a point whose choice stays. It does nothing when it runs.
+    fn stays()
+        ensures { (old new : Option ExcerptValue) (dest point : ℕ) → choice_of old point ≡ choice_of new point → told old new dest point ≡ [] };
+}
 
 /// The status of a point, none if there is no plan or no row.
 fn status_of(routing: Option<&Routing>, point: PointCode) -> Option<Far>
@@ -27,42 +60,55 @@ fn status_of(routing: Option<&Routing>, point: PointCode) -> Option<Far>
     }
 }
 
-/// Adds the change of a point towards a destination, where its status before and after differs.
-fn add_change(
-    before: Option<&Routing>,
-    after: Option<&Routing>,
-    dest: PointCode,
-    point: PointCode,
-    changes: &mut Vec<Change>,
-) -> Result<(), AllocError>
-    ensures { OnOk result (changes.new.items ≡ changes.old.items ++ change_between (routed_excerpt (option_copied before.entry)) (routed_excerpt (option_copied after.entry)) dest point) }
-{
-    let (old, new) = (status_of(before, point), status_of(after, point));
-    if !is_same(old, new) {
-        changes.push(Change {
-            point,
-            dest,
-            before: old,
-            after: new,
-        })?;
+/// A change is told of a point whose status differs.
+impl Difference for Change {
+    ghost use Rattle.what_if.specs.Reports.{change_between};
+
+    ghost told = { change_between };
+
+    fn add(
+        before: Option<&Routing>,
+        after: Option<&Routing>,
+        dest: PointCode,
+        point: PointCode,
+        list: &mut Vec<Self>,
+    ) -> Result<(), AllocError> {
+        let (old, new) = (status_of(before, point), status_of(after, point));
+        if !is_same(old, new) {
+            list.push(Change {
+                point,
+                dest,
+                before: old,
+                after: new,
+            })?;
+        }
+        Ok(())
     }
-    Ok(())
+
+    #[tactic(auto, using(crate::proofs::UnchangedLemmas::alike_quiet))]
+    fn is_alike(before: &Routing, after: Option<&Routing>) -> bool {
+        match after {
+            Some(after) => after.has_same_statuses(before),
+            None => false,
+        }
+    }
+
+    fn stays() {}
 }
 
-/// Adds the changes towards a destination.
-pub(crate) fn add_changes_between(
+/// Adds what is told towards a destination.
+pub(crate) fn add_between<D: Difference>(
     alloc: Global,
     before: Option<&Routing>,
     after: Option<&Routing>,
     dest: PointCode,
-    changes: &mut Vec<Change>,
+    list: &mut Vec<D>,
 ) -> Result<(), AllocError>
-    ensures { OnOk result (changes.new.items ≡ changes.old.items ++ changes_between (routed_excerpt (option_copied before.entry)) (routed_excerpt (option_copied after.entry)) dest) }
+    ensures { OnOk result (list.new.items ≡ list.old.items ++ each_point D.told (routed_excerpt (option_copied before.entry)) (routed_excerpt (option_copied after.entry)) dest) }
 {
-    let old_points = points_of(alloc, before)?;
-    let points = merged(old_points.as_slice(), points_of(alloc, after)?)?;
+    let points = points_of_both(alloc, before, after)?;
     for point in points.as_slice() {
-        add_change(before, after, dest, *point, changes)?;
+        D::add(before, after, dest, *point, list)?;
     }
     Ok(())
 }
@@ -88,9 +134,9 @@ fn routing_in(alloc: Global, net: &Frozen, dest: PointCode) -> Result<Option<Rou
     }
 }
 
-/// Whether a destination reads the same in a network as before, so that nothing changes towards it.
+/// Whether a destination reads the same in a network as before, so that each choice towards it stays.
 fn reads_the_same(before: Option<&Routing>, net: &Frozen, dest: PointCode) -> bool
-    ensures { result ≡ true → changes_between (routed_excerpt (option_copied before.entry)) (excerpt_at net.now dest) dest ≡ [] }
+    ensures { result ≡ true → (point : ℕ) → choice_of (routed_excerpt (option_copied before.entry)) point ≡ choice_of (excerpt_at net.now dest) point }
 {
     match before {
         Some(routing) => {
@@ -139,102 +185,104 @@ fn routing_after(
     }
 }
 
-/// Whether there is a routing that has the statuses of the one before in their places.
-fn is_alike(before: &Routing, after: Option<&Routing>) -> bool
-    ensures { result ≡ true → IsAlike before.now (option_copied after.entry) }
-{
-    match after {
-        Some(after) => after.has_same_statuses(before),
-        None => false,
-    }
-}
-
-/// Whether no status towards a destination changes, as far as that can be told without choosing a row anew.
-fn stays(before: &Routing, net: &Frozen, turned: &[Ends], dest: PointCode) -> bool
+/// Whether no choice towards a destination changes, as far as that can be told without choosing a row anew.
+fn keeps_choices(before: &Routing, net: &Frozen, turned: &[Ends], dest: PointCode) -> bool
     requires planned { excerpt_at before.now.excerpt.network dest ≡ Some before.now.excerpt }
     requires turned { HasTurned before.now.excerpt.network net.now turned.now }
-    ensures { result ≡ true → changes_between (Some before.now.excerpt) (excerpt_at net.now dest) dest ≡ [] }
+    ensures { result ≡ true → (point : ℕ) → choice_of (Some before.now.excerpt) point ≡ choice_of (excerpt_at net.now dest) point }
 {
-    before.validity();
+    before.excerpt().validity();
     net.validity();
     before.keeps_statuses(turned)
 }
 
-/// Adds the changes towards a destination, followed from its routing before.
-fn add_followed(
+/// Adds what is told towards a destination, followed from its routing before.
+fn add_followed<D: Difference>(
     alloc: Global,
     before: &Routing,
     net: &Frozen,
     turned: &[Ends],
     dest: PointCode,
-    changes: &mut Vec<Change>,
+    list: &mut Vec<D>,
 ) -> Result<(), AllocError>
     requires planned { excerpt_at before.now.excerpt.network dest ≡ Some before.now.excerpt }
     requires turned { HasTurned before.now.excerpt.network net.now turned.now }
-    ensures { OnOk result (changes.new.items ≡ changes.old.items ++ changes_between (Some before.now.excerpt) (excerpt_at net.now dest) dest) }
+    ensures { OnOk result (list.new.items ≡ list.old.items ++ each_point D.told (Some before.now.excerpt) (excerpt_at net.now dest) dest) }
 {
-    if stays(before, net, turned, dest) {
+    D::stays();
+    if keeps_choices(before, net, turned, dest) {
         return Ok(());
     }
-    before.validity();
     let after = routing_after(alloc, net, before, turned, dest)?;
-    if is_alike(before, after.as_ref()) {
-        return Ok(());
-    }
-    add_changes_between(alloc, Some(before), after.as_ref(), dest, changes)
+    add_unlike(alloc, Some(before), after.as_ref(), dest, list)
 }
 
-/// Adds the changes towards a destination, settled anew if it doesn't read the same.
-fn add_settled(
+/// Adds what is told towards a destination, settled anew if it doesn't read the same.
+fn add_settled<D: Difference>(
     alloc: Global,
     before: Option<&Routing>,
     net: &Frozen,
     dest: PointCode,
-    changes: &mut Vec<Change>,
+    list: &mut Vec<D>,
 ) -> Result<(), AllocError>
-    ensures { OnOk result (changes.new.items ≡ changes.old.items ++ changes_between (routed_excerpt (option_copied before.entry)) (excerpt_at net.now dest) dest) }
+    ensures { OnOk result (list.new.items ≡ list.old.items ++ each_point D.told (routed_excerpt (option_copied before.entry)) (excerpt_at net.now dest) dest) }
 {
+    D::stays();
     if reads_the_same(before, net, dest) {
         return Ok(());
     }
     let after = routing_in(alloc, net, dest)?;
-    add_changes_between(alloc, before, after.as_ref(), dest, changes)
+    add_unlike(alloc, before, after.as_ref(), dest, list)
 }
 
-/// Adds the changes towards a destination from a version to a network. If the ends of the sets that turned are known, its
+/// Adds what is told towards a destination from a version to a network. If the ends of the sets that turned are known, its
 /// routing is followed.
-fn add_changes(
+fn add_told<D: Difference>(
     alloc: Global,
     version: &Version,
     net: &Frozen,
     turned: Option<&[Ends]>,
     dest: PointCode,
-    changes: &mut Vec<Change>,
+    list: &mut Vec<D>,
 ) -> Result<(), AllocError>
-    requires { IfSome turned (λ list. HasTurned version.now.network net.now list.now) }
-    ensures { OnOk result (changes.new.items ≡ changes.old.items ++ changes_between (excerpt_at version.now.network dest) (excerpt_at net.now dest) dest) }
+    requires { IfSome turned (λ ends. HasTurned version.now.network net.now ends.now) }
+    ensures { OnOk result (list.new.items ≡ list.old.items ++ each_point D.told (excerpt_at version.now.network dest) (excerpt_at net.now dest) dest) }
 {
     let before = version.routing(dest);
     match (before, turned) {
-        (Some(routing), Some(turned)) => add_followed(alloc, routing, net, turned, dest, changes),
-        _ => add_settled(alloc, before, net, dest, changes),
+        (Some(routing), Some(turned)) => add_followed(alloc, routing, net, turned, dest, list),
+        _ => add_settled(alloc, before, net, dest, list),
     }
 }
 
-/// The changes from a version to a network, by the ends of the sets that turned, if these are known.
-pub(crate) fn changes_of(
+/// What is told from a version to a network, by the ends of the sets that turned, if these are known.
+fn told_by<D: Difference>(
     alloc: Global,
     version: &Version,
     net: &Frozen,
     turned: Option<&[Ends]>,
-) -> Result<Vec<Change>, AllocError>
-    requires { IfSome turned (λ list. HasTurned version.now.network net.now list.now) }
-    ensures { IfOk result (λ v. v.items ≡ the_changes version.now.network net.now) }
+) -> Result<Vec<D>, AllocError>
+    requires { IfSome turned (λ ends. HasTurned version.now.network net.now ends.now) }
+    ensures { IfOk result (λ v. v.items ≡ each_dest D.told version.now.network net.now) }
 {
     let dests = dests_of_both(alloc, version.net().net(), net.net())?;
-    let mut changes = Vec::new(alloc);
+    let mut list = Vec::new(alloc);
     for dest in dests.as_slice() {
-        add_changes(alloc, version, net, turned, *dest, &mut changes)?;
+        add_told(alloc, version, net, turned, *dest, &mut list)?;
     }
-    Ok(changes)
+    Ok(list)
+}
+
+/// What is told from a version to the network that events make of its own.
+pub(crate) fn told_after<D: Difference>(
+    alloc: Global,
+    version: &Version,
+    net: &Frozen,
+    events: &[Event],
+) -> Result<Vec<D>, AllocError>
+    requires { net.now ≡ replay version.now.network events.now }
+    ensures { IfOk result (λ v. v.items ≡ each_dest D.told version.now.network net.now) }
+{
+    let turned = net.turned_by(alloc, version.net(), events)?;
+    told_by(alloc, version, net, turned.as_deref())
 }

@@ -7,23 +7,32 @@
 //! 3. All changes are reported, in rising destination, and of one destination in rising point.
 //! 4. The inhibition of a link is denied if it makes a destination inaccessible to a point that reaches it: where some
 //!    status goes from allowed or restricted to prohibited.
-//! 5. What changed from a version to another is told in the same way, and order.
+//! 5. What events would move, or what moved from a version to another, is told in the same order: each point and destination whose
+//!    choice (status, class or vias) differs.
+//! 6. A link is restored by taking away all its marks. Told are the links whose restoring makes a point's status not prohibited, or
+//!    allowed, as is wanted, and takes least: the fewest links; of as many links the fewest that have failed; and of as many of both
+//!    the fewest marks. Of several ways that take as much the first is told: vias class by class, and the mate last; and of each set
+//!    the first link of those that take least. Or it is told that no restoring does it.
 //!
-//! 6. A link is restored by taking away all its marks. Told are the fewest links whose restoring makes a point's status not
-//!    prohibited, or that no restoring does it. Of several ways with as many links the first is told: vias class by class, and the
-//!    mate last; and of each set the link with the lowest code.
-//!
-//! Stands on `net_versions`. A change here also changes specs/ (Mending, Reports), proofs/ and must-fail/.
+//! Stands on `net_versions`. A change here also changes specs/ (Mending, Reports, Reroutes), proofs/ and must-fail/.
 #![tactic(auto)]
 
 pub mod changes;
 mod codes;
 mod comparing;
+mod costs;
+pub mod laws;
 pub mod mending;
+pub mod moving;
 pub mod reports;
+pub mod reroutes;
 pub mod versions;
+pub mod wanted;
 
 pub use changes::{Change, Changes};
 pub use mending::{Mend, SetLink, find_mend, mate_row};
+pub use moving::reroutes_by;
 pub use reports::{Refused, Report, what_if};
-pub use versions::changes_since;
+pub use reroutes::{Reroute, RerouteCounts, Reroutes};
+pub use versions::reroutes_since;
+pub use wanted::Wanted;

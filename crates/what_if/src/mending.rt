@@ -1,17 +1,17 @@
-//! Which links have to be restored for a point to reach a destination.
+//! Which links have to be restored for the status of a point to be as wanted.
 
-ghost use Rattle.std.specs.Prelude.{◌≡◌, ◌++◌, ◌+◌, ◌<◌, All, IfOk, OnOk, MatchOption, None, Some, length, map, nat_lt, option_to_list, replicate, slice_set, true, false, []};
+ghost use Rattle.std.specs.Prelude.{◌≡◌, ◌++◌, ◌+◌, ◌<◌, All, IfOk, OnOk, MatchOption, None, Some, length, map, option_to_list, replicate, slice_set, true, false, []};
 ghost use Rattle.std.specs.Option.{option_copied, option_map};
 ghost use Rattle.excerpts.specs.Excerpt.{source_of};
 ghost use Rattle.profile.specs.Status.{mate_row as the_mate_row, source_row, status};
 ghost use Rattle.profile.specs.Valid.{IsValidRow};
-ghost use Rattle.route_choice.specs.declared.choices.Far.TheVariants.{Prohibited};
-ghost use Rattle.what_if.specs.Mending.{IsKnown, IsMend, KnowsMends, between as the_between, fewer, fewest_of, mend as the_mend, over, mend_over_mate as the_over_mate, over_vias as the_over_vias, row_mend as the_row_mend};
+ghost use Rattle.what_if.specs.Mending.{IsKnown, IsMend, KnowsMends, between as the_between, cheaper, classes_wanted as the_classes, least_of, meets, mend as the_mend, over, mend_over_mate as the_over_mate, over_vias as the_over_vias, row_mend as the_row_mend};
 
+use crate::costs::{is_cheaper, least_link};
+use crate::wanted::Wanted;
 use excerpts::Excerpt;
-use net_items::{Link, Row};
+use net_items::{Link, Row, Vias};
 use point_codes::PointCode;
-use route_choice::Far;
 use std::alloc::{AllocError, Global};
 use std::marker::Model;
 use transfer_state::Routing;
@@ -61,6 +61,36 @@ impl Mend {
     }
 }
 
+/// What points need for what is wanted, as far as it is worked out: that of a row stands at the row's position.
+#[derive(Debug, Drop)]
+struct Mends {
+    wanted: Wanted,
+    list: Vec<Option<Mend>>,
+}
+
+impl Mends {
+    /// A place for what each of so many rows needs.
+    fn places(alloc: Global, wanted: Wanted, count: usize) -> Result<Mends, AllocError>
+        ensures wanted { IfOk result (λ mends. mends.wanted ≡ wanted) }
+        ensures places { IfOk result (λ mends. mends.list.items ≡ replicate count None) }
+    {
+        let mut list = Vec::with_capacity(alloc, count)?;
+        for _ in 0..count {
+            list.push(None)?;
+        }
+        Ok(Mends { wanted, list })
+    }
+
+    /// Puts what a row needs in its place.
+    fn put(&mut self, position: usize, mend: Option<Mend>)
+        requires { position < length self.old.list.items }
+        ensures wanted { self.new.wanted ≡ self.old.wanted }
+        ensures list { self.new.list.items ≡ slice_set self.old.list.items position mend }
+    {
+        self.list[position] = mend;
+    }
+}
+
 /// The row of the mate, if a row may use it.
 pub fn mate_row<'a>(excerpt: &'a Excerpt, row: &Row) -> Option<&'a Row>
     ensures { option_copied result ≡ the_mate_row (source_of excerpt.entry.now) row.now }
@@ -71,37 +101,29 @@ pub fn mate_row<'a>(excerpt: &'a Excerpt, row: &Row) -> Option<&'a Row>
     excerpt.row(excerpt.mate_of(row.point)?)
 }
 
-/// What has to be restored between two points, if a set joins them: nothing, or a link.
+/// What has to be restored between two points, if a set joins them: nothing, or the link of the set that takes least.
 fn between(excerpt: &Excerpt, point: PointCode, other: PointCode) -> Option<Option<SetLink>>
     ensures { option_map option_to_list result ≡ the_between (source_of excerpt.now) point other }
 {
     if excerpt.is_connected(point, other) {
         return Some(None);
     }
-    let set = excerpt.set_between(point, other)?;
-    let link = set.links.as_slice().first()?;
-    Some(Some(SetLink {
-        id: set.id,
-        link: *link,
-    }))
+    let link = least_link(excerpt.set_between(point, other)?)?;
+    Some(Some(link))
 }
 
 /// What a point needs, if that of the rows stands at their positions: nothing at the destination.
-fn mend_of<'a>(
-    excerpt: &Excerpt,
-    mends: &'a [Option<Mend>],
-    point: PointCode,
-) -> Option<&'a [SetLink]>
-    requires together { length mends.now ≡ length excerpt.now.plan.rows }
-    requires known { IsKnown (source_of excerpt.now) mends.now point }
-    ensures { MatchOption result (the_mend (source_of excerpt.now) point ≡ None) (λ links. the_mend (source_of excerpt.now) point ≡ Some links.now) }
+fn mend_of<'a>(excerpt: &Excerpt, mends: &'a Mends, point: PointCode) -> Option<&'a [SetLink]>
+    requires together { length mends.now.list.items ≡ length excerpt.now.plan.rows }
+    requires known { IsKnown (source_of excerpt.now) mends.now.wanted mends.now.list.items point }
+    ensures { MatchOption result (the_mend (source_of excerpt.now) mends.now.wanted point ≡ None) (λ links. the_mend (source_of excerpt.now) mends.now.wanted point ≡ Some links.now) }
 {
     excerpt.validity();
     if point == excerpt.dest() {
         return Some(&[]);
     }
     match excerpt.position_of_row(point) {
-        Ok(at) => match &mends[at] {
+        Ok(at) => match &mends.list[at] {
             Some(mend) => Some(mend.as_slice()),
             None => None,
         },
@@ -109,28 +131,17 @@ fn mend_of<'a>(
     }
 }
 
-/// Whether a link, if there is one, and some more are fewer than others.
-fn is_fewer(front: Option<SetLink>, back: &[SetLink], others: &Mend) -> bool
-    ensures { result ≡ nat_lt (length (option_to_list front ++ back.now)) (length others.now) }
-{
-    let count = others.links.len();
-    match front {
-        None => back.len() < count,
-        Some(_) => back.len() < count.saturating_sub(1),
-    }
-}
-
-/// Takes a link, if there is one, and some more in the place of what was the least so far, if they are fewer.
-fn take_fewer(
+/// Takes a link, if there is one, and some more in the place of what was the least so far, if they take less.
+fn take_cheaper(
     alloc: Global,
     least: &mut Option<Mend>,
     front: Option<SetLink>,
     back: &[SetLink],
 ) -> Result<(), AllocError>
-    ensures { OnOk result (least.new ≡ fewer least.old (Some (option_to_list front ++ back.now))) }
+    ensures { OnOk result (least.new ≡ cheaper least.old (Some (option_to_list front ++ back.now))) }
 {
     if let Some(others) = least {
-        if !is_fewer(front, back, others) {
+        if !is_cheaper(front, back, others.as_slice()) {
             return Ok(());
         }
     }
@@ -142,20 +153,20 @@ fn take_fewer(
 fn add_via(
     alloc: Global,
     excerpt: &Excerpt,
-    mends: &[Option<Mend>],
+    mends: &Mends,
     point: PointCode,
     via: PointCode,
     least: &mut Option<Mend>,
 ) -> Result<(), AllocError>
-    requires together { length mends.now ≡ length excerpt.now.plan.rows }
-    requires known { IsKnown (source_of excerpt.now) mends.now via }
-    ensures { OnOk result (least.new ≡ fewer least.old (over (source_of excerpt.now) point via (the_mend (source_of excerpt.now) via))) }
+    requires together { length mends.now.list.items ≡ length excerpt.now.plan.rows }
+    requires known { IsKnown (source_of excerpt.now) mends.now.wanted mends.now.list.items via }
+    ensures { OnOk result (least.new ≡ cheaper least.old (over (source_of excerpt.now) point via (the_mend (source_of excerpt.now) mends.now.wanted via))) }
 {
     let Some(front) = between(excerpt, point, via) else {
         return Ok(());
     };
     match mend_of(excerpt, mends, via) {
-        Some(back) => take_fewer(alloc, least, front, back),
+        Some(back) => take_cheaper(alloc, least, front, back),
         None => Ok(()),
     }
 }
@@ -164,14 +175,14 @@ fn add_via(
 fn add_class(
     alloc: Global,
     excerpt: &Excerpt,
-    mends: &[Option<Mend>],
+    mends: &Mends,
     point: PointCode,
     vias: &[PointCode],
     least: &mut Option<Mend>,
 ) -> Result<(), AllocError>
-    requires together { length mends.now ≡ length excerpt.now.plan.rows }
-    requires known { All (IsKnown (source_of excerpt.now) mends.now) vias.now }
-    ensures { OnOk result (least.new ≡ fewer least.old (fewest_of (map (λ z. over (source_of excerpt.now) point z (the_mend (source_of excerpt.now) z)) vias.now))) }
+    requires together { length mends.now.list.items ≡ length excerpt.now.plan.rows }
+    requires known { All (IsKnown (source_of excerpt.now) mends.now.wanted mends.now.list.items) vias.now }
+    ensures { OnOk result (least.new ≡ cheaper least.old (least_of (map (λ z. over (source_of excerpt.now) point z (the_mend (source_of excerpt.now) mends.now.wanted z)) vias.now))) }
 {
     for via in vias {
         add_via(alloc, excerpt, mends, point, *via, least)?;
@@ -179,19 +190,30 @@ fn add_class(
     Ok(())
 }
 
+/// The classes of vias of a row that lead to what is wanted.
+fn classes_wanted<'a>(excerpt: &Excerpt, wanted: Wanted, row: &'a Row) -> &'a [Vias]
+    ensures { result.now ≡ the_classes (source_of excerpt.now) wanted row.now }
+{
+    let classes = row.classes.as_slice();
+    if wanted.is_strict(excerpt) {
+        return &classes[..classes.len().min(1)];
+    }
+    classes
+}
+
 /// What a row needs over its vias.
 fn over_vias(
     alloc: Global,
     excerpt: &Excerpt,
-    mends: &[Option<Mend>],
+    mends: &Mends,
     row: &Row,
 ) -> Result<Option<Mend>, AllocError>
-    requires together { length mends.now ≡ length excerpt.now.plan.rows }
-    requires known { All (All (IsKnown (source_of excerpt.now) mends.now)) row.now.classes }
-    ensures { IfOk result (λ m. m ≡ the_over_vias (source_of excerpt.now) (the_mend (source_of excerpt.now)) row.now) }
+    requires together { length mends.now.list.items ≡ length excerpt.now.plan.rows }
+    requires known { All (All (IsKnown (source_of excerpt.now) mends.now.wanted mends.now.list.items)) row.now.classes }
+    ensures { IfOk result (λ m. m ≡ the_over_vias (source_of excerpt.now) mends.now.wanted (the_mend (source_of excerpt.now) mends.now.wanted) row.now) }
 {
     let mut least = None;
-    for vias in row.classes.as_slice() {
+    for vias in classes_wanted(excerpt, mends.wanted, row) {
         add_class(
             alloc,
             excerpt,
@@ -208,16 +230,19 @@ fn over_vias(
 fn add_mate(
     alloc: Global,
     excerpt: &Excerpt,
-    mends: &[Option<Mend>],
+    mends: &Mends,
     row: &Row,
     least: &mut Option<Mend>,
 ) -> Result<(), AllocError>
-    requires together { length mends.now ≡ length excerpt.now.plan.rows }
+    requires together { length mends.now.list.items ≡ length excerpt.now.plan.rows }
     requires row { IsValidRow (source_of excerpt.now) row.now }
-    requires known { KnowsMends (source_of excerpt.now) mends.now row.now.rank }
-    ensures { OnOk result (least.new ≡ fewer least.old (the_over_mate (source_of excerpt.now) (the_mend (source_of excerpt.now)) row.now)) }
+    requires known { KnowsMends (source_of excerpt.now) mends.now.wanted mends.now.list.items row.now.rank }
+    ensures { OnOk result (least.new ≡ cheaper least.old (the_over_mate (source_of excerpt.now) mends.now.wanted (the_mend (source_of excerpt.now) mends.now.wanted) row.now)) }
 {
     excerpt.validity();
+    if mends.wanted.is_strict(excerpt) {
+        return Ok(());
+    }
     let Some(mate) = mate_row(excerpt, row) else {
         return Ok(());
     };
@@ -225,7 +250,7 @@ fn add_mate(
         return Ok(());
     };
     match over_vias(alloc, excerpt, mends, mate)? {
-        Some(back) => take_fewer(alloc, least, front, back.as_slice()),
+        Some(back) => take_cheaper(alloc, least, front, back.as_slice()),
         None => Ok(()),
     }
 }
@@ -234,13 +259,13 @@ fn add_mate(
 fn row_mend(
     alloc: Global,
     excerpt: &Excerpt,
-    mends: &[Option<Mend>],
+    mends: &Mends,
     row: &Row,
 ) -> Result<Option<Mend>, AllocError>
-    requires together { length mends.now ≡ length excerpt.now.plan.rows }
+    requires together { length mends.now.list.items ≡ length excerpt.now.plan.rows }
     requires row { IsValidRow (source_of excerpt.now) row.now }
-    requires known { KnowsMends (source_of excerpt.now) mends.now row.now.rank }
-    ensures { IfOk result (λ m. m ≡ the_row_mend (source_of excerpt.now) (the_mend (source_of excerpt.now)) row.now) }
+    requires known { KnowsMends (source_of excerpt.now) mends.now.wanted mends.now.list.items row.now.rank }
+    ensures { IfOk result (λ m. m ≡ the_row_mend (source_of excerpt.now) mends.now.wanted (the_mend (source_of excerpt.now) mends.now.wanted) row.now) }
 {
     excerpt.validity();
     let mut least = over_vias(alloc, excerpt, mends, row)?;
@@ -248,40 +273,32 @@ fn row_mend(
     Ok(least)
 }
 
-/// Whether a point reaches the destination.
-fn reaches(routing: &Routing, point: PointCode) -> bool
-    ensures yes { result ≡ true → the_mend (source_of routing.now.excerpt) point ≡ Some [] }
-    ensures no { result ≡ false → status (source_of routing.now.excerpt) point ≡ Prohibited }
+/// Whether the status of a point is one that is wanted.
+fn reaches(routing: &Routing, wanted: Wanted, point: PointCode) -> bool
+    ensures yes { result ≡ true → the_mend (source_of routing.now.excerpt) wanted point ≡ Some [] }
+    ensures no { result ≡ false → meets wanted (status (source_of routing.now.excerpt) point) ≡ false }
 {
     routing.excerpt().validity();
-    !routing.status(point).is_same_as(Far::Prohibited)
+    wanted.is_met_by(routing.status(point))
 }
 
 /// What the point of a row needs, where that of the rows of lower rank stands in their places.
 fn point_mend(
     alloc: Global,
     routing: &Routing,
-    mends: &[Option<Mend>],
+    mends: &Mends,
     row: &Row,
 ) -> Result<Option<Mend>, AllocError>
-    requires together { length mends.now ≡ length routing.now.excerpt.plan.rows }
+    requires together { length mends.now.list.items ≡ length routing.now.excerpt.plan.rows }
     requires row { source_row (source_of routing.now.excerpt) row.now.point ≡ Some row.now }
-    requires known { KnowsMends (source_of routing.now.excerpt) mends.now row.now.rank }
-    ensures { IfOk result (λ m. m ≡ the_mend (source_of routing.now.excerpt) row.now.point) }
+    requires known { KnowsMends (source_of routing.now.excerpt) mends.now.wanted mends.now.list.items row.now.rank }
+    ensures { IfOk result (λ m. m ≡ the_mend (source_of routing.now.excerpt) mends.now.wanted row.now.point) }
 {
     routing.excerpt().validity();
-    if reaches(routing, row.point) {
+    if reaches(routing, mends.wanted, row.point) {
         return Ok(Some(Mend::of(alloc, None, &[])?));
     }
     row_mend(alloc, routing.excerpt(), mends, row)
-}
-
-/// Puts what a row needs in its place.
-fn put_mend(mends: &mut [Option<Mend>], position: usize, mend: Option<Mend>)
-    requires { position < length mends.old }
-    ensures { mends.new ≡ slice_set mends.old position mend }
-{
-    mends[position] = mend;
 }
 
 /// The rows of a routing's plan.
@@ -295,13 +312,14 @@ fn rows_of(routing: &Routing) -> &[Row]
 fn sweep_rank(
     alloc: Global,
     routing: &Routing,
-    mends: &mut [Option<Mend>],
+    mends: &mut Mends,
     rank: u8,
 ) -> Result<(), AllocError>
-    requires together { length mends.old ≡ length routing.now.excerpt.plan.rows }
-    requires below { KnowsMends (source_of routing.now.excerpt) mends.old rank }
-    ensures together { length mends.new ≡ length mends.old }
-    ensures below { OnOk result (KnowsMends (source_of routing.now.excerpt) mends.new (rank + 1)) }
+    requires together { length mends.old.list.items ≡ length routing.now.excerpt.plan.rows }
+    requires below { KnowsMends (source_of routing.now.excerpt) mends.old.wanted mends.old.list.items rank }
+    ensures wanted { mends.new.wanted ≡ mends.old.wanted }
+    ensures together { length mends.new.list.items ≡ length mends.old.list.items }
+    ensures below { OnOk result (KnowsMends (source_of routing.now.excerpt) mends.new.wanted mends.new.list.items (rank + 1)) }
 {
     routing.excerpt().validity();
     let rows = rows_of(routing);
@@ -309,32 +327,27 @@ fn sweep_rank(
         let row = &rows[i];
         if row.rank == rank {
             let mend = point_mend(alloc, routing, mends, row)?;
-            put_mend(mends, i, mend);
+            mends.put(i, mend);
         }
     }
     Ok(())
 }
 
-/// A place for what each of so many rows needs.
-fn places(alloc: Global, count: usize) -> Result<Vec<Option<Mend>>, AllocError>
-    ensures { IfOk result (λ v. v.items ≡ replicate count None) }
-{
-    let mut mends = Vec::with_capacity(alloc, count)?;
-    for _ in 0..count {
-        mends.push(None)?;
-    }
-    Ok(mends)
-}
-
 /// What the rows below a rank need, in their places.
-fn mends_below(alloc: Global, routing: &Routing, rank: u8) -> Result<Vec<Option<Mend>>, AllocError>
-    ensures together { IfOk result (λ v. length v.items ≡ length routing.now.excerpt.plan.rows) }
-    ensures below { IfOk result (λ v. KnowsMends (source_of routing.now.excerpt) v.items rank) }
+fn mends_below(
+    alloc: Global,
+    routing: &Routing,
+    wanted: Wanted,
+    rank: u8,
+) -> Result<Mends, AllocError>
+    ensures wanted { IfOk result (λ mends. mends.wanted ≡ wanted) }
+    ensures together { IfOk result (λ mends. length mends.list.items ≡ length routing.now.excerpt.plan.rows) }
+    ensures below { IfOk result (λ mends. KnowsMends (source_of routing.now.excerpt) mends.wanted mends.list.items rank) }
 {
     routing.excerpt().validity();
-    let mut mends = places(alloc, rows_of(routing).len())?;
+    let mut mends = Mends::places(alloc, wanted, rows_of(routing).len())?;
     for below in 1..rank {
-        sweep_rank(alloc, routing, mends.as_mut_slice(), below)?;
+        sweep_rank(alloc, routing, &mut mends, below)?;
     }
     Ok(mends)
 }
@@ -343,36 +356,39 @@ fn mends_below(alloc: Global, routing: &Routing, rank: u8) -> Result<Vec<Option<
 fn point_needs(
     alloc: Global,
     routing: &Routing,
+    wanted: Wanted,
     point: PointCode,
 ) -> Result<Option<Mend>, AllocError>
-    ensures { IfOk result (λ m. m ≡ the_mend (source_of routing.now.excerpt) point) }
+    ensures { IfOk result (λ m. m ≡ the_mend (source_of routing.now.excerpt) wanted point) }
 {
     routing.excerpt().validity();
-    if reaches(routing, point) {
+    if reaches(routing, wanted, point) {
         return Ok(Some(Mend::of(alloc, None, &[])?));
     }
     match routing.excerpt().row(point) {
         Some(row) => {
-            let mends = mends_below(alloc, routing, row.rank)?;
-            point_mend(alloc, routing, mends.as_slice(), row)
+            let mends = mends_below(alloc, routing, wanted, row.rank)?;
+            point_mend(alloc, routing, &mends, row)
         }
         None => Ok(None),
     }
 }
 
-/// The fewest links whose restoring makes the status of a point not prohibited: none of them if it isn't, and nothing if no
+/// The links that have to be restored for the status of a point to be as wanted: none of them if it is, and nothing if no
 /// restoring does it, as where the point has no row.
 ///
-/// Of several ways with as many links it tells the first: vias class by class, and the mate last. Of a set the link with the lowest
-/// code is told. It fails if memory is refused.
+/// Told are the fewest links; of several ways with as many the one with the fewest failed links, since each wants a repair; of those
+/// the one with the fewest marks; and of those the first: vias class by class, and the mate last. Of a set the link that takes least in
+/// this order is told, the first by its code. It fails if memory is refused.
 pub fn find_mend(
     alloc: Global,
     routing: &Routing,
+    wanted: Wanted,
     point: PointCode,
 ) -> Result<Option<Mend>, AllocError>
-    ensures made { IfOk result (λ m. m ≡ the_mend (source_of routing.now.excerpt) point) }
-    ensures fewest { IfOk result (λ m. IsMend (source_of routing.now.excerpt) point m) }
+    ensures made { IfOk result (λ m. m ≡ the_mend (source_of routing.now.excerpt) wanted point) }
+    ensures least { IfOk result (λ m. IsMend (source_of routing.now.excerpt) wanted point m) }
 {
     routing.excerpt().validity();
-    point_needs(alloc, routing, point)
+    point_needs(alloc, routing, wanted, point)
 }

@@ -3,10 +3,10 @@
 ghost use Rattle.std.specs.Prelude.{◌≡◌, IfOk};
 ghost use Rattle.std.specs.List.{list_any};
 ghost use Rattle.net_data.specs.Edits.{replay};
-ghost use Rattle.what_if.specs.Reports.{apply_from, inhibits as is_inhibition, is_inhibit as inhibited_by, report_between, report_of, IsReported};
+ghost use Rattle.what_if.specs.Reports.{apply_from, inhibits as is_inhibition, is_inhibit as inhibited_by, no_memory, report_between, report_of, IsReported};
 
 use crate::changes::{Changes, any_loss};
-use crate::comparing::changes_of;
+use crate::comparing::told_after;
 use excerpts::Frozen;
 use link_state::LinkChange;
 use net_data::{Event, Net, Refusal};
@@ -78,6 +78,22 @@ fn after_events(
     Ok(Ok(net))
 }
 
+/// The network that events make of a version's, or the first event that is refused.
+pub(crate) fn network_after(
+    alloc: Global,
+    version: &Version,
+    events: &[Event],
+) -> Result<Result<Frozen, Refused>, AllocError>
+    ensures value { IfOk result (λ r. r ≡ apply_from 1 version.now.network events.now) }
+    ensures made { IfOk result (λ r. IfOk r (λ net. net ≡ replay version.now.network events.now)) }
+{
+    let copy = version.net().net().copy(alloc)?;
+    match after_events(alloc, copy, events)? {
+        Ok(net) => Ok(Ok(Frozen::after(alloc, net, version.net())?)),
+        Err(refused) => Ok(Err(refused)),
+    }
+}
+
 /// What changes from a version to the network that the events make of its own.
 fn compare(
     alloc: Global,
@@ -88,8 +104,7 @@ fn compare(
     requires { net.now ≡ replay version.now.network events.now }
     ensures { IfOk result (λ r. r ≡ report_between version.now.network net.now events.now) }
 {
-    let turned = net.turned_by(alloc, version.net(), events)?;
-    let changes = changes_of(alloc, version, net, turned.as_deref())?;
+    let changes = told_after(alloc, version, net, events)?;
     let denied = any_inhibit(events) && any_loss(changes.as_slice());
     Ok(Report {
         changes: Changes::from_vec(changes),
@@ -105,13 +120,19 @@ fn make_report(
 ) -> Result<Result<Report, Refused>, AllocError>
     ensures { IfOk result (λ r. r ≡ report_of version.now.network events.now) }
 {
-    let copy = version.net().net().copy(alloc)?;
-    match after_events(alloc, copy, events)? {
-        Ok(net) => {
-            let net = Frozen::after(alloc, net, version.net())?;
-            Ok(Ok(compare(alloc, version, &net, events)?))
-        }
+    match network_after(alloc, version, events)? {
+        Ok(net) => Ok(Ok(compare(alloc, version, &net, events)?)),
         Err(refused) => Ok(Err(refused)),
+    }
+}
+
+/// What is told if memory is refused.
+pub(crate) fn out_of_memory() -> Refused
+    ensures { result ≡ no_memory }
+{
+    Refused {
+        place: 0,
+        refusal: Refusal::OutOfMemory,
     }
 }
 
@@ -124,9 +145,6 @@ pub fn what_if(alloc: Global, version: &Version, events: &[Event]) -> Result<Rep
 {
     match make_report(alloc, version, events) {
         Ok(answer) => answer,
-        Err(_) => Err(Refused {
-            place: 0,
-            refusal: Refusal::OutOfMemory,
-        }),
+        Err(_) => Err(out_of_memory()),
     }
 }

@@ -1,14 +1,14 @@
-//! What changed from a version to another.
+//! What moved from a version to another.
 
 ghost use Rattle.std.specs.Prelude.{◌≡◌, ◌++◌, ◌↔◌, [], IsTrue, true, IfOk, OnOk, map};
 ghost use Rattle.std.specs.Option.{option_copied};
-ghost use Rattle.excerpts.specs.Excerpt.{excerpt_at};
-ghost use Rattle.transfer_state.specs.Routing.{routed_excerpt, statuses_of};
-ghost use Rattle.what_if.specs.Reports.{changes as the_changes, changes_between};
+ghost use Rattle.transfer_state.specs.Routing.{routed_excerpt};
+ghost use Rattle.what_if.specs.Reports.{each_dest, each_point};
+ghost use Rattle.what_if.specs.Reroutes.{reroutes};
 
-use crate::changes::{Change, Changes};
 use crate::codes::dests_of_both;
-use crate::comparing::add_changes_between;
+use crate::comparing::{Difference, add_between};
+use crate::reroutes::Reroutes;
 use net_versions::Version;
 use point_codes::PointCode;
 use std::alloc::{AllocError, Global};
@@ -21,58 +21,76 @@ fn are_same_codes(xs: &[PointCode], ys: &[PointCode]) -> bool
     xs == ys
 }
 
-/// Whether two routings have rows of the same points, with the same statuses.
-fn has_same_rows(before: &Routing, after: &Routing) -> bool
-    ensures points { result ≡ true → map (λ row. row.point) before.now.excerpt.plan.rows ≡ map (λ row. row.point) after.now.excerpt.plan.rows }
-    ensures statuses { result ≡ true → statuses_of before.now.choices ≡ statuses_of after.now.choices }
+/// Whether two routings have rows of the same points.
+fn has_same_points(before: &Routing, after: &Routing) -> bool
+    ensures { IsTrue result ↔ (map (λ row. row.point) before.now.excerpt.plan.rows ≡ map (λ row. row.point) after.now.excerpt.plan.rows) }
 {
-    before.has_same_statuses(after)
-        && are_same_codes(
-            before.excerpt().plan().rows.codes(),
-            after.excerpt().plan().rows.codes(),
-        )
+    are_same_codes(
+        before.excerpt().plan().rows.codes(),
+        after.excerpt().plan().rows.codes(),
+    )
 }
 
-/// Whether no status towards a destination changes, told by the rows in their places.
-fn is_unchanged(before: Option<&Routing>, after: Option<&Routing>, dest: PointCode) -> bool
-    ensures { result ≡ true → changes_between (routed_excerpt (option_copied before.entry)) (routed_excerpt (option_copied after.entry)) dest ≡ [] }
+/// Whether nothing is told towards a destination, as far as that shows at once.
+fn is_untold<D: Difference>(
+    before: Option<&Routing>,
+    after: Option<&Routing>,
+    dest: PointCode,
+) -> bool
+    ensures { result ≡ true → each_point D.told (routed_excerpt (option_copied before.entry)) (routed_excerpt (option_copied after.entry)) dest ≡ [] }
 {
     match (before, after) {
         (Some(before), Some(after)) => {
             before.validity();
             after.validity();
-            has_same_rows(before, after)
+            D::is_alike(before, Some(after)) && has_same_points(before, after)
         }
         _ => false,
     }
 }
 
-/// Adds the changes towards a destination from a version to another.
-fn add_changed(
+/// Adds what is told towards a destination, point by point unless it shows at once that this is nothing.
+pub(crate) fn add_unlike<D: Difference>(
+    alloc: Global,
+    before: Option<&Routing>,
+    after: Option<&Routing>,
+    dest: PointCode,
+    list: &mut Vec<D>,
+) -> Result<(), AllocError>
+    ensures { OnOk result (list.new.items ≡ list.old.items ++ each_point D.told (routed_excerpt (option_copied before.entry)) (routed_excerpt (option_copied after.entry)) dest) }
+{
+    if is_untold::<D>(before, after, dest) {
+        return Ok(());
+    }
+    add_between(alloc, before, after, dest, list)
+}
+
+/// What is told from a version to another.
+fn told_since<D: Difference>(
     alloc: Global,
     old: &Version,
     new: &Version,
-    dest: PointCode,
-    changes: &mut Vec<Change>,
-) -> Result<(), AllocError>
-    ensures { OnOk result (changes.new.items ≡ changes.old.items ++ changes_between (excerpt_at old.now.network dest) (excerpt_at new.now.network dest) dest) }
-{
-    let (before, after) = (old.routing(dest), new.routing(dest));
-    if is_unchanged(before, after, dest) {
-        return Ok(());
-    }
-    add_changes_between(alloc, before, after, dest, changes)
-}
-
-/// What changed from a version to another: each point whose status towards a destination differs. It fails if memory is
-/// refused.
-pub fn changes_since(alloc: Global, old: &Version, new: &Version) -> Result<Changes, AllocError>
-    ensures { IfOk result (λ changes. changes ≡ the_changes old.now.network new.now.network) }
+) -> Result<Vec<D>, AllocError>
+    ensures { IfOk result (λ v. v.items ≡ each_dest D.told old.now.network new.now.network) }
 {
     let dests = dests_of_both(alloc, old.net().net(), new.net().net())?;
-    let mut changes = Vec::new(alloc);
+    let mut list = Vec::new(alloc);
     for dest in dests.as_slice() {
-        add_changed(alloc, old, new, *dest, &mut changes)?;
+        add_unlike(
+            alloc,
+            old.routing(*dest),
+            new.routing(*dest),
+            *dest,
+            &mut list,
+        )?;
     }
-    Ok(Changes::from_vec(changes))
+    Ok(list)
+}
+
+/// What moved from a version to another: each point whose choice towards a destination differs, by class, members or status. It
+/// fails if memory is refused.
+pub fn reroutes_since(alloc: Global, old: &Version, new: &Version) -> Result<Reroutes, AllocError>
+    ensures { IfOk result (λ list. list ≡ reroutes old.now.network new.now.network) }
+{
+    Ok(Reroutes::from_vec(told_since(alloc, old, new)?))
 }

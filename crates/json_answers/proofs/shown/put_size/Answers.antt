@@ -1,4 +1,3 @@
-use Rattle.std.proofs.Common.{[], ◌∷◌, codes}
 use Rattle.json_answers.specs.Shown.{part_members, state_members}
 use Rattle.json_answers.proofs.MemberLemmas.{adds_members}
 use Rattle.json_answers.proofs.shown.put_size.Goals as goal

@@ -1,4 +1,4 @@
-use Rattle.std.proofs.Common.{[], ◌∷◌, codes}
+use Rattle.std.proofs.Common.{[], codes}
 use Rattle.json_answers.specs.Shown.{show_members, size_members}
 use Rattle.json_answers.proofs.MemberLemmas.{adds_members}
 use Rattle.json_answers.proofs.shown.show_size.Goals as goal

@@ -1,16 +1,13 @@
-use Rattle.std.proofs.Common.{◌≡◌, ◌++◌, [], Some, List, sym, ap, subst, ◌∙◌, append-nil}
+use Rattle.std.proofs.Common.{◌≡◌, ◌++◌, [], Some, List, sym, ap, ◌∙◌, append-nil}
 use Rattle.excerpts.specs.Excerpt.{excerpt_at}
-use Rattle.what_if.specs.declared.changes.Change.{Change}
-use Rattle.what_if.specs.Reports.{IsAlike, changes_between}
-use Rattle.what_if.proofs.UnchangedLemmas.{alike_unchanged}
+use Rattle.what_if.specs.Reports.{each_point}
+use Rattle.what_if.proofs.UnchangedLemmas.{none_told}
 use Rattle.what_if.proofs.comparing.add_followed.Goals as goal
 
-pub returns-then-stays : goal.returns-then-stays
-returns-then-stays c = sym (ap (λ (more : List Change). c.args.changes.now.items ++ more) (c.stays.ensures c.if-stays.true) ∙ append-nil c.args.changes.now.items)
-
-pub returns-then-is_alike : goal.returns-then-is_alike
-returns-then-is_alike c =
-    let none : changes_between (Some c.args.before.now.excerpt) (excerpt_at c.args.net.now c.args.dest) c.args.dest ≡ []
-    = alike_unchanged c.args.before.now c.args.net.now c.args.turned.now c.args.dest c.validity.ensures c.requires.planned c.requires.turned c.in_ok-after.after c.in_ok-after.ensures
-    (subst (IsAlike c.args.before.now) c.as_ref.ensures.value (c.is_alike.ensures c.if-is_alike.true)) in
-    sym (ap (λ (more : List Change). c.args.changes.now.items ++ more) none ∙ append-nil c.args.changes.now.items)
+pub returns-then-keeps_choices : goal.returns-then-keeps_choices
+returns-then-keeps_choices g c =
+    let x = Some c.args.before.now.excerpt in
+    let y = excerpt_at c.args.net.now c.args.dest in
+    let none : each_point g.D.Difference.told x y c.args.dest ≡ []
+    = none_told g.D.Difference.told x y c.args.dest (λ point. c.stays.ensures x y c.args.dest point (c.keeps_choices.ensures c.if-keeps_choices.true point)) in
+    sym (ap (λ (more : List g.row.D.Denot). c.args.list.now.items ++ more) none ∙ append-nil c.args.list.now.items)

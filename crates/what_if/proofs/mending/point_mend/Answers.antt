@@ -16,4 +16,4 @@ pub returns : goal.returns
 returns c =
     let valid : IsValidSource (source_of c.args.routing.now.excerpt) = subst (λ (x : ExcerptValue). IsValidSource (source_of x)) c.excerpt.ensures c.validity.ensures.valid in
     subst (λ (v : Option (List SetLink)). IfOk c.row_mend.result (λ m. m ≡ v))
-    (ap (λ (x : ExcerptValue). row_mend (source_of x) (mend (source_of x)) c.args.row.now) c.excerpt-2.ensures ∙ sym (mend_of_row (source_of c.args.routing.now.excerpt) valid c.args.row.now.point c.args.row.now c.requires.row)) c.row_mend.ensures
+    (ap (λ (x : ExcerptValue). row_mend (source_of x) c.args.mends.now.wanted (mend (source_of x) c.args.mends.now.wanted) c.args.row.now) c.excerpt-2.ensures ∙ sym (mend_of_row (source_of c.args.routing.now.excerpt) valid c.args.mends.now.wanted c.args.row.now.point c.args.row.now c.requires.row)) c.row_mend.ensures
