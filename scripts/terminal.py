@@ -16,13 +16,13 @@ why prohibited ; class 1 2-10-1 far prohibited
 GREETING = "points 3, sets 2, plans 1; help tells the words\n"
 
 
-def at_terminal(command):
-    """Sends each line once the program has prompted for it, then an end of file; what it wrote to output and to errors."""
+def at_terminal(command, end=b"\x04"):
+    """Sends each line once the program has prompted for it, then an end of file, or another end; what it wrote to output and to errors."""
     master, terminal = pty.openpty()
     run = subprocess.Popen(command, stdin=terminal, stdout=subprocess.PIPE, stderr=subprocess.PIPE)
     os.close(terminal)
     errors = b""
-    for line in [line.encode() + b"\n" for line in LINES] + [b"\x04"]:
+    for line in [line.encode() + b"\n" for line in LINES] + [end]:
         while not errors.endswith(b"> "):
             byte = os.read(run.stderr.fileno(), 1)
             if not byte:
@@ -33,6 +33,11 @@ def at_terminal(command):
     output, rest = run.communicate(timeout=60)
     os.close(master)
     return output.decode(), (errors + rest).decode()
+
+
+def at_terminal_to_quit(command):
+    """The same with the word `quit` at the end."""
+    return at_terminal(command, b"quit\n")
 
 
 def at_pipe(command):
@@ -49,16 +54,17 @@ def main():
         print("0 passed, 0 failed")
         return
     network = os.path.join(os.path.dirname(os.path.abspath(__file__)), "..", "examples", "small.toml")
-    failed = 0
+    tried = failed = 0
     for workers in ([], ["--workers", "2"]):
         command = [sys.argv[1], "run", network] + workers
-        prompts = GREETING + "> " * (len(LINES) + 1) + "\n"
-        for way, wanted in ((at_terminal, prompts), (at_pipe, "")):
+        prompts = GREETING + "> " * (len(LINES) + 1)
+        for way, answers, wanted in ((at_terminal, ANSWERS, prompts + "\n"), (at_terminal_to_quit, ANSWERS + "quit\n", prompts), (at_pipe, ANSWERS, "")):
             output, errors = way(command)
-            if (output, errors) != (ANSWERS, wanted):
+            tried += 1
+            if (output, errors) != (answers, wanted):
                 print(f"{way.__name__} {' '.join(command)}: {output!r}, {errors!r}")
                 failed += 1
-    print(f"{4 - failed} passed, {failed} failed")
+    print(f"{tried - failed} passed, {failed} failed")
     sys.exit(failed != 0)
 
 

@@ -61,6 +61,7 @@ reply_text reply.Abandoned = codes "abandoned"
 reply_text (reply.Version number accepted) = codes "version " ++ (decimal number ++ (codes " accepted " ++ decimal accepted))
 reply_text (reply.Watch is_on) = if is_on then codes "watch on" else codes "watch off"
 reply_text (reply.Last seq) = codes "last " ++ decimal seq
+reply_text reply.Quit = codes "quit"
 
 -- `changes P since N lost L regained R moved M`, and each of them
 abbrev pub changes_text : ℕ → Moved → List ℕ

@@ -1,4 +1,4 @@
--- What `help` answers (own).
+-- What `help` and `quit` are answered (own).
 use Rattle.std.specs.Prelude.{ℕ, ◌||◌, Bool, if◌then◌else◌, List, [], ◌∷◌, ◌++◌, codes, find}
 use Rattle.std.specs.List.{flat_map}
 use Rattle.std.specs.Option.{option_map_or}
@@ -8,6 +8,7 @@ use Rattle.tokens.specs.Words.{word_if}
 use Rattle.answers.specs.declared.answer.Answer.{Answer}
 use Rattle.answers.specs.declared.answer.Answer.TheVariants as answer
 use Rattle.answers.specs.declared.answer.Reason.TheVariants as reason
+use Rattle.answers.specs.declared.answer.Reply.TheVariants as reply
 
 -- a word after a space
 abbrev pub word_text : FormValue → List ℕ
@@ -38,7 +39,13 @@ help_on [] = answer.Help all_words
 help_on (word ∷ []) = option_map_or (λ (form : FormValue). answer.Help (form_text form)) (find (is_of word) forms) (answer.Refused reason.BadLine)
 help_on _ = answer.Refused reason.BadLine
 
+-- what is told about the words after `quit`
+abbrev pub quit_on : List (List ℕ) → Answer
+-- `quit`
+quit_on [] = answer.Reply reply.Quit
+quit_on _ = answer.Refused reason.BadLine
+
 -- the answer to a line that is no command, by its words
 abbrev pub other_answer : List (List ℕ) → Answer
-other_answer (first ∷ rest) = if bytes_eq first (codes "help") then help_on rest else answer.Refused reason.BadLine
+other_answer (first ∷ rest) = if bytes_eq first (codes "help") then help_on rest else if bytes_eq first (codes "quit") then quit_on rest else answer.Refused reason.BadLine
 other_answer [] = answer.Refused reason.BadLine

@@ -52,6 +52,8 @@ pub enum Reply {
     Watch(bool),
     /// A collector's last sequence number, 0 if it has posted nothing.
     Last(u64),
+    /// The script ends here.
+    Quit,
 }
 
 /// What moved since an earlier version.

@@ -1,13 +1,13 @@
-//! What `help` answers.
+//! What `help` and `quit` are answered.
 
 ghost use Rattle.std.specs.Prelude.{◌≡◌, ◌∷◌, ◌++◌, [], IfOk, OnOk, map, string_bytes};
 ghost use Rattle.std.specs.List.{flat_map};
 ghost use Rattle.std.specs.Str.{bytes_eq};
 ghost use Rattle.script_words.specs.Forms.{value_of};
-ghost use Rattle.answers.specs.Help.{all_words, example_text, form_text, help_on, is_of_workers as of_workers, other_answer, word_text};
+ghost use Rattle.answers.specs.Help.{all_words, example_text, form_text, help_on, is_of_workers as of_workers, other_answer, quit_on, word_text};
 ghost use Rattle.tokens.specs.Words.{words_of};
 
-use crate::answer::{Answer, Reason};
+use crate::answer::{Answer, Reason, Reply};
 use crate::text::Text;
 use script_words::{Form, form_of, forms};
 use std::alloc::{AllocError, Global};
@@ -98,18 +98,41 @@ fn help_on_words(alloc: Global, words: &[&[u8]]) -> Result<Answer, AllocError>
     }
 }
 
+/// What is told about the words after `quit`.
+fn answer_quit(words: &[&[u8]]) -> Answer
+    ensures { result ≡ quit_on (map (λ w. w.now) words.now) }
+{
+    match words {
+        [] => Answer::Reply(Reply::Quit),
+        [_, ..] => Answer::Refused(Reason::BadLine),
+    }
+}
+
+/// What is answered to the first word of a line that is no command, and those after it.
+fn answer_word(alloc: Global, first: &[u8], rest: &[&[u8]]) -> Result<Answer, AllocError>
+    ensures { IfOk result (λ answer. answer ≡ other_answer (first.now ∷ map (λ w. w.now) rest.now)) }
+{
+    if first == "help".as_bytes() {
+        return help_on_words(alloc, rest);
+    }
+    if first == "quit".as_bytes() {
+        return Ok(answer_quit(rest));
+    }
+    Ok(Answer::Refused(Reason::BadLine))
+}
+
 /// What is answered to the words of a line that is no command.
 fn answer_words(alloc: Global, words: &[&[u8]]) -> Result<Answer, AllocError>
     ensures { IfOk result (λ answer. answer ≡ other_answer (map (λ w. w.now) words.now)) }
 {
     match words {
-        [first, rest @ ..] if *first == "help".as_bytes() => help_on_words(alloc, rest),
-        _ => Ok(Answer::Refused(Reason::BadLine)),
+        [first, rest @ ..] => answer_word(alloc, *first, rest),
+        [] => Ok(Answer::Refused(Reason::BadLine)),
     }
 }
 
 /// What is answered to a line that is no command: `help` tells every word that begins one, `help WORD` the form of that word's
-/// commands, with an example; any other is refused as a bad line. It fails if memory is refused.
+/// commands, with an example; `quit` that the script ends there; any other is refused as a bad line. It fails if memory is refused.
 pub fn answer_other(alloc: Global, line: &[u8]) -> Result<Answer, AllocError>
     ensures { IfOk result (λ answer. answer ≡ other_answer (words_of line.now)) }
 {

@@ -9,7 +9,7 @@ use crate::answer::{Answer, Reason, Reply};
 use crate::codes::{put_numbered, write_code};
 use point_codes::PointCode;
 use std::alloc::AllocError;
-use work_units::{Job, Opened, Posted, Refusal, Settled};
+use work_units::{Opened, Posted, Refusal, Settled};
 
 /// The answer to a post.
 pub fn answer_post(reply: Result<Posted, Refusal>) -> Answer
@@ -32,11 +32,11 @@ pub fn answer_open(reply: Result<Opened, Refusal>) -> Answer
     }
 }
 
-/// The answer to the taking of a job, if one is given.
-pub fn answer_job(job: &Job) -> Answer
-    ensures { result ≡ job_answer (Ok job.now) }
+/// The answer to the taking of a job that was given and done, by its result.
+pub fn answer_job(settled: &Settled) -> Answer
+    ensures { result ≡ job_answer (Ok settled.now) }
 {
-    Answer::Reply(Reply::Job(job.version(), job.dest()))
+    Answer::Reply(Reply::Job(settled.version(), settled.dest()))
 }
 
 /// The answer to the giving of a result.
@@ -100,5 +100,6 @@ pub(crate) fn put_reply(text: &mut String, reply: &Reply) -> Result<(), AllocErr
         }
         Reply::Watch(is_on) => text.push_str(if *is_on { "watch on" } else { "watch off" }),
         Reply::Last(seq) => put_numbered(text, "last ", *seq),
+        Reply::Quit => text.push_str("quit"),
     }
 }

@@ -1,5 +1,5 @@
 -- A newest version is put before the seven newest of eight.
-use Rattle.std.proofs.Common.{◌≡◌, ◌+◌, ◌-◌, List, [], ◌∷◌, ◌++◌, sym, ap, ◌∙◌, length, map, take, drop, arith, get_or, slice_set, Bool, true, if◌then◌else◌, Option, Some}
+use Rattle.std.proofs.Common.{◌≡◌, ◌-◌, List, [], ◌∷◌, ◌++◌, sym, ap, ◌∙◌, length, map, take, drop, arith, get_or, slice_set, Bool, true, if◌then◌else◌, Option, Some}
 use Rattle.std.proofs.lemmas.List.{drop_all, drop_more, take-map}
 use Rattle.net_versions.specs.Versions.{VersionValue}
 use Rattle.answers.specs.Changes.{Earlier, earlier}

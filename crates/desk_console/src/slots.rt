@@ -1,14 +1,14 @@
 //! The slots, and the commands that use them.
 
-ghost use Rattle.std.specs.Prelude.{◌≡◌, ◌<◌, IfOk, None, Some, length, slice_index_or, slice_set};
+ghost use Rattle.std.specs.Prelude.{◌≡◌, ◌<◌, IfOk, None, Ok, OnOk, Some, length, slice_index_or, slice_set};
+ghost use Rattle.answers.specs.Replies.{job_answer};
 ghost use Rattle.desk_console.specs.Console.{slot_of};
 ghost use Rattle.desk_console.specs.Does.{AbandonsOf, GivesFrom, TakesTo};
 
 use crate::console::Console;
-use crate::obeying::has_memory;
 use answers::{Answer, Reason, answer_abandoned, answer_given, answer_job};
 use std::alloc::{AllocError, Global};
-use work_units::{Job, Settled, settle};
+use work_units::{Job, Refusal, Settled, settle};
 
 /// Takes the result out of a slot.
 fn take_out(slots: &mut Vec<Option<Settled>>, position: usize) -> Option<Settled>
@@ -38,22 +38,26 @@ fn result_of(alloc: Global, job: Job) -> Result<Settled, AllocError>
 }
 
 impl Console {
+    /// Does a job that was taken, and keeps its result in a slot.
+    fn keep(&mut self, alloc: Global, slot: u8, job: Job) -> Result<Answer, AllocError>
+        requires { slot < 32 }
+        ensures told { IfOk result (λ answer. answer ≡ job_answer (Ok job)) }
+        ensures kept { OnOk result (self.new ≡ record self.old { slots = slice_set self.old.slots slot (Some job) }) }
+    {
+        let settled = result_of(alloc, job)?;
+        let answer = answer_job(&settled);
+        put_in(&mut self.slots, usize::from(slot), settled);
+        Ok(answer)
+    }
+
     /// Takes a job, does it, and keeps its result in a slot.
     pub(crate) fn take(&mut self, alloc: Global, slot: u8) -> Result<Answer, AllocError>
         requires { slot < 32 }
         ensures { IfOk result (λ answer. TakesTo slot self.old answer self.new) }
     {
-        let reply = self.desk.take();
-        if !has_memory(&reply) {
-            return Err(AllocError);
-        }
-        match reply {
-            Ok(job) => {
-                let answer = answer_job(&job);
-                let settled = result_of(alloc, job)?;
-                put_in(&mut self.slots, usize::from(slot), settled);
-                Ok(answer)
-            }
+        match self.desk.take() {
+            Ok(job) => self.keep(alloc, slot, job),
+            Err(Refusal::OutOfMemory) => Err(AllocError),
             Err(refusal) => Ok(Answer::Refused(Reason::Desk(refusal))),
         }
     }

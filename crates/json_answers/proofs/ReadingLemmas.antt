@@ -150,6 +150,7 @@ reply_shallow reply.Abandoned = (flat 4, tt)
 reply_shallow (reply.Version n accepted) = (flat 4, (flat 4, (flat 4, tt)))
 reply_shallow (reply.Watch is_on) = (flat 4, (flat 4, tt))
 reply_shallow (reply.Last seq) = (flat 4, (flat 4, tt))
+reply_shallow reply.Quit = (flat 4, tt)
 
 number_shallow : (o : Option ℕ) → depth (number_if o) ≤ 4
 number_shallow None = flat 4

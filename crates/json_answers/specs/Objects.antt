@@ -55,6 +55,7 @@ reply_members reply.Given = word_member (codes "given") ∷ []
 reply_members reply.Abandoned = word_member (codes "abandoned") ∷ []
 reply_members (reply.Version n accepted) = word_member (codes "version") ∷ number_member (codes "published") n ∷ number_member (codes "accepted") accepted ∷ []
 reply_members (reply.Last seq) = numbered_members (codes "last") (codes "sequence") seq
+reply_members reply.Quit = word_member (codes "quit") ∷ []
 reply_members (reply.Watch is_on) = word_member (codes "watch") ∷ text_member (codes "text") (if is_on then codes "on" else codes "off") ∷ []
 
 -- a status, null if there is no row

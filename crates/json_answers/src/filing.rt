@@ -1,16 +1,34 @@
 //! Who tells the answers to a script: in a form alone, or with a clerk, who files its pictures and networks.
 
-ghost use Rattle.std.specs.Prelude.{◌≡◌, ◌⊎◌, ◌++◌, IfOk, OnOk, string_bytes};
+ghost use Rattle.std.specs.Prelude.{◌≡◌, ◌++◌, IfOk, IfSome, OnOk, string_bytes};
 ghost use Rattle.answers.specs.Filed.{IsFiled, IsUnfiled};
 ghost use Rattle.json_answers.specs.Form.{printed_in};
 
 use crate::form::Form;
-use answers::{Answer, Asked, NetAnswer, NetBox, Reason, Telling, Text};
+use answers::{Answer, Asked, NetAnswer, NetBox, Publication, Reason, RowAnswer, Telling, Text};
 use net_data::Net;
 use std::alloc::{AllocError, Global};
 
-/// Lets an answer go. A function of its own, so that this is done in one place.
-fn let_go(_answer: Answer) {}
+/// Lets go what is told of a row. A function of its own, as those below, so that this is done in one place.
+fn let_go_row(_row: RowAnswer) {}
+
+/// Lets go what is told of the whole network.
+fn let_go_net(_net: NetAnswer) {}
+
+/// Lets go what is told of a publication.
+fn let_go_publication(_publication: Publication) {}
+
+/// Lets an answer go.
+fn let_go(answer: Answer) {
+    match answer {
+        Answer::Row(row) => let_go_row(row),
+        Answer::Net(net) => let_go_net(net),
+        Answer::Publication(publication) => let_go_publication(publication),
+        Answer::Shown(shown) => drop(shown),
+        Answer::Help(text) => drop(text),
+        Answer::Reply(_) | Answer::Refused(_) => {}
+    }
+}
 
 /// Prints an answer, and lets it go.
 fn print(form: Form, alloc: Global, answer: Answer, text: &mut String) -> Result<(), AllocError>
@@ -97,14 +115,14 @@ pub struct Filing<C> {
     pub clerk: C,
 }
 
-/// What is told by what became of something for a file: that it is there, or why not.
-fn told_by(outcome: Outcome, done: NetAnswer) -> Answer
-    ensures { (result ≡ Answer.Net done) ⊎ IsUnfiled result }
+/// Why something isn't in its file, by what became of it. `None` if it is.
+fn reason_of(outcome: Outcome) -> Option<Reason>
+    ensures { IfSome result (λ reason. IsUnfiled (Answer.Refused reason)) }
 {
     match outcome {
-        Outcome::Written => Answer::Net(done),
-        Outcome::Failed => Answer::Refused(Reason::Write),
-        Outcome::Forbidden => Answer::Refused(Reason::BadLine),
+        Outcome::Written => None,
+        Outcome::Failed => Some(Reason::Write),
+        Outcome::Forbidden => Some(Reason::BadLine),
     }
 }
 
@@ -120,7 +138,10 @@ fn filed_picture<C: Clerk>(
 {
     let content = Content::Picture(picture.as_str());
     let outcome = clerk.put(alloc, asked, file.as_str(), content)?;
-    Ok(told_by(outcome, NetAnswer::Drawn(file)))
+    match reason_of(outcome) {
+        None => Ok(Answer::Net(NetAnswer::Drawn(file))),
+        Some(reason) => Ok(Answer::Refused(reason)),
+    }
 }
 
 /// What is told of a network, once the clerk was given it.
@@ -135,7 +156,10 @@ fn filed_net<C: Clerk>(
 {
     let content = Content::Net(net.as_net());
     let outcome = clerk.put(alloc, asked, file.as_str(), content)?;
-    Ok(told_by(outcome, NetAnswer::Saved(file)))
+    match reason_of(outcome) {
+        None => Ok(Answer::Net(NetAnswer::Saved(file))),
+        Some(reason) => Ok(Answer::Refused(reason)),
+    }
 }
 
 /// What is told in the place of an answer.

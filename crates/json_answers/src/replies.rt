@@ -62,5 +62,6 @@ pub fn put_reply(alloc: Global, writer: &mut Writer, reply: &Reply) -> Result<()
         Reply::Version(number, accepted) => put_version(writer, *number, *accepted),
         Reply::Watch(is_on) => put_watch(writer, *is_on),
         Reply::Last(seq) => put_numbered(writer, "last", "sequence", *seq),
+        Reply::Quit => put_word(writer, "quit"),
     }
 }

@@ -4,7 +4,7 @@ use crate::files::{Devices, save_text};
 use crate::notes::Notes;
 use crate::reasons::write_reason;
 use crate::streams::Seen;
-use crate::targets::leads_to_any;
+use crate::targets::{leads_to_any, own_file};
 use answers::{Answer, Asked, Reason};
 use json_answers::{Clerk, Content, Outcome};
 use net_data::Net;
@@ -65,14 +65,6 @@ fn is_picture(file: &str) -> bool {
             .any(|known| ending.eq_ignore_ascii_case(known)),
         None => false,
     }
-}
-
-/// What stands against a file that the run reads or writes itself.
-fn own_file() -> io::Error {
-    io::Error::new(
-        ErrorKind::PermissionDenied,
-        "this run reads it, or writes it itself",
-    )
 }
 
 /// Writes a text to a file, unless the run reads or writes that itself: it has one of these names, or is that of standard input or output.

@@ -22,6 +22,14 @@ enum Inside {
     Comment,
 }
 
+/// What some editors put before a text in UTF-8, a byte order mark.
+const MARK: &[u8] = b"\xef\xbb\xbf";
+
+/// A text without the byte order mark before it.
+fn without_mark(text: &[u8]) -> &[u8] {
+    text.strip_prefix(MARK).unwrap_or(text)
+}
+
 /// A text without the spaces before it.
 fn without_spaces(text: &[u8]) -> &[u8] {
     match text.iter().position(|byte| *byte != b' ') {
@@ -95,6 +103,7 @@ fn up_to_header(bytes: &[u8], before: u64) -> Section<'_> {
 
 /// The part of a text from a header of a table on, by its position among those of the same name, up to the next header.
 pub fn section_of<'a>(text: &'a [u8], name: &str, position: usize) -> Option<Section<'a>> {
+    let text = without_mark(text);
     let (mut bytes, mut lines, mut left) = (0usize, 0u64, position);
     for line in text.split(|byte| *byte == b'\n') {
         if is_header(line) && begins_with(line, name) {
@@ -111,6 +120,7 @@ pub fn section_of<'a>(text: &'a [u8], name: &str, position: usize) -> Option<Sec
 
 /// The line that begins with a key, from 1, and all from there on.
 fn find_key<'a>(text: &'a [u8], key: &str) -> Option<(u64, &'a [u8])> {
+    let text = without_mark(text);
     let (mut bytes, mut lines) = (0usize, 0u64);
     for line in text.split(|byte| *byte == b'\n') {
         lines = lines.saturating_add(1);
@@ -156,8 +166,10 @@ fn begins_text(inside: Inside, byte: u8) -> bool {
 
 /// The place of a byte of a text.
 pub fn place_at(text: &[u8], position: usize) -> Place {
+    let shown = without_mark(text);
+    let position = position.saturating_sub(text.len().saturating_sub(shown.len()));
     let mut place = Place { line: 1, column: 1 };
-    for byte in text.get(..position).unwrap_or(text) {
+    for byte in shown.get(..position).unwrap_or(shown) {
         place = place_after(place, *byte);
     }
     place

@@ -14,6 +14,7 @@ use beside::{run_beside, run_input_beside};
 use console::{Fault, ScriptEnd, run_input, run_script};
 use json_answers::{Filing, Form};
 use net_data::Net;
+use sessions::UntilQuit;
 use std::alloc::Global;
 use std::cell::RefCell;
 use std::io;
@@ -162,7 +163,7 @@ fn run_from(
     let notes = script_notes(alloc, manner.explained);
     let seen = Seen::new();
     let input = SeenReader::new(&seen, Prompting::new(rt, rt.reader(), wanted));
-    let reader = input;
+    let reader = UntilQuit::new(input);
     let writer = output_of(rt, notes.as_ref(), &seen);
     let telling = telling_of(rt, notes.as_ref(), &seen, manner);
     let end = run_over(rt, threads, net, workers, &telling, reader, writer);
@@ -206,7 +207,8 @@ fn run_whole(
 {
     let notes = input_notes(rt.alloc(), manner.explained);
     let seen = Seen::new();
-    let reader = NotedReader::new(notes.as_ref(), SeenReader::new(&seen, rt.reader()));
+    let input = NotedReader::new(notes.as_ref(), SeenReader::new(&seen, rt.reader()));
+    let reader = UntilQuit::new(input);
     let writer = output_of(rt, notes.as_ref(), &seen);
     let others = [manner.saved.unwrap_or(STANDARD_INPUT)];
     let manner = manner.over(None, &others);
@@ -227,7 +229,7 @@ fn play_seen<R: io::Read + Drop>(
     manner: Manner<'_>,
 ) -> ScriptEnd {
     let notes = script_notes(rt.alloc(), manner.explained);
-    let mut reader = script;
+    let mut reader = UntilQuit::new(script);
     let mut writer = output_of(rt, notes.as_ref(), seen);
     let telling = telling_of(rt, notes.as_ref(), seen, manner);
     run_script(rt.alloc(), &telling, &mut reader, &mut writer, net)

@@ -2,7 +2,7 @@
 
 use crate::seat_faults::Flaw;
 use crate::seat_text::SeatEntry;
-use crate::targets::{Target, target_of};
+use crate::targets::{Target, leads_to_any, own_file, target_of};
 use std::alloc::AllocError;
 use std::fs::{File, Metadata, OpenOptions};
 use std::io::ErrorKind;
@@ -286,6 +286,17 @@ fn find_doubled(rt: &HostRuntime, entries: &[SeatEntry]) -> Result<(), StreamFau
     Ok(())
 }
 
+/// The first entry whose output is a file that the run reads, or writes itself: one of these names leads to it.
+fn find_own(rt: &HostRuntime, entries: &[SeatEntry], own: &[&str]) -> Result<(), StreamFault> {
+    for (place, entry) in entries.iter().enumerate() {
+        let name = entry.output.as_str();
+        if name != "-" && leads_to_any(rt, name, own) {
+            return Err(StreamFault::Write(place, own_file()));
+        }
+    }
+    Ok(())
+}
+
 /// Cuts the open files to nothing.
 fn cut(outputs: &[OutputKind]) -> Result<(), StreamFault> {
     for (place, output) in outputs.iter().enumerate() {
@@ -298,10 +309,18 @@ fn cut(outputs: &[OutputKind]) -> Result<(), StreamFault> {
     Ok(())
 }
 
-/// Opens the outputs of all entries: regular files are made, or cut to nothing once it is known that nothing is wrong with any file.
-pub fn outputs_of(rt: &HostRuntime, entries: &[SeatEntry]) -> Result<Vec<OutputKind>, StreamFault> {
+/// Opens the outputs of all entries: regular files are made, or cut to nothing once it is known that nothing is wrong with any file, and
+/// that none is one that the run reads, or writes itself, by these names.
+pub fn outputs_of(
+    rt: &HostRuntime,
+    entries: &[SeatEntry],
+    own: &[&str],
+) -> Result<Vec<OutputKind>, StreamFault> {
     let outputs = open_outputs(rt, entries)?;
     if let Err(fault) = find_doubled(rt, entries) {
+        return Err(fault);
+    }
+    if let Err(fault) = find_own(rt, entries, own) {
         return Err(fault);
     }
     match cut(outputs.as_slice()) {

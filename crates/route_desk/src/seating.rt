@@ -19,6 +19,7 @@ use console::Fault;
 use json_answers::{Filing, Form};
 use net_data::Net;
 use serving::{Channel, DeskEnd, Farewell, run_seats};
+use sessions::UntilQuit;
 use std::alloc::{AllocError, Global};
 use std::cell::RefCell;
 use std::io::ErrorKind;
@@ -39,8 +40,8 @@ pub struct SeatManner<'a> {
     pub allowed: Files<'a>,
 }
 
-/// The lines of a seat, of which it is seen why they can't be read.
-type Lines<'a> = SeenReader<'a, SeatInput<'a>>;
+/// The lines of a seat up to its line `quit`, of which it is seen why they can't be read.
+type Lines<'a> = UntilQuit<SeenReader<'a, SeatInput<'a>>>;
 
 /// Where the answers of a seat go, of which it is seen why they can't be written.
 type Output<'a> = SeenWriter<'a, SeatOutput<'a>>;
@@ -55,7 +56,7 @@ fn lines_of<'a>(
     kind: InputKind,
     seen: &'a Seen,
 ) -> Lines<'a> {
-    SeenReader::new(seen, SeatInput::new(rt, entry, kind))
+    UntilQuit::new(SeenReader::new(seen, SeatInput::new(rt, entry, kind)))
 }
 
 /// Where the answers of a seat go.
@@ -240,13 +241,14 @@ fn run_over(
 ) -> io::Result<ExitCode>
     requires { workers ≤ 32 }
 {
-    let net = match load_file(rt, net, manner.explained) {
-        Ok(net) => net,
+    let loaded = match load_file(rt, net, manner.explained) {
+        Ok(loaded) => loaded,
         Err(fault) => return report(rt, Some(fault)),
     };
-    match outputs_of(rt, entries) {
+    let own = [net, text.name, saving.map_or(net, |saving| saving.name)];
+    match outputs_of(rt, entries, &own) {
         Ok(outputs) => run_open(
-            rt, threads, entries, inputs, outputs, net, workers, saving, manner,
+            rt, threads, entries, inputs, outputs, loaded, workers, saving, manner,
         ),
         Err(fault) => refuse_streams(rt, text, entries, &fault, manner.explained),
     }

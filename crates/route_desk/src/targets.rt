@@ -57,6 +57,14 @@ pub fn leads_to_any(rt: &HostRuntime, name: &str, names: &[&str]) -> bool {
     names.iter().any(|other| is_same_file(rt, name, other))
 }
 
+/// What stands against writing a file that the run reads or writes itself.
+pub fn own_file() -> io::Error {
+    io::Error::new(
+        ErrorKind::PermissionDenied,
+        "this run reads it, or writes it itself",
+    )
+}
+
 /// The folder that a file stands in, by its name.
 pub fn folder_of(path: &str) -> &str {
     match path.rsplit_once('/') {

@@ -16,7 +16,7 @@ pub record FormValue : Type 0 where
 abbrev pub value_of : Form → FormValue
 value_of form = record { word = form.word.now; form = form.form.now; example = form.example.now }
 
--- that of each word but `help`
+-- that of each word but `help` and `quit`
 abbrev pub command_forms : List FormValue
 command_forms =
     record { word = codes "fail"; form = codes "fail ID SLC"; example = codes "fail 2 0" } ∷
@@ -64,15 +64,19 @@ command_forms =
 abbrev pub help_form : FormValue
 help_form = record { word = codes "help"; form = codes "help or help WORD"; example = codes "help status" }
 
+-- that of `quit`
+abbrev pub quit_form : FormValue
+quit_form = record { word = codes "quit"; form = codes "quit"; example = codes "quit" }
+
 -- the table
 abbrev pub forms : List FormValue
-forms = command_forms ++ help_form ∷ []
+forms = command_forms ++ help_form ∷ quit_form ∷ []
 
 -- whether it is that of a word
 abbrev pub is_of : List ℕ → FormValue → Bool
 is_of word form = bytes_eq word form.word
 
--- a word other than `help` has an entry
+-- a word other than `help` and `quit` has an entry
 abbrev pub IsListed : List ℕ → Type 0
 IsListed word = (form : FormValue) × (find (is_of word) command_forms ≡ Some form)
 

@@ -217,9 +217,14 @@ const FORMS: &[Form] = &[
         form: "help or help WORD",
         example: "help status",
     },
+    Form {
+        word: "quit",
+        form: "quit",
+        example: "quit",
+    },
 ];
 
-/// The table: each word that begins a command, with the form of its commands and an example, and `help` as the last.
+/// The table: each word that begins a command, with the form of its commands and an example, and `help` and `quit` as the last.
 pub fn forms() -> &'static [Form]
     ensures { map value_of result.now ≡ all_forms }
 {
@@ -240,7 +245,7 @@ fn find_among<'a>(list: &'a [Form], word: &[u8]) -> Option<&'a Form>
     None
 }
 
-/// The entry of a word in the table. `None` if it isn't there: then it is not `help`, and no command begins with it.
+/// The entry of a word in the table. `None` if it isn't there: then it is neither `help` nor `quit`, and no command begins with it.
 pub fn form_of(word: &[u8]) -> Option<&'static Form>
     ensures { option_map (λ f. value_of f.now) result ≡ find (is_of word.now) all_forms }
 {

@@ -22,7 +22,7 @@ pub fn sequence_law()
     ensures { (n : ℕ) (text : List ℕ) → (sequence_of text ≡ Some n) ↔ ((n < 2 ^ 64) × (text ≡ decimal n)) }
 {}
 
-/// The law: each example of the table, but that of `help`, is a command that begins with its word, and each word that begins a
+/// The law: each example of the table, but those of `help` and `quit`, is a command that begins with its word, and each word that begins a
 /// command stands in the table. It does nothing when it runs.
 pub fn forms_law()
     ensures examples { All IsExample command_forms }
