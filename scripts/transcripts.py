@@ -3,12 +3,13 @@
 
 A transcript is a line `$ COMMAND` in a block of a page, and what the command writes, up to the next such line or the end of the
 block. `route_desk` stands for PROGRAM. Lines that begin with `> ` are what is typed: they are the command's standard input, and the
-lines between them are the answers. A block of the kind `text` and commands of `make` and `git` are left out. The last line is
-'N passed, M failed'."""
+lines between them are the answers. A block of the kind `text` and commands of `make` and `git` are left out. In the place of /tmp stands
+a folder of each page's own. The last line is 'N passed, M failed'."""
 import os
 import re
 import subprocess
 import sys
+import tempfile
 
 
 def blocks(page):
@@ -50,23 +51,30 @@ def transcripts(page):
                 wrote.append(line)
 
 
+def run(program, folder, command, typed):
+    """What a command writes that gets these lines, with this folder in the place of /tmp."""
+    words = re.sub(r"(?<![\w./-])(crates/route_desk/out/)?route_desk(?= )", program, re.sub(r"(?<![\w./-])/tmp\b", folder, command))
+    text = "".join(f"{line}\n" for line in typed).replace("/tmp/", f"{folder}/")
+    ran = subprocess.run(["bash", "-c", words], input=text, stdout=subprocess.PIPE, stderr=subprocess.STDOUT, text=True)
+    return ran.stdout.replace(folder, "/tmp")
+
+
 def main():
     program, pages = os.path.abspath(sys.argv[1]), sys.argv[2:]
     passed = failed = 0
     for name in pages:
         with open(name, encoding="utf-8") as it:
             page = it.read()
-        for command, typed, wrote in transcripts(page):
-            words = re.sub(r"(?<![\w./-])(crates/route_desk/out/)?route_desk(?= )", program, command)
-            text = "".join(f"{line}\n" for line in typed)
-            ran = subprocess.run(["bash", "-c", words], input=text, stdout=subprocess.PIPE, stderr=subprocess.STDOUT, text=True)
-            while wrote and not wrote[-1]:
-                wrote.pop()
-            if ran.stdout.rstrip("\n").split("\n") == wrote:
-                passed += 1
-            else:
-                failed += 1
-                print(f"{name}: $ {command}\n  wrote:\n{ran.stdout}  and not:\n" + "\n".join(wrote))
+        with tempfile.TemporaryDirectory() as folder:
+            for command, typed, wrote in transcripts(page):
+                got = run(program, folder, command, typed)
+                while wrote and not wrote[-1]:
+                    wrote.pop()
+                if got.rstrip("\n").split("\n") == wrote:
+                    passed += 1
+                else:
+                    failed += 1
+                    print(f"{name}: $ {command}\n  wrote:\n{got}  and not:\n" + "\n".join(wrote))
     print(f"{passed} passed, {failed} failed")
     return 1 if failed else 0
 

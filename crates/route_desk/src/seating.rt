@@ -227,6 +227,15 @@ fn run_open(
     }
 }
 
+/// The names of the files that a desk itself reads, or saves to.
+fn own_names<'a>(net: &'a str, text: &'a str, saving: Option<Saving<'a>>) -> [&'a str; 3] {
+    let saved = match saving {
+        Some(saving) => saving.name,
+        None => net,
+    };
+    [net, text, saved]
+}
+
 /// Runs the seats of a text over the network of a file, once their inputs are known. Outputs are cut once the network is loaded.
 fn run_over(
     rt: &HostRuntime,
@@ -245,7 +254,7 @@ fn run_over(
         Ok(loaded) => loaded,
         Err(fault) => return report(rt, Some(fault)),
     };
-    let own = [net, text.name, saving.map_or(net, |saving| saving.name)];
+    let own = own_names(net, text.name, saving);
     match outputs_of(rt, entries, &own) {
         Ok(outputs) => run_open(
             rt, threads, entries, inputs, outputs, loaded, workers, saving, manner,
