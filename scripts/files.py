@@ -272,11 +272,11 @@ def the_word_save_writes_what_a_run_saves(folder):
 
 def the_word_save_keeps_a_window_that_is_killed(folder):
     with subprocess.Popen([PROGRAM, "run", NETWORK], stdin=subprocess.PIPE, stdout=subprocess.PIPE, cwd=folder) as ran:
-        ran.stdin.write((EVENTS + "save kept\nfail 3 0\n").encode())
+        ran.stdin.write((EVENTS + "save kept\nrestore 1 0\n").encode())
         ran.stdin.flush()
-        while ran.stdout.readline() != b"taken 3\n":
-            pass
+        told = [ran.stdout.readline() for _ in range(5)]
         ran.kill()
+    want(told[-2:] == [b"saved kept\n", b"taken 3\n"], f"the answers: {told}")
     want(read(folder, "kept") == saved_by(EVENTS), "the text")
 
 
@@ -284,6 +284,7 @@ def the_word_save_writes_its_own_network_by_that_name_alone(folder):
     with open(NETWORK, encoding="utf-8") as it:
         text = it.read()
     write(folder, "net.toml", text)
+    write(folder, "end")
     write(folder, "steps", "fail 1 0\nsave ./net.toml\nsave link\nsave steps\nsave end\nsave /dev/null\nsave pipe\nsave .\nsave no/where\n")
     os.symlink("net.toml", os.path.join(folder, "link"))
     os.mkfifo(os.path.join(folder, "pipe"))
@@ -300,7 +301,7 @@ def the_word_save_writes_its_own_network_by_that_name_alone(folder):
 
 def the_word_save_leaves_a_full_disk_as_it_was(folder):
     write(folder, "kept")
-    got = run(["run", NETWORK, "--explain"], "save kept\nversion\n", cwd=folder, preexec_fn=lambda: resource.setrlimit(resource.RLIMIT_FSIZE, (20, 20)))
+    got = run(["run", NETWORK, "--explain"], "save kept\nversion\n", cwd=folder, preexec_fn=lambda: resource.setrlimit(resource.RLIMIT_FSIZE, (20, 20)), restore_signals=False)
     want(got[0].startswith("refused 64 Write\n") and read(folder, "kept") == "before\n", f"the run: {got}")
     want(os.listdir(folder) == ["kept"], "nothing else")
 
