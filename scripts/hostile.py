@@ -9,6 +9,7 @@ or to change its name. Each k has a run of its own, until none is reached. What 
 one desk, networks that aren't loaded, command lines, and the worked examples, of which --short leaves out most; for the few long ones k
 grows by a tenth at a time. The last line is 'N cases, M failed': a case is an input and a way of breaking."""
 import os
+import re
 import subprocess
 import sys
 import tempfile
@@ -21,8 +22,8 @@ MEMORY, READ, WRITE, PLACE = (b"route_desk: " + fault + b"\n" for fault in (b"1 
 # what is told of a run of two sessions, or of one of them, that ends for want of memory, and where their answers go
 ENDED = {b"route_desk: " + name + fault for name in (b"", b"feed: ", b"tool: ") for fault in (b"1 OutOfMemory", b"50 NoPlace")}
 OUTPUTS = "feed.out", "tool.out"
-# the file to which the script with every word draws a picture
-PICTURE = "now.dot"
+# the lines that write a file, and its name
+FILED = rb"(?m)^(picture|save) +(\S+)"
 # what `clap` says if the words of the command line can't be read for want of memory
 CLAP = (b"", b"error: out of memory\n", 2)
 # what is said of a word that isn't UTF-8
@@ -40,6 +41,9 @@ class Case:
         self.program = program or Case.program
         # how much of what is read is the network, before which nothing is answered; and where each answered line ends
         self.head, self.answered = head, answered
+        # the files that lines of the script write
+        filed = re.findall(FILED, b"\n".join((text, *self.files.values())))
+        self.drawn, self.saved = ({name.decode("latin-1") for word, name in filed if word == kind} for kind in (b"picture", b"save"))
         self.wanted, self.written, _ = self.run()
 
     def run(self, instead=None, **broken):
@@ -68,13 +72,28 @@ class Case:
 
     def is_saved(self, left):
         """Whether the files are those of a whole run. For want of memory a saved text may be laid out otherwise, if it says the same."""
-        return left == self.written or Case(self.name, ["run", "kept", "--save", "kept"], files=left).written == self.written
+        return left == self.written or self.said(left) == self.said(self.written)
 
-    def without_picture(self, left):
-        """The files but the picture that the script draws, which is whole if it is there: a DOT text, of which no part ends as it does."""
-        if not left.get(PICTURE, b"}\n").endswith(b"}\n"):
-            raise Wrong(self, "a part of a picture is left", self.wanted, left)
-        return {name: text for name, text in left.items() if name != PICTURE}
+    def said(self, left):
+        """The files, of which each network is saved anew."""
+        networks = {"kept", *self.saved}
+        return {name: self.resaved(text) if name in networks else text for name, text in left.items()}
+
+    def without_filed(self, left):
+        """The files but those that lines write. Each of these is whole if it is there: a DOT text, of which no part ends as it does, or a
+        network text that loads."""
+        for name, text in left.items():
+            if name in self.drawn and not text.endswith(b"}\n"):
+                raise Wrong(self, "a part of a picture is left", self.wanted, left)
+            if name in self.saved and Case(self.name, ["check", "kept"], files={"kept": text}).wanted[2] != 0:
+                raise Wrong(self, "a part of a network is left", self.wanted, left)
+        return {name: text for name, text in left.items() if name not in self.drawn | self.saved}
+
+    def is_alike(self, answers):
+        """Whether the answers are those of a whole run, but that some files may have been refused."""
+        wanted, got = self.wanted[0].splitlines(), answers.splitlines()
+        return len(wanted) == len(got) and all(
+            told == line or (told == b"refused 64 Write" and line.startswith((b"picture ", b"saved "))) for line, told in zip(wanted, got))
 
     def each(self, way, start=1, **more):
         """Runs with each k from the start until none is reached, wants the files to be right, and gives k and how the run ended."""
@@ -86,7 +105,7 @@ class Case:
                     raise Wrong(self, f"{way} {k} isn't reached", got, left)
                 return
             # a run that did all has saved its network; any other leaves the files as they were
-            if not (self.is_saved(left) if got == self.wanted else self.without_picture(left) == self.files):
+            if not (self.is_saved(left) if got == self.wanted else self.without_filed(left) == self.files):
                 raise Wrong(self, f"{way} {k} {more}", got, left)
             yield k, got
             k += 1 + (k // 10 if self.large else 0)
@@ -143,27 +162,25 @@ def writes(case):
 
 
 def saves(case):
-    """All is answered, the run ends with 64, and the file stays as it was. A picture that can't be written is refused."""
-    without = case.wanted[0].replace(b"picture now.dot\n", b"refused 64 Write\n")
+    """All is answered, the run ends with 64, and the file stays as it was. A file of a line that can't be written is refused."""
     for zero in 0, 1:
         for k, got in case.each("write", 0, zero=zero, files=1):
-            right = got[0] in (case.wanted[0], without) and got[1:] == (WRITE, 1)
+            right = case.is_alike(got[0]) and got[1:] == (WRITE, 1)
             case.want(right, f"no more than {k} bytes saved, with {zero}", got)
 
 
 def names(case):
     """A file that the system doesn't keep, or doesn't give its name, is told, and what was there stays. That it doesn't keep the folder
-    is no fault: the file is in its place. A picture is refused."""
-    without = case.wanted[0].replace(b"picture now.dot\n", b"refused 64 Write\n")
+    is no fault: the file is in its place. A file of a line is refused."""
     for way in "sync", "rename":
         for k in range(1, 10):
             got, left, reached = case.run(**{way: k})
             if got == case.wanted:
                 right = left == case.written
-            elif got == (without, b"", 0):
-                right = left == case.without_picture(case.written)
+            elif case.is_alike(got[0]) and got[1:] == (b"", 0):
+                right = case.without_filed(left) == case.without_filed(case.written)
             else:
-                right = reached and got == (case.wanted[0], WRITE, 1) and case.without_picture(left) == case.files
+                right = reached and got == (case.wanted[0], WRITE, 1) and case.without_filed(left) == case.files
             if not right:
                 raise Wrong(case, f"{way} {k}", got, left)
             if not reached:
