@@ -19,6 +19,7 @@ use Rattle.answers.specs.Why.{why_text}
 use Rattle.answers.specs.declared.answer.Answer.{Answer}
 use Rattle.answers.specs.declared.answer.Answer.TheVariants as answer
 use Rattle.answers.specs.declared.answer.Moved.{Moved}
+use Rattle.answers.specs.declared.taken.AllTaken.{AllTaken}
 use Rattle.answers.specs.declared.answer.NetAnswer.{NetAnswer}
 use Rattle.answers.specs.declared.answer.NetAnswer.TheVariants as net
 use Rattle.answers.specs.declared.answer.Publication.{Publication}
@@ -63,6 +64,10 @@ reply_text (reply.Watch is_on) = if is_on then codes "watch on" else codes "watc
 reply_text (reply.Last seq) = codes "last " ++ decimal seq
 reply_text reply.Quit = codes "quit"
 
+-- `taken FIRST to LAST`: all events of a whole set or point were accepted, under these numbers and those between
+abbrev pub all_taken_text : AllTaken → List ℕ
+all_taken_text taken = codes "taken " ++ (decimal taken.first ++ (codes " to " ++ decimal taken.last))
+
 -- `changes P since N lost L regained R moved M`, and each of them
 abbrev pub changes_text : ℕ → Moved → List ℕ
 changes_text number moved = codes "changes " ++ (decimal number ++ moved_text moved)
@@ -103,6 +108,7 @@ net_text (net.Saved file) = codes "saved " ++ file
 -- an answer, without the line feed that ends it
 abbrev pub answer_text : Answer → List ℕ
 answer_text (answer.Reply r) = reply_text r
+answer_text (answer.AllTaken taken) = all_taken_text taken
 answer_text (answer.Publication p) = publication_text p
 answer_text (answer.Row r) = row_text r
 answer_text (answer.Net n) = net_text n

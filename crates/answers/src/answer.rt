@@ -3,6 +3,7 @@
 use crate::net_box::NetBox;
 use crate::remedies::Remedy;
 use crate::shown::ShownBox;
+use crate::taken::AllTaken;
 use crate::text::Text;
 use crate::ways::Ways;
 use point_codes::PointCode;
@@ -123,6 +124,8 @@ pub enum NetAnswer {
 pub enum Answer {
     /// What the desk replies.
     Reply(Reply),
+    /// All events of a whole set or point were accepted.
+    AllTaken(AllTaken),
     /// What was published, and what that moved.
     Publication(Publication),
     /// What is told of the row of a point.

@@ -29,7 +29,8 @@
 //!     link that isn't available; `show set`, `show point` and `show plan` with an entry of a network text, that of a point with its mate
 //!     and its sets; `statuses allowed N restricted N prohibited N` and `Y:STATUS` for each row of a plan. They are refused 17 NoSet, 10
 //!     NoPoint and 26 NoPlan where there is none.
-//! 13. Replies of the desk: a post is answered `taken N`, or `again N` if it was accepted before; an opening `opened T
+//! 13. Replies of the desk: a post is answered `taken N`, or `again N` if it was accepted before; the change of a whole set or point
+//!    `taken FIRST to LAST`; an opening `opened T
 //!    waiting W`; the taking of a job `job V CODE`; a result `given`; an abandonment `abandoned`; a publication `published
 //!    N`; `synced N` and `version P accepted N` tell what is published and accepted; `last SEQ` a collector's last
 //!    sequence number.
@@ -43,7 +44,7 @@
 //!
 //! Stands on `work_units`, `path_trace`, `what_if`, `tokens`, `script_words`, `itoa`. A change here also changes specs/ (Answers, Audits,
 //! Changes, DeskRefusals, Ends, Filed, Help, Links, Mend, Messages, Refusals, Remedies, Replies, Reroutes, Rows, Shown, Status, Traces, Ways,
-//! WhatIfs, Why), proofs/ and must-fail/.
+//! WhatIfs, Why), proofs/, must-fail/ and wrong-bodies/.
 #![tactic(auto)]
 
 pub mod answer;
@@ -68,6 +69,7 @@ mod showing;
 pub mod shown;
 mod shown_text;
 mod status;
+pub mod taken;
 pub mod telling;
 pub mod text;
 pub mod traces;
@@ -93,6 +95,7 @@ pub use shown::{
     DownLinks, NetSize, PointStatus, SetNumbers, Shown, ShownBox, StatusCounts, Statuses,
 };
 pub use status::far_word;
+pub use taken::{AllTaken, TakenEvents};
 pub use telling::{Asked, Telling};
 pub use text::Text;
 pub use traces::answer_trace;

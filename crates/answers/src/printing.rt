@@ -16,6 +16,7 @@ use crate::replies::put_reply;
 use crate::reroutes::put_reroutes;
 use crate::shown_text::put_shown;
 use crate::status::put_status;
+use crate::taken::put_all_taken;
 use crate::text::Text;
 use crate::traces::put_trace;
 use crate::what_ifs::{put_refused_values, put_report};
@@ -105,6 +106,7 @@ pub fn put_answer(alloc: Global, text: &mut String, answer: &Answer) -> Result<(
 {
     match answer {
         Answer::Reply(reply) => put_reply(text, reply),
+        Answer::AllTaken(taken) => put_all_taken(text, taken),
         Answer::Publication(publication) => put_publication(text, publication),
         Answer::Row(row) => put_row(alloc, text, row),
         Answer::Net(net) => put_net(alloc, text, net),

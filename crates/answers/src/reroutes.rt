@@ -4,19 +4,19 @@ ghost use Rattle.std.specs.Prelude.{◌≡◌, ◌++◌, IfOk, OnOk, string_byte
 ghost use Rattle.std.specs.List.{flat_map};
 ghost use Rattle.std.specs.Option.{option_to_list};
 ghost use Rattle.tokens.specs.Rows.{vias_text};
-ghost use Rattle.what_if.specs.Reroutes.{rerouted};
+ghost use Rattle.what_if.specs.Listed.{reroutes_listed as the_reroutes};
 ghost use Rattle.answers.specs.Reroutes.{choice_status, choice_text, choice_word, keeps_status as the_status_stays, moved_text, reroute_text, reroutes_answer, reroutes_text, row_of_text, side_text, sides_text, since_text};
 
 use crate::answer::{Answer, Moved, NetAnswer, Reason};
 use crate::codes::{put_number, put_numbered, write_code};
 use crate::status::far_word;
 use crate::what_ifs::status_word;
-use net_data::Event;
+use net_building::Listed;
 use net_versions::Version;
 use point_codes::PointCode;
 use route_choice::{Choice, Far};
 use std::alloc::{AllocError, Global};
-use what_if::{Reroute, Reroutes, reroutes_by};
+use what_if::{Reroute, Reroutes, reroutes_listed};
 
 /// The status of a choice, if there is one.
 fn status_of(choice: Option<Choice>) -> Option<Far>
@@ -141,23 +141,17 @@ pub(crate) fn put_moved(text: &mut String, moved: &Moved) -> Result<(), AllocErr
     put_reroutes(text, &moved.reroutes)
 }
 
-/// What a list of events would move, made one after the other on the network of a version. The first event that is refused is told,
-/// with its place (own). It fails if memory is refused.
+/// What a list of events would move, made one after the other on the network of a version. The change of a whole set or point stands
+/// for its events. The first entry that is refused is told, with its place (own). It fails if memory is refused.
 pub fn answer_reroutes(
     alloc: Global,
     version: &Version,
-    events: &[Event],
+    entries: &[Listed],
 ) -> Result<Answer, AllocError>
-    ensures { IfOk result (λ answer. answer ≡ reroutes_answer (rerouted version.now.network events.now)) }
+    ensures { IfOk result (λ answer. answer ≡ reroutes_answer (the_reroutes version.now.network entries.now)) }
 {
-    match reroutes_by(alloc, version, events) {
+    match reroutes_listed(alloc, version, entries)? {
         Ok(reroutes) => Ok(Answer::Net(NetAnswer::Reroutes(reroutes))),
-        Err(refused) => {
-            // No other refusal than out of memory has place 0.
-            if refused.place == 0 {
-                return Err(AllocError);
-            }
-            Ok(Answer::Refused(Reason::Event(refused)))
-        }
+        Err(refused) => Ok(Answer::Refused(Reason::Event(refused))),
     }
 }

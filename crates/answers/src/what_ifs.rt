@@ -2,7 +2,7 @@
 
 ghost use Rattle.std.specs.Prelude.{◌≡◌, ◌++◌, IfOk, OnOk, string_bytes};
 ghost use Rattle.std.specs.List.{flat_map};
-ghost use Rattle.what_if.specs.Reports.{report_of};
+ghost use Rattle.what_if.specs.Listed.{report_listed as the_report};
 ghost use Rattle.answers.specs.Answers.{reason_values};
 ghost use Rattle.answers.specs.WhatIfs.{change_text, report_text, what_if_answer};
 ghost use Rattle.answers.specs.WhatIfs.{status_word as status_text};
@@ -11,11 +11,11 @@ use crate::answer::{Answer, NetAnswer, Reason};
 use crate::codes::put_numbered;
 use crate::refusals::put_values;
 use crate::status::far_word;
-use net_data::Event;
+use net_building::Listed;
 use net_versions::Version;
 use route_choice::Far;
 use std::alloc::{AllocError, Global};
-use what_if::{Change, Refused, Report, what_if};
+use what_if::{Change, Refused, Report, report_listed};
 
 /// A status, or that there is no row.
 pub(crate) fn status_word(status: Option<Far>) -> &'static str
@@ -76,23 +76,17 @@ pub(crate) fn put_refused_values(
     put_numbered(text, " at ", refused.place)
 }
 
-/// What a list of events would change, made one after the other on the network of a version. The first event that is refused is
-/// told, with its place (own, after Q.704 clause 10). It fails if memory is refused.
+/// What a list of events would change, made one after the other on the network of a version. The change of a whole set or point stands
+/// for its events. The first entry that is refused is told, with its place (own, after Q.704 clause 10). It fails if memory is refused.
 pub fn answer_what_if(
     alloc: Global,
     version: &Version,
-    events: &[Event],
+    entries: &[Listed],
 ) -> Result<Answer, AllocError>
-    ensures { IfOk result (λ answer. answer ≡ what_if_answer (report_of version.now.network events.now)) }
+    ensures { IfOk result (λ answer. answer ≡ what_if_answer (the_report version.now.network entries.now)) }
 {
-    match what_if(alloc, version, events) {
+    match report_listed(alloc, version, entries)? {
         Ok(report) => Ok(Answer::Net(NetAnswer::WhatIf(report))),
-        Err(refused) => {
-            // No other refusal than out of memory has place 0.
-            if refused.place == 0 {
-                return Err(AllocError);
-            }
-            Ok(Answer::Refused(Reason::Event(refused)))
-        }
+        Err(refused) => Ok(Answer::Refused(Reason::Event(refused))),
     }
 }

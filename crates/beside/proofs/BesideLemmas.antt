@@ -67,20 +67,17 @@ some_there seats (Err e) Done old found new h = tt
 -- a collector's next post
 pub posted_next : (seats : ℕ) {F : Type 0} (r : Result Answer F) (collector : ℕ) (event : Event) (old : BesideValue) (found : DeskAndChain) (new : BesideValue) (last : ℕ)
     → last ≡ (last_of found.desk collector).seq → last ≢ 2 ^ 64 - 1
-    → IfOk r (λ a. DoesAt seats (Calls (λ s. Posts s collector (last + 1) event) posted_answer) old found a new) → IfOk r (λ a. DoesThere seats (PostsNext collector event) old a new)
+    → IfOk r (λ a. DoesAt seats (Calls (λ s. Posts s collector (last + 1) event) posted_answer) old found a new) → IfOk r (λ a. DoesAt seats (PostsNext collector event) old found a new)
 posted_next seats (Ok a) collector event old found new last e less h =
     let off : ((last_of found.desk collector).seq == 2 ^ 64 - 1) ≡ false = ne_eqb (last_of found.desk collector).seq (2 ^ 64 - 1) (λ same. less (e ∙ same)) in
-    let calls = subst (λ n. Calls (λ s. Posts s collector (n + 1) event) posted_answer (at_console found.desk) a (at_console new.left.desk)) e h.done in (
-      found,
-      record {
-        finds = h.finds;
-        leaves = h.leaves;
-        shown = h.shown;
-        told = h.told;
-        kept = h.kept;
-        done = subst (λ b. PostsAfter b collector event (at_console found.desk) a (at_console new.left.desk)) (sym off) calls;
-      },
-    )
+    let calls = subst (λ n. Calls (λ s. Posts s collector (n + 1) event) posted_answer (at_console found.desk) a (at_console new.left.desk)) e h.done in record {
+      finds = h.finds;
+      leaves = h.leaves;
+      shown = h.shown;
+      told = h.told;
+      kept = h.kept;
+      done = subst (λ b. PostsAfter b collector event (at_console found.desk) a (at_console new.left.desk)) (sym off) calls;
+    }
 posted_next seats (Err e) collector event old found new last is less h = tt
 
 -- chains that begin with one another
@@ -194,19 +191,16 @@ each_ok (Err e) P Q f h = tt
 -- a collector has no next post
 pub refused_next : (seats : ℕ) {F : Type 0} (r : Result Answer F) (collector : ℕ) (event : Event) (old : BesideValue) (found : DeskAndChain) (new : BesideValue) (last : ℕ)
     → last ≡ (last_of found.desk collector).seq → last ≡ 2 ^ 64 - 1
-    → IfOk r (λ a. DoesAt seats (Tells (refused EndOfNumbers)) old found a new) → IfOk r (λ a. DoesThere seats (PostsNext collector event) old a new)
+    → IfOk r (λ a. DoesAt seats (Tells (refused EndOfNumbers)) old found a new) → IfOk r (λ a. DoesAt seats (PostsNext collector event) old found a new)
 refused_next seats (Ok a) collector event old found new last e full h =
-    let on : ((last_of found.desk collector).seq == 2 ^ 64 - 1) ≡ true = eqb_same (last_of found.desk collector).seq (2 ^ 64 - 1) (sym e ∙ full) in (
-      found,
-      record {
-        finds = h.finds;
-        leaves = h.leaves;
-        shown = h.shown;
-        told = h.told;
-        kept = h.kept;
-        done = subst (λ b. PostsAfter b collector event (at_console found.desk) a (at_console new.left.desk)) (sym on) h.done;
-      },
-    )
+    let on : ((last_of found.desk collector).seq == 2 ^ 64 - 1) ≡ true = eqb_same (last_of found.desk collector).seq (2 ^ 64 - 1) (sym e ∙ full) in record {
+      finds = h.finds;
+      leaves = h.leaves;
+      shown = h.shown;
+      told = h.told;
+      kept = h.kept;
+      done = subst (λ b. PostsAfter b collector event (at_console found.desk) a (at_console new.left.desk)) (sym on) h.done;
+    }
   where
     eqb_same : (a b : ℕ) → a ≡ b → (a == b) ≡ true
     eqb_same a b same = grind (arith, nat_tests)

@@ -1,5 +1,6 @@
 pub mod BesideLemmas
 pub mod RightLemmas
+pub mod WholeLemmas
 pub mod AlikeLemmas
 pub mod SyncedLemmas
 pub mod ToldLemmas

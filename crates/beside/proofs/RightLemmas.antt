@@ -1,9 +1,12 @@
 -- At each line of a script beside workers all versions are the ones of their numbers.
-use Rattle.std.proofs.Common.{◌≡◌, ℕ, ◌+◌, Bool, true, false, List, [], ◌∷◌, ◌++◌, Option, Some, None, map, refl, sym, ap, ◌∙◌, subst, append-nil, arith}
-use Rattle.std.specs.Option.{option_map_or}
+use Rattle.std.proofs.Common.{◌≡◌, ℕ, ◌+◌, Bool, true, false, List, [], ◌∷◌, ◌++◌, Option, Some, None, map, refl, sym, ap, ◌∙◌, subst, append-nil}
+use Rattle.std.specs.Option.{option_and_then}
 use mathlib.Core.List.{IsPrefix}
 use Rattle.net_data.specs.declared.events.Event.{Event}
 use Rattle.net_data.specs.Network.{Network}
+use Rattle.net_building.specs.declared.wholes.Listed.TheVariants as listed
+use Rattle.net_building.specs.declared.wholes.Whole.{Whole}
+use Rattle.work_units.specs.declared.replies.Refusal.{Refusal}
 use Rattle.net_versions.specs.Versions.{VersionValue}
 use Rattle.tokens.specs.Words.{words_of}
 use Rattle.answers.specs.Help.{other_answer}
@@ -13,21 +16,22 @@ use Rattle.script_words.specs.declared.commands.Command.TheVariants as command
 use Rattle.desk_core.specs.Desk.{DeskValue, new_desk}
 use Rattle.desk_core.specs.Steps.{Posts, last_of}
 use Rattle.desk_core.specs.Runs.{IsRightVersion, IsRunOf, IsSteadyDesk, first_numbers, numbers_after}
-use Rattle.desk_core.proofs.RunLemmas.{right_after, run_none}
+use Rattle.desk_core.proofs.RunLemmas.{right_after, run_none, run_then}
 use Rattle.answers.specs.Replies.{posted_answer}
 use Rattle.answers.specs.declared.answer.Answer.{Answer}
 use Rattle.desk_console.specs.Commands.{Obeys}
 use Rattle.desk_console.specs.Console.{ConsoleValue}
-use Rattle.desk_console.specs.Does.{Calls, PostsAfter}
+use Rattle.desk_console.specs.Does.{Calls, PostsAfter, PostsNext, taken_next}
 use Rattle.desk_console.specs.Right.{IsRightDesk}
-use Rattle.desk_console.specs.Taken.{event_of, taken_at, taken_by}
-use Rattle.desk_console.proofs.RunLemmas.{line_runs, nothing_taken}
+use Rattle.desk_console.specs.Taken.{events_in, posts_by, posts_of, taken_at, taken_by}
+use Rattle.desk_console.proofs.RunLemmas.{line_runs, nothing_taken, posts_one, unmoved}
 use Rattle.sessions.specs.Lines.{is_silent, is_too_long, trimmed}
 use Rattle.sessions.specs.Replies.{Answered, Answers, AreTexts, IsReply, Replies}
 use Rattle.seats.specs.Minutes.{SeatValue}
 use Rattle.versions.specs.Working.{Comes, IsWorkedOn}
+use Rattle.versions.specs.Chains.{ChainPrefixValue}
 use Rattle.versions.specs.declared.state.DeskAndChain.{DeskAndChain}
-use Rattle.beside.specs.Beside.{BesideValue, CommandsBeside, DoesAt, Finds, LeavesBeside, Looks, ObeysBeside, StartsBeside, VisitsAt, at_console}
+use Rattle.beside.specs.Beside.{BesideValue, CommandsBeside, DoesAt, Finds, LeavesBeside, Looks, ObeysBeside, PostsAllBeside, PostsEachBeside, StartsBeside, VisitsAt, at_console}
 use Rattle.histories.specs.Right.{AreRight}
 use Rattle.histories.proofs.CountLemmas.{post_publishes_none, prefix_right}
 use Rattle.histories.proofs.KeepLemmas.{Keeps, ends_same, keeps_opened, keeps_stay, keeps_worked, new_is_steady}
@@ -74,10 +78,39 @@ posts_publish_none : (s t : DeskValue) (collector : ℕ) (event : Event) (a : An
 posts_publish_none s t collector event a true is = ap (λ (c : ConsoleValue). c.desk.published) is.1
 posts_publish_none s t collector event a false is = calls_publish_none s t collector ((last_of s collector).seq + 1) event a is
 
+-- ---- whole sets and points
+
+posts_publish_next : (s t : DeskValue) (event : Event) (a : Answer) → PostsNext 0 event (at_console s) a (at_console t) → t.published ≡ s.published
+posts_publish_next s t event a is = posts_publish_none s t 0 event a _ is
+
+-- an event that is posted next, and answered `taken`
+one_acts : (event : Event) (old : BesideValue) (found : DeskAndChain) (new : BesideValue) → DoesAt 1 (PostsNext 0 event) old found (taken_next found.desk) new → Acts old (event ∷ []) found new
+one_acts event old found new does = record {
+  finds = does.finds;
+  shown = does.shown;
+  told = does.told;
+  published = posts_publish_next found.desk new.left.desk event (taken_next found.desk) does.done;
+  runs = posts_one 0 event (at_console found.desk) (at_console new.left.desk) _ does.done;
+}
+
+-- events that are posted one after the other
+pub each_acts : (event : Event) (events : List Event) (old : BesideValue) (found : DeskAndChain) (new : BesideValue) → PostsEachBeside 1 0 (event ∷ events) old found new → Acts old (event ∷ events) found new
+each_acts event [] old found new is = subst (Acts old (event ∷ []) found) (sym is.2) (one_acts event old found is.0 is.1)
+each_acts event (next ∷ events) old found new is =
+    let one = one_acts event old found is.0 is.1 in
+    let rest = each_acts next events is.0 is.0.left new is.2 in
+    record {
+      finds = one.finds;
+      shown = rest.shown ∙ one.shown;
+      told = rest.told ∙ ap (λ (c : ChainPrefixValue). c.chain) one.shown;
+      published = rest.published ∙ one.published;
+      runs = run_then found.desk is.0.left.desk new.left.desk (event ∷ []) (next ∷ events) one.runs rest.runs;
+    }
+
 module _ (line : List ℕ) (old : BesideValue) (a : Answer) (new : BesideValue) where
   -- a command that posts nothing is taken for no event
-  none_taken : (o : Option Command) → command_of (words_of line) ≡ o → option_map_or event_of o [] ≡ [] → taken_by line a ≡ []
-  none_taken o is none = nothing_taken line a (ap (λ (c : Option Command). option_map_or event_of c []) is ∙ none)
+  none_taken : (o : Option Command) → command_of (words_of line) ≡ o → option_and_then posts_of o ≡ None → taken_by line a ≡ []
+  none_taken o is none = nothing_taken line a (ap (option_and_then posts_of) is ∙ none)
 
   -- a command that is done under the lock
   done_there : (o : Option Command) → command_of (words_of line) ≡ o → (found : DeskAndChain) → DoesAt 1 (Obeys (other_answer (words_of line)) o) old found a new → new.left.desk.published ≡ found.desk.published → Moves old (taken_by line a) new
@@ -89,9 +122,23 @@ module _ (line : List ℕ) (old : BesideValue) (a : Answer) (new : BesideValue) 
     runs = line_runs line (at_console found.desk) a (at_console new.left.desk) (subst (λ (c : Option Command). Obeys (other_answer (words_of line)) c (at_console found.desk) a (at_console new.left.desk)) (sym is) does.done);
   })
 
+  -- the change of a whole set or point
+  whole_done : (o : Option Refusal) (w : Whole) (events : List Event) (found : DeskAndChain) → posts_by line ≡ Some (listed.Whole w) → PostsAllBeside o 1 0 events old found a new → Moves old (taken_by line a) new
+  whole_done (Some refusal) w events found posts does = acts found (record {
+    finds = does.finds;
+    shown = does.shown;
+    told = does.told;
+    published = ap (λ (c : ConsoleValue). c.desk.published) does.done.1;
+    runs = subst (λ (es : List Event). IsRunOf found.desk es new.left.desk) (sym (ap (taken_by line) does.done.0)) (unmoved found.desk new.left.desk (ap (λ (c : ConsoleValue). c.desk) does.done.1));
+  })
+  whole_done None w [] found posts is = stays_same old (taken_by line a) new (ap (taken_by line) is.0 ∙ ap (events_in []) posts) is.1
+  whole_done None w (event ∷ events) found posts is =
+      acts found (subst (λ (es : List Event). Acts old es found new) (sym (ap (taken_by line) is.0 ∙ ap (events_in (event ∷ events)) posts)) (each_acts event events old found new is.1))
+
   obeyed : (o : Option Command) → command_of (words_of line) ≡ o → ObeysBeside 1 (other_answer (words_of line)) o old a new → Moves old (taken_by line a) new
   obeyed None e is = stays_same old (taken_by line a) new (none_taken None e refl) is.1
   obeyed (Some (command.Event event)) e is = done_there (Some (command.Event event)) e is.0 is.1 (posts_publish_none is.0.desk new.left.desk 0 event a _ is.1.done)
+  obeyed (Some (command.Whole w)) e is = whole_done _ w _ is.0 (ap (option_and_then posts_of) e) is.1
   obeyed (Some (command.Post collector seq event)) e is = done_there (Some (command.Post collector seq event)) e is.0 is.1 (calls_publish_none is.0.desk new.left.desk collector seq event a is.1.done)
   obeyed (Some command.Open) e is = stays_same old (taken_by line a) new (none_taken (Some command.Open) e refl) is.1
   obeyed (Some (command.Take k)) e is = stays_same old (taken_by line a) new (none_taken (Some (command.Take k)) e refl) is.1

@@ -1,5 +1,5 @@
 -- Scripts with a `sync` between their events and what they ask are answered beside workers as in line.
-use Rattle.std.proofs.Common.{◌≡◌, ℕ, ◌+◌, ◌-◌, ◌^◌, ◌<◌, ◌≤◌, ◌==◌, ◌&&◌, not, Bool, true, false, List, [], ◌∷◌, ◌++◌, Option, Some, None, refl, sym, ap, ◌∙◌, subst, length, take, arith, length-append, append-nil}
+use Rattle.std.proofs.Common.{◌≡◌, ℕ, ◌+◌, ◌-◌, ◌^◌, ◌<◌, ◌≤◌, ◌==◌, ◌&&◌, ◌||◌, not, nat_lt, Bool, true, false, List, [], ◌∷◌, ◌++◌, Option, Some, None, option_map, refl, sym, ap, ◌∙◌, subst, length, take, arith, length-append, append-nil}
 use Rattle.std.specs.Prelude.{if◌then◌else◌}
 use Rattle.std.proofs.lemmas.List.{take_all}
 use Rattle.net_data.specs.declared.events.Event.{Event}
@@ -13,8 +13,7 @@ use Rattle.answers.specs.Shown.{shown_answer}
 use Rattle.script_words.specs.Commands.{command_of}
 use Rattle.script_words.specs.declared.commands.Command.{Command}
 use Rattle.script_words.specs.declared.commands.Command.TheVariants as command
-use Rattle.what_if.specs.Reports.{report_of}
-use Rattle.what_if.specs.Reroutes.{rerouted}
+use Rattle.what_if.specs.Listed.{report_listed, reroutes_listed}
 use Rattle.desk_core.specs.declared.posts.Last.{Last}
 use Rattle.desk_core.specs.Desk.{DeskValue, accepted, net_now, new_desk}
 use Rattle.desk_core.specs.Steps.{Posts, last_of}
@@ -36,7 +35,14 @@ use Rattle.answers.specs.declared.answer.Reply.TheVariants as reply
 use Rattle.desk_console.specs.Pictures.{picture_told}
 use Rattle.desk_console.specs.Commands.{Commands, Obeys}
 use Rattle.desk_console.specs.Console.{ConsoleValue, opening}
-use Rattle.desk_console.specs.Does.{Calls, Does, PostsAfter, Syncs, Watches, save_told}
+use Rattle.std.specs.Option.{option_or}
+use Rattle.std.proofs.lemmas.Bool.{ltb-false}
+use Rattle.desk_console.specs.Does.{Calls, Does, PostsAfter, PostsAll, PostsEach, PostsNext, PostsWhole, Syncs, Watches, events_refusal, save_told, taken_next, whole_against}
+use Rattle.net_building.specs.Wholes.{whole_events, whole_refusal}
+use Rattle.net_building.specs.declared.wholes.Whole.{Whole}
+use Rattle.net_data.specs.declared.events.Refusal.TheVariants.{NoSet}
+use Rattle.work_units.specs.declared.replies.Refusal.{Refusal}
+use Rattle.work_units.specs.declared.replies.Refusal.TheVariants.{BacklogFull, Edit, EndOfNumbers}
 use Rattle.desk_console.specs.Watch.{WatchValue, changes_told, kept_at, newest, notice, told_since, watched}
 use Rattle.desk_console.specs.Syncing.{HasKept, synced}
 use Rattle.sessions.specs.Lines.{is_silent, is_too_long, trimmed}
@@ -45,14 +51,14 @@ use Rattle.versions.specs.Chains.{ChainPrefixValue, EndsWith}
 use Rattle.versions.specs.Worked.{LosesNothing}
 use Rattle.versions.specs.declared.state.DeskAndChain.{DeskAndChain}
 use Rattle.versions.proofs.WorkedLemmas.{worked_keeps}
-use Rattle.beside.specs.Beside.{BesideValue, CommandsBeside, DoesAt, Finds, KeepsSynced, LeavesBeside, Looks, ObeysBeside, StartsBeside, SyncsThere, VisitsAt, WatchesBeside, at_console}
+use Rattle.beside.specs.Beside.{BesideValue, CommandsBeside, DoesAt, Finds, KeepsSynced, LeavesBeside, Looks, ObeysBeside, StartsBeside, SyncsThere, VisitsAt, WatchesBeside, PostsAllBeside, PostsEachBeside, PostsWholeBeside, at_console}
 use Rattle.histories.specs.Right.{AreRight, IsRightAt}
 use Rattle.beside.specs.Synced.{IsSynced, MayCome, command_in, events_after, said_by}
 use Rattle.desk_console.specs.Taken.{taken_at}
 use Rattle.histories.proofs.CountLemmas.{Counts, last_right, post_publishes_none, run_counts}
 use Rattle.histories.proofs.KeepLemmas.{Keeps, keeps_worked, new_is_steady}
 use Rattle.beside.proofs.BesideLemmas.{visited}
-use Rattle.beside.proofs.RightLemmas.{Later, finds_later, keeps_acted, keeps_first, keeps_moved, line_moves, seen_right, visit_acts}
+use Rattle.beside.proofs.RightLemmas.{Later, each_acts, finds_later, keeps_acted, keeps_first, keeps_moved, line_moves, seen_right, visit_acts}
 use Rattle.beside.proofs.AlikeLemmas.{Alike, IsSettled, last_same, more_alike, no_length, post_aims, posts_same, rises, same_alike, synced_settled}
 
 -- ---- beside workers and in line
@@ -152,6 +158,111 @@ there_same start es n Done old found a new end is kept alike aim shown =
       near = omega arith;
       shown = shown;
     }
+
+-- the same, where who came knows what is published there
+stands_same : (start : DeskValue) (es : List Event) (n : ℕ) (new : BesideValue) (end : ConsoleValue) → new.seen ≡ new.left.shown.chain → Keeps start es new.left → Alike n new.left.desk end.desk → end.desk.target ≡ None
+    → IsShown new end → Same n new end
+stands_same start es n new end seen kept alike aim shown =
+    let few = alike.few in
+    record {
+      count = alike.count;
+      net = alike.net;
+      lasts = alike.lasts;
+      less = alike.less;
+      aim = aim;
+      last = new.left.desk.published;
+      ends = subst (λ (l : List VersionValue). EndsWith l new.left.desk.published) (sym seen) kept.ends;
+      near = omega arith;
+      shown = shown;
+    }
+
+-- ---- whole sets and points
+
+-- an event that is posted next at two such desks, and answered `taken` at both
+next_alike : (n : ℕ) → n < 65536 → (event : Event) (p p' q q' : ConsoleValue) → Alike n p.desk q.desk → PostsNext 0 event p (taken_next p.desk) p' → PostsNext 0 event q (taken_next q.desk) q' → Alike (n + 1) p'.desk q'.desk
+next_alike n small event p p' q q' alike = go ((last_of p.desk 0).seq == 2 ^ 64 - 1) ((last_of q.desk 0).seq == 2 ^ 64 - 1)
+  where
+    go : (b c : Bool) → PostsAfter b 0 event p (taken_next p.desk) p' → PostsAfter c 0 event q (taken_next q.desk) q' → Alike (n + 1) p'.desk q'.desk
+    go true c is at = absurd (let no = is.0 in cc)
+    go false true is at = absurd (let no = at.0 in cc)
+    go false false is at =
+        (posts_same n p.desk q.desk alike small 0 ((last_of p.desk 0).seq + 1) event is.0 at.0 p'.desk q'.desk is.2 at.2 is.1
+        (subst (λ (l : Last). Posts q.desk 0 (l.seq + 1) event at.0 q'.desk) (sym (last_same n p.desk q.desk 0 alike)) at.1)).1
+
+each_alike : (n : ℕ) (event : Event) (events : List Event) → n + length (event ∷ events) ≤ 65536 → (b : BesideValue) (found : DeskAndChain) (new : BesideValue) (c end : ConsoleValue) → Alike n found.desk c.desk
+    → PostsEachBeside 1 0 (event ∷ events) b found new → PostsEach 0 (event ∷ events) c end → Alike (n + length (event ∷ events)) new.left.desk end.desk
+each_alike n event [] room b found new c end alike is at =
+    let one : Alike (n + 1) is.0.left.desk at.0.desk = next_alike n (omega arith) event (at_console found.desk) (at_console is.0.left.desk) c at.0 alike is.1.done at.1 in
+    same_alike (n + 1) is.0.left.desk at.0.desk new.left.desk end.desk one (ap (λ (x : BesideValue). x.left.desk) is.2) (ap (λ (d : ConsoleValue). d.desk) at.2)
+each_alike n event (next ∷ events) room b found new c end alike is at =
+    let one : Alike (n + 1) is.0.left.desk at.0.desk = next_alike n (omega arith) event (at_console found.desk) (at_console is.0.left.desk) c at.0 alike is.1.done at.1 in
+    let count : n + 1 + length (next ∷ events) ≡ n + length (event ∷ next ∷ events) = omega arith in
+    subst (λ (k : ℕ). Alike k new.left.desk end.desk) count (each_alike (n + 1) next events (omega arith) is.0 is.0.left new at.0 end one is.2 at.2)
+
+-- what is kept by posts, in line
+each_still : (events : List Event) (c end : ConsoleValue) → PostsEach 0 events c end → (end.desk.published ≡ c.desk.published) × (end.watch ≡ c.watch) × (end.desk.target ≡ c.desk.target)
+each_still [] c end is = (ap (λ (d : ConsoleValue). d.desk.published) is, ap (λ (d : ConsoleValue). d.watch) is, ap (λ (d : ConsoleValue). d.desk.target) is)
+each_still (event ∷ events) c end is =
+    let rest = each_still events is.0 end is.2 in
+    let one = go ((last_of c.desk 0).seq == 2 ^ 64 - 1) is.1 in (rest.0 ∙ one.0, rest.1 ∙ one.1, rest.2 ∙ one.2)
+  where
+    go : (b : Bool) → PostsAfter b 0 event c (taken_next c.desk) is.0 → (is.0.desk.published ≡ c.desk.published) × (is.0.watch ≡ c.watch) × (is.0.desk.target ≡ c.desk.target)
+    go true does = absurd (let no = does.0 in cc)
+    go false does =
+        let seq : ℕ = (last_of c.desk 0).seq + 1 in
+        (post_publishes_none c.desk 0 seq event does.0 is.0.desk does.1, does.5, post_aims c.desk 0 seq event does.0 is.0.desk does.1)
+
+-- and beside workers
+each_keeps : (events : List Event) (b : BesideValue) (found : DeskAndChain) (new : BesideValue) → PostsEachBeside 1 0 events b found new → KeepsSynced b new
+each_keeps [] b found new is = (ap (λ (x : BesideValue). x.synced) is, ap (λ (x : BesideValue). x.watch) is)
+each_keeps (event ∷ events) b found new is =
+    let rest = each_keeps events is.0 is.0.left new is.2 in (rest.0 ∙ is.1.kept.0, rest.1 ∙ is.1.kept.1)
+
+-- what stands against the change, by what it depends on
+abbrev against_by : Whole → Network → ℕ → ℕ → ℕ → Option Refusal
+against_by w net seq count waiting =
+    option_or (option_map (λ r. Edit r) (whole_refusal net w))
+    (if length (whole_events net w) == 0 then Some (Edit NoSet)
+    else if nat_lt (2 ^ 64 - 1) (seq + length (whole_events net w)) || nat_lt (2 ^ 64 - 1) (count + length (whole_events net w)) then Some EndOfNumbers
+    else if nat_lt 65536 (waiting + length (whole_events net w)) then Some BacklogFull else None)
+
+-- at two such desks, where nothing waits, the same stands against it
+against_same : (s t : DeskValue) (w : Whole) → Alike 0 s t → whole_against s 0 w ≡ whole_against t 0 w
+against_same s t w alike =
+    let few = alike.few in
+    let less = alike.less in
+    let waiting : length s.pending ≡ length t.pending = omega arith in
+    ap (λ (net : Network). against_by w net (last_of s 0).seq (accepted s) (length s.pending)) alike.net
+    ∙ ap (λ (l : Last). against_by w (net_now t) l.seq (accepted s) (length s.pending)) (last_same 0 s t 0 alike)
+    ∙ ap (λ (k : ℕ). against_by w (net_now t) (last_of t 0).seq k (length s.pending)) alike.count
+    ∙ ap (against_by w (net_now t) (last_of t 0).seq (accepted t)) waiting
+
+none_or : (a b : Option Refusal) → option_or a b ≡ None → b ≡ None
+none_or None b h = h
+none_or (Some x) b h = absurd (cc)
+
+-- where nothing stands against it there is something to post
+some_events : (s : DeskValue) (w : Whole) → whole_against s 0 w ≡ None → whole_events (net_now s) w ≡ [] → ⊥
+some_events s w free none =
+    let no : Some (Edit NoSet) ≡ None = ap (events_refusal s 0) (sym none) ∙ none_or (option_map (λ r. Edit r) (whole_refusal (net_now s) w)) (events_refusal s 0 (whole_events (net_now s) w)) free in cc
+
+-- and there is room for it
+room_for : (s : DeskValue) (events : List Event) → events_refusal s 0 events ≡ None → length s.pending + length events ≤ 65536
+room_for s events free =
+    go (length events == 0) (nat_lt (2 ^ 64 - 1) ((last_of s 0).seq + length events) || nat_lt (2 ^ 64 - 1) (accepted s + length events)) (nat_lt 65536 (length s.pending + length events)) refl free
+  where
+    go : (a b c : Bool) → nat_lt 65536 (length s.pending + length events) ≡ c → (if a then Some (Edit NoSet) else if b then Some EndOfNumbers else if c then Some BacklogFull else None) ≡ None
+        → length s.pending + length events ≤ 65536
+    go true b c is h = absurd (cc)
+    go false true c is h = absurd (cc)
+    go false false true is h = absurd (cc)
+    go false false false is h = ltb-false 65536 (length s.pending + length events) is
+
+wider : (n m : ℕ) (s t : DeskValue) → n ≤ m → Alike n s t → Alike m s t
+wider n m s t low alike =
+    let few = alike.few in
+    let less = alike.less in
+    record { count = alike.count; net = alike.net; lasts = alike.lasts; few = omega arith; less = omega arith }
 
 -- all is as it was
 still_same : (n : ℕ) (b new : BesideValue) (c end : ConsoleValue) → Same n b c → new ≡ b → end ≡ c → Same n new end
@@ -367,9 +478,49 @@ module _ (start : DeskValue) (steady : IsSteadyDesk start) (es more : List Event
           subst (Same n new) (sym other) (looked_same start steady es n b c same keeps n version new c looks kept same.less same.aim (omega arith) (shown_still b new c c same.shown told refl refl)),
         )
 
+    -- the change of a whole set or point
+    wholes_same : (w : Whole) → n ≡ 0 → PostsWholeBeside 1 0 w b x new → PostsWhole 0 w c y end → (x ≡ y) × Same 65536 new end
+    wholes_same w now is at = go (whole_against is.0.desk 0 w) (whole_events (net_now is.0.desk) w) refl refl is.1
+      where
+        alike_at : Finds 1 b is.0 → Alike 0 is.0.desk c.desk
+        alike_at finds = subst (λ (k : ℕ). Alike k is.0.desk c.desk) now (found_alike start steady es n b c same keeps is.0 finds)
+
+        -- in line the same is posted, and the same stands against it
+        in_line : (o : Option Refusal) (events : List Event) → whole_against is.0.desk 0 w ≡ o → whole_events (net_now is.0.desk) w ≡ events → Alike 0 is.0.desk c.desk → PostsAll o 0 events c y end
+        in_line o events against all alike =
+            subst (λ (p : Option Refusal × List Event). PostsAll p.0 0 p.1 c y end)
+            (λ i. ((sym (against_same is.0.desk c.desk w alike) ∙ against) i, (ap (λ (net : Network). whole_events net w) (sym alike.net) ∙ all) i)) at
+
+        go : (o : Option Refusal) (events : List Event) → whole_against is.0.desk 0 w ≡ o → whole_events (net_now is.0.desk) w ≡ events → PostsAllBeside o 1 0 events b is.0 x new → (x ≡ y) × Same 65536 new end
+        go (Some refusal) events against all does =
+            let alike : Alike 0 is.0.desk c.desk = alike_at does.finds in
+            let told = in_line (Some refusal) events against all alike in
+            let desk : new.left.desk ≡ is.0.desk = ap (λ (d : ConsoleValue). d.desk) does.done.1 in
+            let other : end.desk ≡ c.desk = ap (λ (d : ConsoleValue). d.desk) told.1 in (
+              does.done.0 ∙ sym told.0,
+              stands_same start more 65536 new end (does.told ∙ ap (λ (chain : ChainPrefixValue). chain.chain) (sym does.shown)) kept
+                  (same_alike 65536 is.0.desk c.desk new.left.desk end.desk (wider 0 65536 is.0.desk c.desk (omega arith) alike) desk other) (ap (λ (s : DeskValue). s.target) other ∙ same.aim)
+                  (shown_still b new c end same.shown does.kept (ap (λ (s : DeskValue). s.published) other) (ap (λ (d : ConsoleValue). d.watch) told.1)),
+            )
+        go None [] against all does = absurd (some_events is.0.desk w against all)
+        go None (event ∷ events) against all does =
+            let alike : Alike 0 is.0.desk c.desk = alike_at does.1.1.finds in
+            let told = in_line None (event ∷ events) against all alike in
+            let acts = each_acts event events b is.0 new does.1 in
+            let still = each_still (event ∷ events) c end told.1 in
+            let free : events_refusal is.0.desk 0 (event ∷ events) ≡ None =
+            ap (events_refusal is.0.desk 0) (sym all) ∙ none_or (option_map (λ r. Edit r) (whole_refusal (net_now is.0.desk) w)) (events_refusal is.0.desk 0 (whole_events (net_now is.0.desk) w)) against in
+            let room = room_for is.0.desk (event ∷ events) free in
+            let both : Alike (0 + length (event ∷ events)) new.left.desk end.desk = each_alike 0 event events (omega arith) b is.0 new c end alike does.1 told.1 in (
+              does.0 ∙ ap (λ (k : ℕ). answer.AllTaken (record { first = k + 1; last = k + length (event ∷ events); events = event ∷ events })) alike.count ∙ sym told.0,
+              stands_same start more 65536 new end (acts.told ∙ ap (λ (chain : ChainPrefixValue). chain.chain) (sym acts.shown)) kept (wider (0 + length (event ∷ events)) 65536 new.left.desk end.desk (omega arith) both)
+                  (still.2 ∙ same.aim) (shown_still b new c end same.shown (each_keeps (event ∷ events) b is.0 new does.1) still.0 still.1),
+            )
+
     obeys_same : (other : Answer) (o : Option Command) → MayCome n o → ObeysBeside 1 other o b x new → Obeys other o c y end → (x ≡ y) × Same (events_after n o) new end
     obeys_same other None may is at = told_same _ x y is at
     obeys_same other (Some (command.Event event)) may is at = nexts_same is.0 event may is.1 at
+    obeys_same other (Some (command.Whole w)) may is at = wholes_same w may is at
     obeys_same other (Some (command.Post collector seq event)) may is at = calls_same (Does (command.Post collector seq event)) is.0 collector seq event may is.1 is.1.done at
     obeys_same other (Some command.Open) may is at = absurd may
     obeys_same other (Some (command.Take k)) may is at = absurd may
@@ -385,8 +536,8 @@ module _ (start : DeskValue) (steady : IsSteadyDesk start) (es more : List Event
     obeys_same other (Some (command.Save file)) may is at = saves_same is.0 file is.1 at
     obeys_same other (Some (command.About asked p d)) may is at = asks_same (λ net. answer_about asked net p d) is.0 may is.1 is.2 at.0 at.1 is.3
     obeys_same other (Some (command.Trace p d s)) may is at = asks_same (λ net. trace_answer (trace_at net p d s)) is.0 may is.1 is.2 at.0 at.1 is.3
-    obeys_same other (Some (command.WhatIf events)) may is at = asks_same (λ net. what_if_answer (report_of net events)) is.0 may is.1 is.2 at.0 at.1 is.3
-    obeys_same other (Some (command.Reroutes events)) may is at = asks_same (λ net. reroutes_answer (rerouted net events)) is.0 may is.1 is.2 at.0 at.1 is.3
+    obeys_same other (Some (command.WhatIf events)) may is at = asks_same (λ net. what_if_answer (report_listed net events)) is.0 may is.1 is.2 at.0 at.1 is.3
+    obeys_same other (Some (command.Reroutes events)) may is at = asks_same (λ net. reroutes_answer (reroutes_listed net events)) is.0 may is.1 is.2 at.0 at.1 is.3
     obeys_same other (Some command.Audit) may is at = asks_same (λ net. audit_answer (length net.plans)) is.0 may is.1 is.2 at.0 at.1 is.3
     obeys_same other (Some (command.Picture file about)) may is at = asks_same (λ net. picture_told file net about) is.0 may is.1 is.2 at.0 at.1 is.3
     obeys_same other (Some (command.Show what)) may is at = asks_same (shown_answer what) is.0 may is.1 is.2 at.0 at.1 is.3

@@ -1,18 +1,20 @@
 //! Who answers a script beside workers.
 
-ghost use Rattle.std.specs.Prelude.{◌≡◌, ◌≤◌, ◌∷◌, [], IfErr, IfOk, IfSome, OnOk};
+ghost use Rattle.std.specs.Prelude.{◌≡◌, ◌≤◌, None, Some, IfErr, IfOk, IfSome, OnOk};
 ghost use Rattle.std.specs.Arc.{arc_value};
 ghost use Rattle.desk_core.specs.Desk.{accepted};
-ghost use Rattle.desk_console.specs.Taken.{event_of};
+ghost use Rattle.net_building.specs.declared.wholes.Listed.{Listed};
+ghost use Rattle.desk_console.specs.Taken.{posts_of};
 ghost use Rattle.net_versions.specs.Versions.{VersionValue};
 ghost use Rattle.script_words.specs.Commands.{IsWithin};
 ghost use Rattle.sessions.specs.Run.{CutsOff};
 ghost use Rattle.desk_console.specs.Does.{PostsNext};
-ghost use Rattle.beside.specs.Beside.{DoesBeside, DoesThere, KeepsSynced, Looks, SyncsBeside, SyncsThere, Visits};
+ghost use Rattle.beside.specs.Beside.{DoesBeside, DoesThere, KeepsSynced, Looks, PostsWholeBeside, SyncsBeside, SyncsThere, Visits};
 ghost use Rattle.beside.specs.Seats.{Came, CamePosting, Goes, Parts, StaysSeated};
 
 use crate::visitor::Visitor;
 use answers::{Answer, Asked, Reason, Telling, answer_other};
+use net_building::Whole;
 use net_data::{Event, Net};
 use script_words::{Command, read_line};
 use sessions::{Answering, Fault};
@@ -78,7 +80,7 @@ impl<'a, N: Naming, R: Wait> Beside<'a, N, R> {
     /// A fault that cuts the answers off.
     pub fn post_next(&mut self, alloc: Global, collector: u8, event: Event) -> Result<Answer, Fault>
         ensures does { IfOk result (λ answer. DoesThere N.seats (PostsNext collector event) self.old answer self.new) }
-        ensures goes { Goes N.seats (event ∷ []) self.old self.new }
+        ensures goes { Goes N.seats (Some (Listed.Event event)) self.old self.new }
         ensures fault { IfErr result (CutsOff (Unit {0})) }
     {
         let mut guard = self.hub.lock(self.rt);
@@ -86,6 +88,31 @@ impl<'a, N: Naming, R: Wait> Beside<'a, N, R> {
         let answer = self
             .visitor
             .post_next(self.rt, alloc, &mut *guard, collector, event);
+        drop(guard);
+        self.signals.tell_post(rested);
+        answer
+    }
+
+    /// The change of a whole set or point: its events, posted by a collector one after the other, all or none.
+    ///
+    /// # Errors
+    ///
+    /// A fault that cuts the answers off. The first of the events may have been accepted then, or all.
+    pub fn post_whole(
+        &mut self,
+        alloc: Global,
+        collector: u8,
+        whole: Whole,
+    ) -> Result<Answer, Fault>
+        ensures does { IfOk result (λ answer. PostsWholeBeside N.seats collector whole self.old answer self.new) }
+        ensures goes { Goes N.seats (Some (Listed.Whole whole)) self.old self.new }
+        ensures fault { IfErr result (CutsOff (Unit {0})) }
+    {
+        let mut guard = self.hub.lock(self.rt);
+        let rested = is_at_rest(&guard);
+        let answer = self
+            .visitor
+            .post_whole(self.rt, alloc, &mut *guard, collector, whole);
         drop(guard);
         self.signals.tell_post(rested);
         answer
@@ -219,13 +246,13 @@ impl<'a, N: Naming, R: Wait> Beside<'a, N, R> {
     /// Does what a command says that posts nothing.
     fn obey_silently(&mut self, alloc: Global, command: &Command) -> Result<Answer, Fault>
         requires within { IsWithin command.now }
-        requires none { event_of command.now ≡ [] }
+        requires none { posts_of command.now ≡ None }
         ensures does { IfOk result (λ answer. DoesBeside N.seats command.now self.old answer self.new) }
-        ensures goes { Goes N.seats [] self.old self.new }
+        ensures goes { Goes N.seats None self.old self.new }
         ensures fault { IfErr result (CutsOff (Unit {0})) }
     {
         match command {
-            Command::Event(_) | Command::Post(_, _, _) => unreachable!(),
+            Command::Event(_) | Command::Whole(_) | Command::Post(_, _, _) => unreachable!(),
             Command::Sync => self.sync(alloc),
             Command::Version => self.version(),
             Command::Last(collector) => self.last(*collector),
@@ -242,9 +269,9 @@ impl<'a, N: Naming, R: Wait> Beside<'a, N, R> {
     /// Does what a command says that posts nothing, and goes then.
     fn obey_whole(&mut self, alloc: Global, command: Command) -> Result<Answer, Fault>
         requires within { IsWithin command }
-        requires none { event_of command ≡ [] }
+        requires none { posts_of command ≡ None }
         ensures does { IfOk result (λ answer. DoesBeside N.seats command self.old answer self.new) }
-        ensures goes { Goes N.seats (event_of command) self.old self.new }
+        ensures goes { Goes N.seats (posts_of command) self.old self.new }
         ensures fault { IfErr result (CutsOff (Unit {0})) }
     {
         let answer = self.obey_silently(alloc, &command);
@@ -260,11 +287,12 @@ impl<'a, N: Naming, R: Wait> Beside<'a, N, R> {
     pub fn obey(&mut self, alloc: Global, command: Command) -> Result<Answer, Fault>
         requires { IsWithin command }
         ensures does { IfOk result (λ answer. DoesBeside N.seats command self.old answer self.new) }
-        ensures goes { Goes N.seats (event_of command) self.old self.new }
+        ensures goes { Goes N.seats (posts_of command) self.old self.new }
         ensures fault { IfErr result (CutsOff (Unit {0})) }
     {
         match command {
             Command::Event(event) => self.post_next(alloc, 0, event),
+            Command::Whole(whole) => self.post_whole(alloc, 0, whole),
             Command::Post(collector, seq, event) => self.post(alloc, collector, seq, event),
             other => self.obey_whole(alloc, other),
         }

@@ -24,6 +24,7 @@ pub mod laws;
 mod reading;
 mod running;
 mod visitor;
+mod wholes;
 
 pub use answering::Beside;
 pub use laws::workers_law;

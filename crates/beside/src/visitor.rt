@@ -1,9 +1,10 @@
 //! Who comes to the hub for a script.
 
-ghost use Rattle.std.specs.Prelude.{◌≡◌, ◌∷◌, [], Err, IfErr, IfOk, OnErr, OnOk};
+ghost use Rattle.std.specs.Prelude.{◌≡◌, Err, Some, IfErr, IfOk, OnErr, OnOk};
 ghost use Rattle.std.specs.Arc.{arc_value};
 ghost use mathlib.Core.List.{IsPrefix};
 ghost use Rattle.answers.specs.Replies.{posted_answer, refused};
+ghost use Rattle.net_building.specs.declared.wholes.Listed.{Listed};
 ghost use Rattle.desk_core.specs.Desk.{accepted};
 ghost use Rattle.desk_core.specs.Steps.{Posts};
 ghost use Rattle.desk_console.specs.Console.{net_of};
@@ -114,6 +115,7 @@ impl<N: Naming> Visitor<N> {
         ensures found { OnOk result (VisitsAt N.seats self.old hub.old.state self.new) }
         ensures comes { Comes N.seats self.old.seat hub.old.state self.new.seat }
         ensures seen { IsPrefix self.old.seen self.new.seen }
+        ensures left { self.new.left ≡ hub.new.state }
         ensures rest { hub.new ≡ hub.old }
         ensures fault { OnErr result (result ≡ Err Fault.NoPlace) }
     {
@@ -134,6 +136,7 @@ impl<N: Naming> Visitor<N> {
     ) -> Result<Answer, Fault>
         ensures call { IfOk result (λ answer. DoesAt N.seats (Calls (λ s. Posts s collector seq event) posted_answer) self.old hub.old.state answer self.new) }
         ensures posts { CamePosting N.seats event self.old self.new }
+        ensures left { self.new.left ≡ hub.new.state }
         ensures fault { IfErr result (CutsOff (Unit {0})) }
     {
         let reply = self.guest.post(rt, alloc, hub, collector, seq, event);
@@ -161,14 +164,20 @@ impl<N: Naming> Visitor<N> {
         self.post_at(rt, alloc, hub, collector, seq, event)
     }
 
-    /// The answer to a post of a collector after which it has no number.
-    fn refuse_next<R: Wait>(&mut self, rt: &R, hub: &mut Hub<N, BySeats>) -> Result<Answer, Fault>
-        ensures refused { IfOk result (λ answer. DoesAt N.seats (Tells (refused Refusal.EndOfNumbers)) self.old hub.old.state answer self.new) }
+    /// A refusal, told at the hub as it is found.
+    pub(crate) fn refuse<R: Wait>(
+        &mut self,
+        rt: &R,
+        hub: &mut Hub<N, BySeats>,
+        refusal: Refusal,
+    ) -> Result<Answer, Fault>
+        ensures refused { IfOk result (λ answer. DoesAt N.seats (Tells (refused refusal)) self.old hub.old.state answer self.new) }
         ensures comes { Came N.seats self.old self.new }
+        ensures left { self.new.left ≡ hub.new.state }
         ensures fault { IfErr result (CutsOff (Unit {0})) }
     {
         self.visit(rt, hub)?;
-        Ok(Answer::Refused(Reason::Desk(Refusal::EndOfNumbers)))
+        Ok(Answer::Refused(Reason::Desk(refusal)))
     }
 
     /// An event, posted by a collector under the sequence number after its last one.
@@ -180,13 +189,14 @@ impl<N: Naming> Visitor<N> {
         collector: u8,
         event: Event,
     ) -> Result<Answer, Fault>
-        ensures call { IfOk result (λ answer. DoesThere N.seats (PostsNext collector event) self.old answer self.new) }
-        ensures goes { Goes N.seats (event ∷ []) self.old self.new }
+        ensures call { IfOk result (λ answer. DoesAt N.seats (PostsNext collector event) self.old hub.old.state answer self.new) }
+        ensures goes { Goes N.seats (Some (Listed.Event event)) self.old self.new }
+        ensures left { self.new.left ≡ hub.new.state }
         ensures fault { IfErr result (CutsOff (Unit {0})) }
     {
         let last = hub.desk().last_seq(collector);
         if last == u64::MAX {
-            return self.refuse_next(rt, hub);
+            return self.refuse(rt, hub, Refusal::EndOfNumbers);
         }
         self.post_at(rt, alloc, hub, collector, last + 1, event)
     }

@@ -5,3 +5,4 @@ pub mod SlotLemmas
 pub mod StepLemmas
 pub mod TaskLemmas
 pub mod WatchLemmas
+pub mod WholeLemmas

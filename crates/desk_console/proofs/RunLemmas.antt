@@ -1,6 +1,8 @@
 -- What lines do are runs of the desk's steps.
 use Rattle.std.proofs.Common.{arith, ◌≡◌, ℕ, ◌+◌, Bool, true, false, List, [], ◌∷◌, Option, Some, None, Result, Ok, Err, refl, sym, ap, ◌∙◌, subst}
-use Rattle.std.specs.Option.{option_map_or}
+use Rattle.std.specs.Option.{option_and_then}
+use Rattle.net_building.specs.declared.wholes.Listed.TheVariants as listed
+use Rattle.net_building.specs.declared.wholes.Whole.{Whole}
 use Rattle.net_data.specs.declared.events.Event.{Event}
 use Rattle.work_units.specs.Work.{Work}
 use Rattle.tokens.specs.Words.{words_of}
@@ -14,17 +16,19 @@ use Rattle.work_units.specs.declared.replies.Opened.{Opened}
 use Rattle.work_units.specs.declared.replies.Refusal.{Refusal}
 use Rattle.desk_core.specs.declared.steps.Step.TheVariants as step
 use Rattle.desk_core.specs.declared.steps.Reply.TheVariants as reply
-use Rattle.desk_core.specs.Desk.{DeskValue}
+use Rattle.desk_core.specs.Desk.{DeskValue, accepted}
 use Rattle.desk_core.specs.Steps.{Posts, Opens, Takes, Gives, Abandons, Publishes, last_of}
 use Rattle.desk_core.specs.Runs.{IsRunOf, event_taken}
 use Rattle.desk_core.proofs.RunLemmas.{run_none, run_one, run_then}
 use Rattle.answers.specs.Replies.{posted_answer}
 use Rattle.answers.specs.declared.answer.Answer.{Answer}
+use Rattle.answers.specs.declared.answer.Answer.TheVariants as answer
+use Rattle.answers.specs.declared.answer.Reply.TheVariants as replied
 use Rattle.desk_console.specs.Asked.{asked_answer, is_asked}
 use Rattle.desk_console.specs.Commands.{Commands, Obeys}
 use Rattle.desk_console.specs.Console.{ConsoleValue, slot_of}
-use Rattle.desk_console.specs.Does.{AbandonsOf, Does, GivesFrom, PostsAfter}
-use Rattle.desk_console.specs.Taken.{event_of, taken_by}
+use Rattle.desk_console.specs.Does.{AbandonsOf, Does, GivesFrom, PostsAfter, PostsAll, PostsEach, taken_next}
+use Rattle.desk_console.specs.Taken.{event_in, events_in, posts_by, posts_of, taken_by}
 
 -- ---- one step
 
@@ -56,11 +60,10 @@ goes_on old mid new one other = run_then old mid new [] [] one other
 -- ---- a line
 
 -- the event of a post is accepted exactly if it is answered `taken`
-taken_is : (event : Event) (line : List ℕ) (done : Command) (result : Result Posted Refusal) → command_of (words_of line) ≡ Some done → event_of done ≡ event ∷ []
-    → event_taken event (reply.Post result) ≡ taken_by line (posted_answer result)
-taken_is event line done (Ok (Taken number)) is posts = sym (ap (λ (o : Option Command). option_map_or event_of o []) is ∙ posts)
-taken_is event line done (Ok (Again number)) is posts = refl
-taken_is event line done (Err refusal) is posts = refl
+taken_is : (event : Event) (line : List ℕ) (result : Result Posted Refusal) → posts_by line ≡ Some (listed.Event event) → event_taken event (reply.Post result) ≡ taken_by line (posted_answer result)
+taken_is event line (Ok (Taken number)) posts = sym (ap event_in posts)
+taken_is event line (Ok (Again number)) posts = refl
+taken_is event line (Err refusal) posts = refl
 
 -- a question that is answered is done
 pub asked_does : (done : Command) (c : ConsoleValue) (a : Answer) → is_asked done ≡ true → a ≡ asked_answer done c.desk.published.network → Does done c a c
@@ -73,26 +76,55 @@ asked_does (command.Picture file about) c a is said = (said, refl)
 asked_does (command.Show what) c a is said = (said, refl)
 asked_does done c a is said = absurd (cc)
 
--- nothing is taken by a line whose command posts nothing
-pub nothing_taken : (line : List ℕ) (a : Answer) → option_map_or event_of (command_of (words_of line)) [] ≡ [] → taken_by line a ≡ []
+-- nothing is taken by a line that posts nothing
+pub nothing_taken : (line : List ℕ) (a : Answer) → posts_by line ≡ None → taken_by line a ≡ []
+nothing_taken line (answer.Reply (replied.Taken number)) none = ap event_in none
+nothing_taken line (answer.AllTaken taken) none = ap (events_in taken.events) none
 nothing_taken line a none = grind arith
 
+-- ---- whole sets and points
+
+-- an event that is answered `taken` is accepted
+pub taken_one : (event : Event) (result : Result Posted Refusal) (number : ℕ) → answer.Reply (replied.Taken number) ≡ posted_answer result → event_taken event (reply.Post result) ≡ event ∷ []
+taken_one event (Ok (Taken n)) number is = refl
+taken_one event (Ok (Again n)) number is = absurd (cc)
+taken_one event (Err refusal) number is = absurd (cc)
+
+-- an event that is posted next, and answered `taken`
+pub posts_one : (collector : ℕ) (event : Event) (c new : ConsoleValue) (b : Bool) → PostsAfter b collector event c (taken_next c.desk) new → IsRunOf c.desk (event ∷ []) new.desk
+posts_one collector event c new true is = absurd (let no = is.0 in cc)
+posts_one collector event c new false is =
+    subst (λ es. IsRunOf c.desk es new.desk) (taken_one event is.0 (accepted c.desk + 1) is.3) (posted c.desk new.desk collector ((last_of c.desk collector).seq + 1) event is.0 is.1)
+
+-- events that are posted one after the other, each of which is accepted
+pub each_runs : (collector : ℕ) (events : List Event) (c new : ConsoleValue) → PostsEach collector events c new → IsRunOf c.desk events new.desk
+each_runs collector [] c new is = unmoved c.desk new.desk (ap (λ (d : ConsoleValue). d.desk) is)
+each_runs collector (event ∷ events) c new is = run_then c.desk is.0.desk new.desk (event ∷ []) events (posts_one collector event c is.0 _ is.1) (each_runs collector events is.0 new is.2)
+
 module _ (line : List ℕ) (c : ConsoleValue) (a : Answer) (new : ConsoleValue) where
-  silent : option_map_or event_of (command_of (words_of line)) [] ≡ [] → IsRunOf c.desk [] new.desk → IsRunOf c.desk (taken_by line a) new.desk
+  silent : posts_by line ≡ None → IsRunOf c.desk [] new.desk → IsRunOf c.desk (taken_by line a) new.desk
   silent none run = subst (λ es. IsRunOf c.desk es new.desk) (sym (nothing_taken line a none)) run
 
-  told : option_map_or event_of (command_of (words_of line)) [] ≡ [] → new ≡ c → IsRunOf c.desk (taken_by line a) new.desk
+  told : posts_by line ≡ None → new ≡ c → IsRunOf c.desk (taken_by line a) new.desk
   told none same = silent none (unmoved c.desk new.desk (ap (λ (d : ConsoleValue). d.desk) same))
 
-  calls_post : (done : Command) (collector seq : ℕ) (event : Event) (result : Result Posted Refusal) → command_of (words_of line) ≡ Some done → event_of done ≡ event ∷ []
-      → Posts c.desk collector seq event result new.desk → a ≡ posted_answer result → IsRunOf c.desk (taken_by line a) new.desk
-  calls_post done collector seq event result here posts is said =
-      subst (λ es. IsRunOf c.desk es new.desk) (taken_is event line done result here posts ∙ ap (taken_by line) (sym said)) (posted c.desk new.desk collector seq event result is)
+  -- an answer that nothing is taken for
+  refused_so : (other : Answer) → taken_by line other ≡ [] → a ≡ other → new ≡ c → IsRunOf c.desk (taken_by line a) new.desk
+  refused_so other none is same = subst (λ es. IsRunOf c.desk es new.desk) (sym (ap (taken_by line) is ∙ none)) (unmoved c.desk new.desk (ap (λ (d : ConsoleValue). d.desk) same))
 
-  posts_after : (b : Bool) (done : Command) (collector : ℕ) (event : Event) → command_of (words_of line) ≡ Some done → event_of done ≡ event ∷ [] → PostsAfter b collector event c a new → IsRunOf c.desk (taken_by line a) new.desk
-  posts_after true done collector event here posts is =
-      subst (λ es. IsRunOf c.desk es new.desk) (ap (taken_by line) (sym is.0)) (unmoved c.desk new.desk (ap (λ (d : ConsoleValue). d.desk) is.1))
-  posts_after false done collector event here posts is = calls_post done collector ((last_of c.desk collector).seq + 1) event is.0 here posts is.1 is.3
+  calls_post : (collector seq : ℕ) (event : Event) (result : Result Posted Refusal) → posts_by line ≡ Some (listed.Event event)
+      → Posts c.desk collector seq event result new.desk → a ≡ posted_answer result → IsRunOf c.desk (taken_by line a) new.desk
+  calls_post collector seq event result posts is said =
+      subst (λ es. IsRunOf c.desk es new.desk) (taken_is event line result posts ∙ ap (taken_by line) (sym said)) (posted c.desk new.desk collector seq event result is)
+
+  posts_after : (b : Bool) (collector : ℕ) (event : Event) → posts_by line ≡ Some (listed.Event event) → PostsAfter b collector event c a new → IsRunOf c.desk (taken_by line a) new.desk
+  posts_after true collector event posts is = refused_so _ refl is.0 is.1
+  posts_after false collector event posts is = calls_post collector ((last_of c.desk collector).seq + 1) event is.0 posts is.1 is.3
+
+  posts_all : (o : Option Refusal) (collector : ℕ) (w : Whole) (events : List Event) → posts_by line ≡ Some (listed.Whole w) → PostsAll o collector events c a new → IsRunOf c.desk (taken_by line a) new.desk
+  posts_all (Some refusal) collector w events posts is = refused_so _ refl is.0 is.1
+  posts_all None collector w events posts is =
+      subst (λ es. IsRunOf c.desk es new.desk) (sym (ap (taken_by line) is.0 ∙ ap (events_in events) posts)) (each_runs collector events c new is.1)
 
   gives : (k : ℕ) (slot : Option Work) → GivesFrom k slot c a new → IsRunOf c.desk [] new.desk
   gives k None is = unmoved c.desk new.desk (ap (λ (d : ConsoleValue). d.desk) is.1)
@@ -103,8 +135,9 @@ module _ (line : List ℕ) (c : ConsoleValue) (a : Answer) (new : ConsoleValue) 
   abandons (Some work) is = abandoned c.desk new.desk work.version work.excerpt.plan.dest is.0 is.1
 
   command_runs : (done : Command) → command_of (words_of line) ≡ Some done → Does done c a new → IsRunOf c.desk (taken_by line a) new.desk
-  command_runs (command.Event event) here is = posts_after _ (command.Event event) 0 event here refl is
-  command_runs (command.Post collector seq event) here is = calls_post (command.Post collector seq event) collector seq event is.0 here refl is.1 is.3
+  command_runs (command.Event event) here is = posts_after _ 0 event (ap (option_and_then posts_of) here) is
+  command_runs (command.Whole w) here is = posts_all _ 0 w _ (ap (option_and_then posts_of) here) is
+  command_runs (command.Post collector seq event) here is = calls_post collector seq event is.0 (ap (option_and_then posts_of) here) is.1 is.3
   command_runs command.Open here is = silent (rw here refl) (opened c.desk new.desk is.0 is.1)
   command_runs (command.Take k) here is = silent (rw here refl) (took c.desk new.desk is.0 is.1)
   command_runs (command.Give k) here is = silent (rw here refl) (gives k (slot_of c k) is)

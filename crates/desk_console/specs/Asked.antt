@@ -2,8 +2,7 @@
 use Rattle.std.specs.Prelude.{Bool, true, false, length}
 use Rattle.net_data.specs.Network.{Network}
 use Rattle.path_trace.specs.Traces.{trace_at}
-use Rattle.what_if.specs.Reports.{report_of}
-use Rattle.what_if.specs.Reroutes.{rerouted}
+use Rattle.what_if.specs.Listed.{report_listed, reroutes_listed}
 use Rattle.answers.specs.Audits.{audit_answer}
 use Rattle.answers.specs.Reroutes.{reroutes_answer}
 use Rattle.answers.specs.Rows.{answer_about}
@@ -35,9 +34,9 @@ asked_answer (command.About asked y x) net = answer_about asked net y x
 -- `trace Y X S`
 asked_answer (command.Trace y x s) net = trace_answer (trace_at net y x s)
 -- `whatif EVENT ; EVENT ..`
-asked_answer (command.WhatIf events) net = what_if_answer (report_of net events)
+asked_answer (command.WhatIf events) net = what_if_answer (report_listed net events)
 -- `reroutes EVENT ; EVENT ..`
-asked_answer (command.Reroutes events) net = reroutes_answer (rerouted net events)
+asked_answer (command.Reroutes events) net = reroutes_answer (reroutes_listed net events)
 -- `audit`
 asked_answer command.Audit net = audit_answer (length net.plans)
 -- `picture FILE` and `picture FILE X`

@@ -1,11 +1,16 @@
 -- What a command does at a console, and its answer (own).
-use Rattle.std.specs.Prelude.{◌≡◌, ◌≢◌, ℕ, ◌+◌, ◌-◌, ◌^◌, ◌==◌, Bool, true, false, List, [], Option, Some, None, Result, Ok, Err, slice_set}
+use Rattle.std.specs.Prelude.{◌≡◌, ◌≢◌, ◌<◌, ◌≤◌, ℕ, ◌+◌, ◌-◌, ◌^◌, ◌==◌, ◌||◌, nat_lt, Bool, true, false, if◌then◌else◌, List, [], ◌∷◌, length, Option, Some, None, option_map, Result, Ok, Err, slice_set}
+use Rattle.std.specs.Option.{option_or}
 use Rattle.net_data.specs.Network.{Network}
+use Rattle.net_data.specs.Edits.{apply_all}
 use Rattle.net_data.specs.declared.events.Event.{Event}
+use Rattle.net_data.specs.declared.events.Refusal.TheVariants.{NoSet}
+use Rattle.net_building.specs.Wholes.{whole_events, whole_refusal}
+use Rattle.net_building.specs.declared.wholes.Whole.{Whole}
 use Rattle.work_units.specs.Work.{Work}
 use Rattle.work_units.specs.declared.replies.Refusal.{Refusal}
-use Rattle.work_units.specs.declared.replies.Refusal.TheVariants.{OutOfMemory, EndOfNumbers}
-use Rattle.desk_core.specs.Desk.{DeskValue, accepted}
+use Rattle.work_units.specs.declared.replies.Refusal.TheVariants.{OutOfMemory, EndOfNumbers, BacklogFull, Edit}
+use Rattle.desk_core.specs.Desk.{DeskValue, accepted, net_now}
 use Rattle.desk_core.specs.Steps.{last_of, Posts, Opens, Takes, Gives, Abandons, Publishes}
 use Rattle.desk_core.specs.Runs.{IsRunOf}
 use Rattle.desk_console.specs.Syncing.{synced}
@@ -65,6 +70,51 @@ PostsAfter false collector event c = Calls (λ s. Posts s collector ((last_of s 
 -- a collector posts an event under the sequence number after its last one
 abbrev pub PostsNext : ℕ → Event → ConsoleValue → Answer → ConsoleValue → Type 0
 PostsNext collector event c = PostsAfter ((last_of c.desk collector).seq == 2 ^ 64 - 1) collector event c
+
+-- ---- whole sets and points
+
+-- what stands against so many posts of a collector: its numbers or those of events end before, or there is no room for all
+abbrev pub count_refusal : DeskValue → ℕ → ℕ → Option Refusal
+count_refusal s collector n =
+    if nat_lt (2 ^ 64 - 1) ((last_of s collector).seq + n) || nat_lt (2 ^ 64 - 1) (accepted s + n) then Some EndOfNumbers
+    else if nat_lt 65536 (length s.pending + n) then Some BacklogFull else None
+
+-- what stands against the posting of all these events: there is no set that is changed, or there are too many
+abbrev pub events_refusal : DeskValue → ℕ → List Event → Option Refusal
+events_refusal s collector events = if length events == 0 then Some (Edit NoSet) else count_refusal s collector (length events)
+
+-- what stands against the change of a whole set or point, in the network after all accepted events
+abbrev pub whole_against : DeskValue → ℕ → Whole → Option Refusal
+whole_against s collector w = option_or (option_map (λ r. Edit r) (whole_refusal (net_now s) w)) (events_refusal s collector (whole_events (net_now s) w))
+
+-- a collector can post these events one after the other, and the desk accepts each
+pub record CanPost (collector : ℕ) (events : List Event) (s : DeskValue) : Type 0 where
+  pub numbers : (last_of s collector).seq + length events < 2 ^ 64
+  pub counted : accepted s + length events < 2 ^ 64
+  pub room : length s.pending + length events ≤ 65536
+  pub accepted_all : (new : Network) × (apply_all (net_now s) events ≡ Ok new)
+
+-- the answer to the event that is accepted next
+abbrev pub taken_next : DeskValue → Answer
+taken_next s = answer.Reply (reply.Taken (accepted s + 1))
+
+-- a collector posts these events one after the other, and each is answered `taken`
+abbrev pub PostsEach : ℕ → List Event → ConsoleValue → ConsoleValue → Type 0
+PostsEach collector [] c new = new ≡ c
+PostsEach collector (event ∷ events) c new = (mid : ConsoleValue) × PostsNext collector event c (taken_next c.desk) mid × PostsEach collector events mid new
+
+-- all these events are accepted, under the numbers that come next
+abbrev pub all_taken : DeskValue → List Event → Answer
+all_taken s events = answer.AllTaken (record { first = accepted s + 1; last = accepted s + length events; events = events })
+
+-- a collector posts all of these events, or none if something stands against that
+abbrev pub PostsAll : Option Refusal → ℕ → List Event → ConsoleValue → Answer → ConsoleValue → Type 0
+PostsAll (Some refusal) collector events c a new = Tells (refused refusal) c a new
+PostsAll None collector events c a new = (a ≡ all_taken c.desk events) × PostsEach collector events c new
+
+-- a collector posts the events of the change of a whole set or point, all or none
+abbrev pub PostsWhole : ℕ → Whole → ConsoleValue → Answer → ConsoleValue → Type 0
+PostsWhole collector w c = PostsAll (whole_against c.desk collector w) collector (whole_events (net_now c.desk) w) c
 
 -- ---- slots
 
@@ -130,6 +180,8 @@ Asks asked c = Tells (asked_answer asked c.desk.published.network) c
 abbrev pub Does : Command → ConsoleValue → Answer → ConsoleValue → Type 0
 -- EVENT
 Does (command.Event event) c = PostsNext 0 event c
+-- `set CHANGE ID END` and `point CHANGE CODE END`
+Does (command.Whole w) c = PostsWhole 0 w c
 -- `post C SEQ EVENT`
 Does (command.Post collector seq event) c = Calls (λ s. Posts s collector seq event) posted_answer c
 -- `open`

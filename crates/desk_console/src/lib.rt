@@ -1,7 +1,8 @@
 //! A desk at a console: what each command of the script language does, and its answer (all own).
 //!
 //! 1. An event is posted by collector 0, under the sequence number after its last one; if that is the greatest
-//!    number, it is refused 51 EndOfNumbers. `post`, `open` and `publish` are calls of the desk.
+//!    number, it is refused 51 EndOfNumbers. `post`, `open` and `publish` are calls of the desk. `set CHANGE ID` and `point CHANGE
+//!    CODE` are the change of each link of a set, or of all sets of a point, posted so one after the other: all of them or none.
 //! 2. `take K` takes a job, does it, and keeps its result in the slot K; what was there is dropped once a job is given
 //!    out. `give K` gives the result in the slot, which is empty then, or keeps the result if that is refused.
 //!    `abandon K` abandons the destination of the result in the slot, which keeps it. If the slot is empty both are
@@ -32,6 +33,7 @@ mod picturing;
 mod slots;
 pub mod syncing;
 pub mod watching;
+pub mod wholes;
 
 pub use asking::answer_asked;
 pub use console::Console;
@@ -39,3 +41,4 @@ pub use obeying::has_memory;
 pub use picturing::answer_save;
 pub use syncing::sync;
 pub use watching::Watch;
+pub use wholes::{answer_all_taken, events_at};

@@ -1,10 +1,10 @@
 //! What each command does.
 
-ghost use Rattle.std.specs.Prelude.{◌≡◌, ◌↔◌, [], true, IfOk, IsTrue};
+ghost use Rattle.std.specs.Prelude.{◌≡◌, ◌↔◌, None, true, IfOk, IsTrue};
 ghost use Rattle.desk_core.specs.Steps.{Opens, Posts};
 ghost use Rattle.answers.specs.Replies.{opened_answer, posted_answer};
 ghost use Rattle.script_words.specs.Commands.{IsWithin};
-ghost use Rattle.desk_console.specs.Taken.{event_of};
+ghost use Rattle.desk_console.specs.Taken.{posts_of};
 ghost use Rattle.desk_console.specs.Asked.{is_asked};
 ghost use Rattle.desk_console.specs.Does.{Calls, Does, HasMemory, PostsNext, PublishesTarget, Syncs, Watches, last_told, published_answer, save_told, version_of};
 ghost use Rattle.desk_console.specs.Console.{net_of};
@@ -61,7 +61,7 @@ impl Console {
     }
 
     /// An event, posted by collector 0.
-    fn post_next(&mut self, alloc: Global, event: Event) -> Result<Answer, AllocError>
+    pub(crate) fn post_next(&mut self, alloc: Global, event: Event) -> Result<Answer, AllocError>
         ensures { IfOk result (λ answer. PostsNext 0 event self.old answer self.new) }
     {
         let last = self.desk.last_seq(0);
@@ -154,11 +154,11 @@ impl Console {
     /// Does what a command says that posts nothing.
     fn obey_silently(&mut self, alloc: Global, command: &Command) -> Result<Answer, AllocError>
         requires within { IsWithin command.now }
-        requires none { event_of command.now ≡ [] }
+        requires none { posts_of command.now ≡ None }
         ensures { IfOk result (λ answer. Does command.now self.old answer self.new) }
     {
         match command {
-            Command::Event(_) | Command::Post(_, _, _) => unreachable!(),
+            Command::Event(_) | Command::Whole(_) | Command::Post(_, _, _) => unreachable!(),
             Command::Open => self.open(alloc),
             Command::Take(slot) => self.take(alloc, *slot),
             Command::Give(slot) => Ok(self.give(*slot)),
@@ -177,7 +177,7 @@ impl Console {
     /// Does what a command says that posts nothing, and goes then.
     fn obey_whole(&mut self, alloc: Global, command: Command) -> Result<Answer, AllocError>
         requires within { IsWithin command }
-        requires none { event_of command ≡ [] }
+        requires none { posts_of command ≡ None }
         ensures { IfOk result (λ answer. Does command self.old answer self.new) }
     {
         let answer = self.obey_silently(alloc, &command);
@@ -192,6 +192,7 @@ impl Console {
     {
         match command {
             Command::Event(event) => self.post_next(alloc, event),
+            Command::Whole(whole) => self.post_whole(alloc, whole),
             Command::Post(collector, seq, event) => self.post(alloc, collector, seq, event),
             other => self.obey_whole(alloc, other),
         }

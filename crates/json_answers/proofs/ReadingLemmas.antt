@@ -253,6 +253,7 @@ reason_shallow why = tt
 
 answer_shallow : (a : Answer) → AreShallow 4 (answer_members a)
 answer_shallow (answer.Reply r) = reply_shallow r
+answer_shallow (answer.AllTaken taken) = (flat 4, (flat 4, (flat 4, tt)))
 answer_shallow (answer.Publication p) = publication_shallow p
 answer_shallow (answer.Row r) = (flat 4, row_shallow r)
 answer_shallow (answer.Net n) = (flat 4, net_shallow n)

@@ -31,6 +31,7 @@ use Rattle.answers.specs.declared.answer.NetAnswer.{NetAnswer}
 use Rattle.answers.specs.declared.answer.NetAnswer.TheVariants as net
 use Rattle.answers.specs.declared.answer.Publication.{Publication}
 use Rattle.answers.specs.declared.answer.Publication.TheVariants as publication
+use Rattle.answers.specs.declared.taken.AllTaken.{AllTaken}
 use Rattle.answers.specs.declared.answer.Reply.{Reply}
 use Rattle.answers.specs.declared.answer.Reply.TheVariants as reply
 use Rattle.answers.specs.declared.answer.RowAnswer.{RowAnswer}
@@ -57,6 +58,10 @@ reply_members (reply.Version n accepted) = word_member (codes "version") ∷ num
 reply_members (reply.Last seq) = numbered_members (codes "last") (codes "sequence") seq
 reply_members reply.Quit = word_member (codes "quit") ∷ []
 reply_members (reply.Watch is_on) = word_member (codes "watch") ∷ text_member (codes "text") (if is_on then codes "on" else codes "off") ∷ []
+
+-- all events of a whole set or point were accepted, under these numbers and those between
+abbrev pub all_taken_members : AllTaken → List Member
+all_taken_members taken = word_member (codes "taken") ∷ number_member (codes "first") taken.first ∷ number_member (codes "last") taken.last ∷ []
 
 -- a status, null if there is no row
 abbrev pub status_value : Option Far → Json
@@ -270,6 +275,7 @@ help_members text = word_member (codes "help") ∷ text_member (codes "text") (a
 -- the members of an answer's object
 abbrev pub answer_members : Answer → List Member
 answer_members (answer.Reply r) = reply_members r
+answer_members (answer.AllTaken taken) = all_taken_members taken
 answer_members (answer.Publication p) = publication_members p
 answer_members (answer.Row r) = row_members r
 answer_members (answer.Net n) = net_members n

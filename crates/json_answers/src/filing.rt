@@ -26,6 +26,7 @@ fn let_go(answer: Answer) {
         Answer::Publication(publication) => let_go_publication(publication),
         Answer::Shown(shown) => drop(shown),
         Answer::Help(text) => drop(text),
+        Answer::AllTaken(taken) => drop(taken),
         Answer::Reply(_) | Answer::Refused(_) => {}
     }
 }

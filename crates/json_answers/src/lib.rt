@@ -12,7 +12,7 @@
 //!    answer before it is told.
 //!
 //! Stands on `answers`, `tokens`, `json`. A change here also changes specs/ (Checks, Filing, Form, Marked, Members, Objects,
-//! Refusals, Shown, Values), proofs/ and must-fail/.
+//! Refusals, Shown, Values), proofs/, must-fail/ and wrong-bodies/.
 #![tactic(auto)]
 
 pub mod checks;

@@ -14,7 +14,7 @@ use crate::members::{after_space, put_text, put_word};
 use crate::moves::put_publication;
 use crate::nets::put_net;
 use crate::refusals::put_reason;
-use crate::replies::put_reply;
+use crate::replies::{put_all_taken, put_reply};
 use crate::rows::put_row;
 use crate::shown::put_shown;
 use crate::told::{Told, put_object};
@@ -38,6 +38,7 @@ impl Told for Answer {
     fn put_members(&self, alloc: Global, writer: &mut Writer) -> Result<(), AllocError> {
         match self {
             Answer::Reply(reply) => put_reply(alloc, writer, reply),
+            Answer::AllTaken(taken) => put_all_taken(writer, taken),
             Answer::Publication(publication) => put_publication(alloc, writer, publication),
             Answer::Row(row) => put_row(alloc, writer, row),
             Answer::Net(net) => put_net(alloc, writer, net),

@@ -2,10 +2,10 @@
 
 ghost use Rattle.std.specs.Prelude.{OnOk};
 ghost use Rattle.json_answers.specs.Members.{Adds, member_tokens};
-ghost use Rattle.json_answers.specs.Objects.{reply_members};
+ghost use Rattle.json_answers.specs.Objects.{all_taken_members, reply_members};
 
 use crate::members::{put_code, put_number, put_numbered, put_text, put_word};
-use answers::Reply;
+use answers::{AllTaken, Reply};
 use json::Writer;
 use point_codes::PointCode;
 use std::alloc::{AllocError, Global};
@@ -64,4 +64,12 @@ pub fn put_reply(alloc: Global, writer: &mut Writer, reply: &Reply) -> Result<()
         Reply::Last(seq) => put_numbered(writer, "last", "sequence", *seq),
         Reply::Quit => put_word(writer, "quit"),
     }
+}
+
+/// Writes the numbers of the first and the last event of a whole set or point.
+pub fn put_all_taken(writer: &mut Writer, taken: &AllTaken) -> Result<(), AllocError>
+    ensures { OnOk result (Adds writer.old writer.new (member_tokens (all_taken_members taken.now))) }
+{
+    put_numbered(writer, "taken", "first", taken.first)?;
+    put_number(writer, "last", taken.last)
 }

@@ -4,9 +4,12 @@ use crate::samples::{change, code, worked};
 use route_state::codes::PointCode;
 use route_state::desks::Version;
 use route_state::marks::{End, LinkChange};
-use route_state::nets::Event;
+use route_state::nets::{Event, Listed, Whole, events_of_whole, refusal_of_whole};
 use route_state::traces::{Hop, Trace, trace};
-use route_state::what_ifs::{Wanted, find_mend, reroutes_by, reroutes_since, what_if as report_on};
+use route_state::what_ifs::{
+    Wanted, find_mend, report_listed, reroutes_by, reroutes_listed, reroutes_since,
+    what_if as report_on,
+};
 use std::alloc::Global;
 
 /// Version 0 of the worked network.
@@ -73,6 +76,22 @@ fn moves(alloc: Global, version: &Version) -> Option<(usize, bool)> {
     Some((reroutes.as_slice().len(), reroutes.counts().lost == 0))
 }
 
+/// How many statuses the failure of a whole set would change, and how many pairs of a point and a destination it would move.
+fn whole_fails(alloc: Global, version: &Version) -> Option<(usize, usize)> {
+    let entries = [Listed::Whole(Whole::Set(4, LinkChange::Fail))];
+    let report = report_listed(alloc, version, &entries).ok()?;
+    let reroutes = reroutes_listed(alloc, version, &entries).ok()?;
+    Some((report.changes.as_slice().len(), reroutes.as_slice().len()))
+}
+
+/// Whether the change of a whole point is that of each of its four links, and nothing refuses it.
+fn is_each_link(alloc: Global) -> Option<bool> {
+    let net = worked(alloc)?;
+    let whole = Whole::Point(code("2-10-2")?, LinkChange::Block(End::First));
+    let events = events_of_whole(alloc, &net, whole).ok()?;
+    Some(refusal_of_whole(&net, whole).is_none() && events.len() == 4)
+}
+
 /// Whether a point that lacks nothing is mended by no link.
 fn lacks_nothing(alloc: Global, version: &Version) -> Option<bool> {
     let (q, x) = (code("2-10-2")?, code("2-1-2")?);
@@ -89,5 +108,6 @@ fn asks(alloc: Global, version: &Version) -> Option<bool> {
 
 /// What events would change and move, what moved, and what would mend a point.
 pub(crate) fn what_ifs(alloc: Global) -> Option<bool> {
-    asks(alloc, &version(alloc)?)
+    let version = version(alloc)?;
+    Some(asks(alloc, &version)? && whole_fails(alloc, &version)? == (1, 2) && is_each_link(alloc)?)
 }

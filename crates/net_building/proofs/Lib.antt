@@ -10,3 +10,4 @@ pub mod SetLemmas
 pub mod PlanLemmas
 pub mod RebuildingLemmas
 pub mod MarkLemmas
+pub mod WholeLemmas

@@ -5,14 +5,18 @@
 //!    Restore, Block and Inhibit of the first and of the second end; SetPlan for each plan (own).
 //! 2. None of them is refused, and together they make the network.
 //! 3. The events of a set are made here, and events are applied one after the other, up to the first refusal.
+//! 4. The change of a whole set or point means the change of each link of the set, or of all sets that end at the point; of a point
+//!    the first end is its own. It is refused 17 NoSet or 10 NoPoint if there is none; none of its events is refused.
 //!
-//! Stands on `net_data`. A change here also changes specs/ (Building), proofs/ and must-fail/.
+//! Stands on `net_data`. A change here also changes specs/ (Building, Wholes), proofs/, must-fail/ and wrong-bodies/.
 #![tactic(auto)]
 
 mod applying;
 pub mod laws;
 mod sets;
+mod wholes;
 
-pub use applying::apply_events;
+pub use applying::{apply_each, apply_events};
 pub use laws::rebuilt_law;
 pub use sets::events_of_set;
+pub use wholes::{Listed, Whole, events_of_listed, events_of_whole, refusal_of_whole};

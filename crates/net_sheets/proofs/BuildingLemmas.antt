@@ -8,21 +8,8 @@ use Rattle.net_data.specs.declared.events.Refusal.{Refusal}
 use Rattle.net_data.specs.declared.events.Refusal.TheVariants.{OutOfMemory}
 use Rattle.net_data.specs.Network.{Network}
 use Rattle.net_data.specs.Edits.{refusal_of, changed, apply_all, unless_refused, IsAnswer, Answers}
+use Rattle.net_building.proofs.StepLemmas.{apply_append}
 use Rattle.net_sheets.specs.Events.{is_named, pair_event, pair_events_after}
-
--- events that are accepted, and those after them
-pub apply_append : (net mid : Network) (es fs : List Event) → apply_all net es ≡ Ok mid → apply_all net (es ++ fs) ≡ apply_all mid fs
-apply_append net mid [] fs h = ap (λ r. after r fs) h
-  where
-    after : Result Network Refusal → List Event → Result Network Refusal
-    after (Ok n) gs = apply_all n gs
-    after (Err e) gs = Err e
-apply_append net mid (e ∷ es) fs h = go (refusal_of net e) refl (apply_append (changed net e) mid es fs)
-  where
-    go : (o : Option Refusal) → refusal_of net e ≡ o → (apply_all (changed net e) es ≡ Ok mid → apply_all (changed net e) (es ++ fs) ≡ apply_all mid fs)
-        → unless_refused (refusal_of net e) (apply_all (changed net e) (es ++ fs)) ≡ apply_all mid fs
-    go (Some r) t next = absurd (cc (rw t at h))
-    go None t next = rw t (next (rw t at h))
 
 -- the events of one more element
 pub apply_more : {X : Type 0} (f : X → List Event) (net mid : Network) (xs : List X) (i : ℕ) (d : X) (total : Result Network Refusal) → i < length xs → apply_all net (f (get_or xs i d)) ≡ Ok mid

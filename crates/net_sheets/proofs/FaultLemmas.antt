@@ -20,7 +20,8 @@ use Rattle.net_sheets.specs.Tables.{Fields, points_header, routes_header, row_ro
 use Rattle.net_sheets.specs.Values.{Read, point_of, route_of, Holds}
 use Rattle.net_sheets.specs.Events.{pair_events_after, AddsPlans}
 use Rattle.net_sheets.specs.Faults.{IsFieldFault, IsRefusal, IsUnranked, IsPlanFault, StopsAt, IsRoutesFault, IsTextFault, IsPointsFault, IsRoutesTextFault, Refuses}
-use Rattle.net_sheets.proofs.BuildingLemmas.{apply_append, stop_append}
+use Rattle.net_building.proofs.StepLemmas.{apply_append}
+use Rattle.net_sheets.proofs.BuildingLemmas.{stop_append}
 
 pub where_err : {A : Type 0} (r : Result A LineFault) (P Q : Reason → Type 0) → ((reason : Reason) → P reason → Q reason) → IfErr r (λ fault. P fault.reason) → IfErr r (λ fault. Q fault.reason)
 where_err (Ok x) P Q f h = tt

@@ -13,7 +13,7 @@ use Rattle.net_sheets.specs.Tables.{Fields, points_header, sets_header, routes_h
 use Rattle.net_sheets.specs.Records.{IsTable}
 use Rattle.net_sheets.specs.Values.{Read, point_of, set_of, route_of, all_read, Holds}
 use Rattle.net_sheets.specs.Events.{IsRankedPlan, pair_events_after, empty_net, AddsPoints, AddsSets, AddsPlans, AddsRoutes, Says}
-use Rattle.net_sheets.proofs.BuildingLemmas.{apply_append}
+use Rattle.net_building.proofs.StepLemmas.{apply_append}
 use Rattle.net_sheets.proofs.PlanLemmas.{rest_from}
 
 pub where_ok : {A B : Type 0} (r : Result A B) (P Q : Type 0) → (P → Q) → OnOk r P → OnOk r Q

@@ -146,7 +146,12 @@ pub fn put_missing_row(
 }
 
 /// Adds what a network lacks of what is to be shown of it; nothing if it has that.
-fn put_lacking(alloc: Global, text: &mut String, net: &Net, what: Show) -> Result<(), AllocError> {
+pub fn put_lacking(
+    alloc: Global,
+    text: &mut String,
+    net: &Net,
+    what: Show,
+) -> Result<(), AllocError> {
     match what {
         Show::Set(id) => put_missing_set(alloc, text, net, id),
         Show::Point(code) => {

@@ -3,13 +3,15 @@
 use crate::missing::{put_missing_row, put_missing_shown};
 use crate::saying::write_bytes;
 use crate::standing::put_standing;
-use crate::tried::write_tried;
+use crate::tried::{write_missing_whole, write_tried};
 use answers::{Asked, Reason};
 use explanations::explain_reason;
-use net_data::{Event, Net};
+use net_building::Whole;
+use net_data::{Event, Net, Refusal as EditRefusal};
 use point_codes::PointCode;
 use script_words::{Command, Events, Form, Show, form_of, read_line};
 use std::alloc::{AllocError, Global};
+use work_units::Refusal;
 
 /// What a script begins with that some editors put there.
 const BYTE_ORDER_MARK: char = '\u{feff}';
@@ -239,6 +241,17 @@ fn shown_in(command: &Command) -> Option<Show> {
     }
 }
 
+/// What stands in a network against the change of a whole set or point, in text; empty if that can't be told.
+fn write_whole(alloc: Global, net: &Net, whole: &Whole, why: Reason) -> Result<String, AllocError> {
+    match (whole, why) {
+        (Whole::Point(code, _), Reason::Desk(Refusal::Edit(EditRefusal::NoSet))) => {
+            let code = *code;
+            format!(in alloc; "{code} is an end of no link set")
+        }
+        _ => write_missing_whole(alloc, net, whole),
+    }
+}
+
 /// What stands in a network against a command that is refused, in text; empty if that can't be told.
 fn write_about(
     alloc: Global,
@@ -248,6 +261,9 @@ fn write_about(
 ) -> Result<String, AllocError> {
     if let (Some(events), Reason::Event(refused)) = (tried_in(command), why) {
         return write_tried(alloc, net, events.as_slice(), &refused);
+    }
+    if let Command::Whole(whole) = command {
+        return write_whole(alloc, net, whole, why);
     }
     if let Some(what) = shown_in(command) {
         return write_missing_shown(alloc, net, what);

@@ -2,5 +2,5 @@
 
 pub use what_if::{
     Change, Changes, Mend, Refused, Report, Reroute, RerouteCounts, Reroutes, SetLink, Wanted,
-    find_mend, reroutes_by, reroutes_since, what_if,
+    find_mend, report_listed, reroutes_by, reroutes_listed, reroutes_since, what_if,
 };

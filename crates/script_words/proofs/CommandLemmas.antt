@@ -1,14 +1,14 @@
 -- The first words of commands, and forms of another number of words.
 use Rattle.std.proofs.Common.{arith, ◌≡◌, ℕ, ◌-◌, ◌<◌, ◌≤◌, Bor, List, [], ◌∷◌, length, get_or, take, drop, Option, Some, None, option_map, refl, ap, sym, ◌∙◌}
 use Rattle.std.proofs.lemmas.List.{take_all}
-use Rattle.net_data.specs.declared.events.Event.{Event}
 use Rattle.script_words.specs.declared.commands.Command.{Command}
 use Rattle.script_words.specs.declared.questions.Question.{Question}
 use Rattle.script_words.specs.declared.verbs.Verb.{Verb}
 use Rattle.script_words.specs.declared.verbs.Verb.TheVariants as verb
 use Rattle.tokens.proofs.WordsLemmas.{nows}
-use Rattle.script_words.specs.Events.{verb_of, event_by}
-use Rattle.script_words.specs.Commands.{post_of, about_of, octets_of, trace_of, command_word_of, command_of}
+use Rattle.script_words.specs.Events.{verb_of}
+use Rattle.script_words.specs.Wholes.{listed_by, whole_by}
+use Rattle.script_words.specs.Commands.{post_of, about_of, octets_of, trace_of, command_listed, command_word_of, command_of}
 use Rattle.script_words.proofs.VerbLemmas.{verb_word, verb_reads}
 
 -- ---- the first word
@@ -32,12 +32,12 @@ verb_alone verb.Tfr = refl
 pub no_command_word : (text : List ℕ) (v : Verb) → verb_of text ≡ Some v → command_word_of text ≡ None
 no_command_word text v e = ap command_word_of (verb_reads text v e) ∙ verb_alone v
 
--- an event that was read by its first word is the command of the words
-pub event_command : (ws : List (Bor (List ℕ))) (d : Bor (List ℕ)) (v : Verb) (event : Option Event) (command : Option Command) → 1 ≤ length ws → Some v ≡ verb_of (get_or ws 0 d).now
-    → event ≡ event_by v (nows (take (length ws - 1) (drop 1 ws))) → command ≡ option_map (λ e. Command.Event e) event → command ≡ command_of (nows ws)
-event_command [] d v event command some verb_is read made = absurd (omega arith)
-event_command (w ∷ ws) d v event command some verb_is read made =
-    made ∙ ap (option_map (λ e. Command.Event e)) (read ∙ ap (λ l. event_by v (nows l)) (take_all (length (w ∷ ws) - 1) ws (omega arith)))
+-- what was read by the first word of an event is the command of the words
+pub said_command : (ws : List (Bor (List ℕ))) (d : Bor (List ℕ)) (v : Verb) (command : Option Command) → 1 ≤ length ws → Some v ≡ verb_of (get_or ws 0 d).now
+    → command ≡ option_map command_listed (listed_by v (nows (take (length ws - 1) (drop 1 ws)))) → command ≡ command_of (nows ws)
+said_command [] d v command some verb_is read = absurd (omega arith)
+said_command (w ∷ ws) d v command some verb_is read =
+    read ∙ ap (λ l. option_map command_listed (listed_by v (nows l))) (take_all (length (w ∷ ws) - 1) ws (omega arith))
     ∙ rw (no_command_word w.now v (sym verb_is), ← verb_is) refl
 
 -- ---- forms
@@ -46,6 +46,11 @@ pub no_post : (ws : List (Bor (List ℕ))) → length ws < 2 → None ≡ post_o
 no_post [] h = refl
 no_post (a ∷ []) h = refl
 no_post (a ∷ b ∷ ws) h = absurd (omega arith)
+
+pub no_whole : (v : Verb) (ws : List (Bor (List ℕ))) → length ws < 2 → None ≡ whole_by v (nows ws)
+no_whole v [] h = refl
+no_whole v (a ∷ []) h = refl
+no_whole v (a ∷ b ∷ ws) h = absurd (omega arith)
 
 pub no_about : (asked : Question) (ws : List (Bor (List ℕ))) → (length ws ≡ 2 → ⊥) → None ≡ about_of asked (nows ws)
 no_about asked [] h = refl

@@ -12,8 +12,9 @@ use Rattle.tokens.proofs.MarkedLemmas.{bytes_same}
 use Rattle.script_words.specs.declared.commands.Command.{Command}
 use Rattle.script_words.specs.declared.command_words.CommandWord.{CommandWord}
 use Rattle.script_words.specs.declared.verbs.Verb.{Verb}
-use Rattle.script_words.specs.Events.{verb_of, event_by}
-use Rattle.script_words.specs.Commands.{desk_word_of, command_word_of, command_by, command_of}
+use Rattle.script_words.specs.Events.{verb_of}
+use Rattle.script_words.specs.Wholes.{listed_by}
+use Rattle.script_words.specs.Commands.{desk_word_of, command_listed, command_word_of, command_by, command_of}
 use Rattle.script_words.specs.Forms.{FormValue, IsExample, IsListed, command_forms, is_of}
 
 -- the value that is there
@@ -108,7 +109,7 @@ command_word_found word =
     (found_or word (codes "why") _ _ refl (found_or word (codes "mend") _ _ refl (found_or word (codes "remedy") _ _ refl (found_or word (codes "trace") _ _ refl (desk_word_found word))))))))
 
 first_found : (word : List ℕ) (rest : List (List ℕ)) (other : Option CommandWord) (verb : Option Verb) → (IsSome other → IsFound word) → (IsSome verb → IsFound word)
-    → IsSome (option_map_or (λ w. command_by w rest) other (option_map (λ event. Command.Event event) (option_and_then (λ v. event_by v rest) verb))) → IsFound word
+    → IsSome (option_map_or (λ w. command_by w rest) other (option_map command_listed (option_and_then (λ v. listed_by v rest) verb))) → IsFound word
 first_found word rest (Some other) verb by_other by_verb h = by_other refl
 first_found word rest None (Some verb) by_other by_verb h = by_verb refl
 first_found word rest None None by_other by_verb h = absurd (false≢true h)

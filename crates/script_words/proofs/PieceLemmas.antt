@@ -6,11 +6,11 @@ use Rattle.std.proofs.lemmas.List.Sums.{fails_before_first}
 use Rattle.std.proofs.lemmas.List.Splits.{slice_split_none, slice_split_first}
 use Rattle.std.specs.List.{position_or_len, slice_split, onto_first}
 use Rattle.std.specs.Str.{bytes_eq}
-use Rattle.net_data.specs.declared.events.Event.{Event}
+use Rattle.net_building.specs.declared.wholes.Listed.{Listed}
 use Rattle.tokens.specs.Pieces.{all_of}
 use Rattle.tokens.proofs.PiecesLemmas.{onto, onto_more}
 use Rattle.tokens.proofs.WordsLemmas.{nows}
-use Rattle.script_words.specs.Events.{event_of}
+use Rattle.script_words.specs.Wholes.{listed_of}
 use Rattle.script_words.specs.Commands.{pieces_at}
 
 abbrev Words : Type 0
@@ -78,20 +78,20 @@ piece_next ws n i e =
 pub piece_end : (ws : Words) (n : ℕ) → position is_stop (take (length ws - n) (drop n ws)) ≡ None → pieces_at (nows (drop n ws)) ≡ nows (take (length ws - n) (drop n ws)) ∷ []
 piece_end ws n e = pieces_last (drop n ws) (ap (λ l. position is_stop l) (sym (rest_whole ws n)) ∙ e) ∙ ap (λ l. nows l ∷ []) (sym (rest_whole ws n))
 
--- ---- events read piece by piece
+-- ---- a list read piece by piece
 
--- the events of a first piece and of more pieces
-abbrev all_with : Option Event → Option (List Event) → Option (List Event)
+-- what a first piece says, and more pieces
+abbrev all_with : Option Listed → Option (List Listed) → Option (List Listed)
 all_with first more = option_and_then (λ e. option_map (λ es. e ∷ es) more) first
 
-module _ (es : List Event) (whole : Option (List Event)) where
-  pub event_more : (e : Event) (p : List (List ℕ)) (text rest : List (List (List ℕ))) → text ≡ p ∷ rest → event_of p ≡ Some e → onto es (all_of event_of text) ≡ whole → onto (es ++ e ∷ []) (all_of event_of rest) ≡ whole
-  event_more e p text rest split read h =
-      onto_more es e (all_of event_of rest) ∙ ap (λ o. onto es (all_with o (all_of event_of rest))) (sym read) ∙ ap (λ t. onto es (all_of event_of t)) (sym split) ∙ h
+module _ (es : List Listed) (whole : Option (List Listed)) where
+  pub listed_more : (e : Listed) (p : List (List ℕ)) (text rest : List (List (List ℕ))) → text ≡ p ∷ rest → listed_of p ≡ Some e → onto es (all_of listed_of text) ≡ whole → onto (es ++ e ∷ []) (all_of listed_of rest) ≡ whole
+  listed_more e p text rest split read h =
+      onto_more es e (all_of listed_of rest) ∙ ap (λ o. onto es (all_with o (all_of listed_of rest))) (sym read) ∙ ap (λ t. onto es (all_of listed_of t)) (sym split) ∙ h
 
-  pub event_none : (p : List (List ℕ)) (text rest : List (List (List ℕ))) → text ≡ p ∷ rest → event_of p ≡ None → onto es (all_of event_of text) ≡ whole → None ≡ whole
-  event_none p text rest split read h =
-      ap (λ o. onto es (all_with o (all_of event_of rest))) (sym read) ∙ ap (λ t. onto es (all_of event_of t)) (sym split) ∙ h
+  pub listed_none : (p : List (List ℕ)) (text rest : List (List (List ℕ))) → text ≡ p ∷ rest → listed_of p ≡ None → onto es (all_of listed_of text) ≡ whole → None ≡ whole
+  listed_none p text rest split read h =
+      ap (λ o. onto es (all_with o (all_of listed_of rest))) (sym read) ∙ ap (λ t. onto es (all_of listed_of t)) (sym split) ∙ h
 
-  pub event_last : (e : Event) (p : List (List ℕ)) (text : List (List (List ℕ))) → text ≡ p ∷ [] → event_of p ≡ Some e → onto es (all_of event_of text) ≡ whole → Some (es ++ e ∷ []) ≡ whole
-  event_last e p text split read h = ap Some (sym (append-nil (es ++ e ∷ []))) ∙ event_more e p text [] split read h
+  pub listed_last : (e : Listed) (p : List (List ℕ)) (text : List (List (List ℕ))) → text ≡ p ∷ [] → listed_of p ≡ Some e → onto es (all_of listed_of text) ≡ whole → Some (es ++ e ∷ []) ≡ whole
+  listed_last e p text split read h = ap Some (sym (append-nil (es ++ e ∷ []))) ∙ listed_more e p text [] split read h

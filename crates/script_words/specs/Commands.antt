@@ -4,10 +4,12 @@ use Rattle.std.specs.List.{slice_split}
 use Rattle.std.specs.Option.{option_map_or}
 use Rattle.std.specs.Str.{bytes_eq, is_utf8}
 use Rattle.point_codes.specs.Codes.{code_of}
-use Rattle.net_data.specs.declared.events.Event.{Event}
+use Rattle.net_building.specs.declared.wholes.Listed.{Listed}
+use Rattle.net_building.specs.declared.wholes.Listed.TheVariants as listed
 use Rattle.tokens.specs.Numbers.{id_of}
 use Rattle.tokens.specs.Pieces.{all_of}
 use Rattle.script_words.specs.Events.{event_of}
+use Rattle.script_words.specs.Wholes.{listed_of}
 use Rattle.script_words.specs.declared.questions.Question.{Question}
 use Rattle.script_words.specs.declared.questions.Question.TheVariants.{Status, Links, Messages, Octets, Why, Mend, MendAllowed, Remedy, RemedyAllowed}
 use Rattle.script_words.specs.declared.shows.Show.{Show}
@@ -116,9 +118,9 @@ save_of _ = None
 abbrev pub pieces_at : List (List ℕ) → List (List (List ℕ))
 pieces_at words = slice_split (λ w. bytes_eq w (codes ";")) words
 
--- `EVENT ; EVENT ..`: the events of the pieces, if each is one
-abbrev pub events_of : List (List ℕ) → Option (List Event)
-events_of words = all_of event_of (pieces_at words)
+-- `EVENT ; EVENT ..`: what the pieces say, if each is an event, or the change of a whole set or point
+abbrev pub events_of : List (List ℕ) → Option (List Listed)
+events_of words = all_of listed_of (pieces_at words)
 
 -- the first word of a command that is neither an event nor a question about a row
 abbrev pub desk_word_of : List ℕ → Option CommandWord
@@ -211,10 +213,15 @@ command_by word.Picture rest = picture_of rest
 -- `save FILE`
 command_by word.Save rest = save_of rest
 
--- the command that the words of a line say: by its first word if that is a command's, else the line is an EVENT
+-- an event is a command, and so is the change of a whole set or point
+abbrev pub command_listed : Listed → Command
+command_listed (listed.Event event) = Command.Event event
+command_listed (listed.Whole changed) = Command.Whole changed
+
+-- the command that the words of a line say: by its first word if that is a command's, else the line is an EVENT, or the change of a whole set or point
 abbrev pub command_of : List (List ℕ) → Option Command
 command_of (first ∷ rest) =
-    option_map_or (λ w. command_by w rest) (command_word_of first) (option_map (λ event. Command.Event event) (event_of (first ∷ rest)))
+    option_map_or (λ w. command_by w rest) (command_word_of first) (option_map command_listed (listed_of (first ∷ rest)))
 command_of [] = None
 
 -- the slot, or the signalling link selection, is within its range

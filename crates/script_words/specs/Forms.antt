@@ -25,10 +25,10 @@ command_forms =
     record { word = codes "unblock"; form = codes "unblock ID SLC END"; example = codes "unblock 2 0 b" } ∷
     record { word = codes "inhibit"; form = codes "inhibit ID SLC END"; example = codes "inhibit 2 0 a" } ∷
     record { word = codes "uninhibit"; form = codes "uninhibit ID SLC END"; example = codes "uninhibit 2 0 a" } ∷
-    record { word = codes "point"; form = codes "point add CODE KIND or point drop CODE"; example = codes "point add 2-1-3 sep" } ∷
+    record { word = codes "point"; form = codes "point add CODE KIND or point drop CODE or point CHANGE CODE END"; example = codes "point fail 2-10-1" } ∷
     record { word = codes "pair"; form = codes "pair CODE CODE"; example = codes "pair 2-10-1 2-10-2" } ∷
     record { word = codes "unpair"; form = codes "unpair CODE"; example = codes "unpair 2-10-1" } ∷
-    record { word = codes "set"; form = codes "set add ID CODE CODE SLC SLC .. or set drop ID"; example = codes "set add 3 2-1-3 2-10-1 0 1" } ∷
+    record { word = codes "set"; form = codes "set add ID CODE CODE SLC SLC .. or set drop ID or set CHANGE ID END"; example = codes "set fail 2" } ∷
     record { word = codes "link"; form = codes "link add ID SLC or link drop ID SLC"; example = codes "link add 2 1" } ∷
     record { word = codes "plan"; form = codes "plan set CODE ROW ROW .. or plan drop CODE"; example = codes "plan set 2-1-2 2-1-1:2:2-10-1 2-10-1:1:2-1-2" } ∷
     record { word = codes "tfr"; form = codes "tfr on or tfr off"; example = codes "tfr off" } ∷
@@ -51,8 +51,8 @@ command_forms =
     record { word = codes "mend"; form = codes "mend Y X or mend allowed Y X"; example = codes "mend 2-1-1 2-1-2" } ∷
     record { word = codes "remedy"; form = codes "remedy Y X or remedy allowed Y X"; example = codes "remedy allowed 2-1-1 2-1-2" } ∷
     record { word = codes "trace"; form = codes "trace Y X S"; example = codes "trace 2-1-1 2-1-2 0" } ∷
-    record { word = codes "whatif"; form = codes "whatif EVENT ; EVENT .."; example = codes "whatif fail 2 0 ; inhibit 1 0 a" } ∷
-    record { word = codes "reroutes"; form = codes "reroutes EVENT ; EVENT .."; example = codes "reroutes fail 2 0 ; inhibit 1 0 a" } ∷
+    record { word = codes "whatif"; form = codes "whatif EVENT ; EVENT .."; example = codes "whatif set fail 2 ; inhibit 1 0 a" } ∷
+    record { word = codes "reroutes"; form = codes "reroutes EVENT ; EVENT .."; example = codes "reroutes point fail 2-10-1 ; restore 2 0" } ∷
     record { word = codes "picture"; form = codes "picture FILE or picture FILE X"; example = codes "picture net.svg 2-1-2" } ∷
     record { word = codes "save"; form = codes "save FILE"; example = codes "save net.toml" } ∷
     record { word = codes "changes"; form = codes "changes or changes N"; example = codes "changes 2" } ∷

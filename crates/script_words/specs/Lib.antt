@@ -1,4 +1,5 @@
 pub mod Events
+pub mod Wholes
 pub mod EventWords
 pub mod Numbers
 pub mod Commands

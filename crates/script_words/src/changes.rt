@@ -30,7 +30,7 @@ pub fn read_change(change: LinkChange, words: &[&[u8]]) -> Option<Event>
 }
 
 /// The first of two changes at `a`, the second at `b`.
-fn pick_change(first: LinkChange, second: LinkChange, word: &[u8]) -> Option<LinkChange>
+pub(crate) fn pick_change(first: LinkChange, second: LinkChange, word: &[u8]) -> Option<LinkChange>
     ensures { result ≡ at_end first second word.now }
 {
     if is_word(word, "a") {

@@ -4,43 +4,44 @@ ghost use Rattle.std.specs.Prelude.{◌≡◌, string_bytes};
 
 use crate::questions::Question;
 use crate::shows::Show;
+use net_building::{Listed, Whole};
 use net_data::Event;
 use point_codes::PointCode;
 use std::marker::Model;
 
-/// Some events, in their order.
+/// A list of events, in their order, in which the changes of whole sets and points may stand.
 #[derive(Drop)]
 pub struct Events {
-    list: Vec<Event>,
+    list: Vec<Listed>,
 }
 
 impl Model for Events {
     ghost use Rattle.std.specs.Prelude.{List};
-    ghost use Rattle.net_data.specs.declared.events.Event.{Event};
+    ghost use Rattle.net_building.specs.declared.wholes.Listed.{Listed};
 
-    ghost Value = { List Event };
+    ghost Value = { List Listed };
 
     ghost view = { λ events. events.list.items };
 }
 
 impl Events {
-    /// These events.
-    pub fn from_vec(list: Vec<Event>) -> Events
+    /// The list of these.
+    pub fn from_vec(list: Vec<Listed>) -> Events
         ensures { result ≡ list.items }
     {
         Events { list }
     }
 
-    /// The events in a vector. It takes no memory.
-    pub fn into_vec(self) -> Vec<Event>
+    /// What stands there in a vector. It takes no memory.
+    pub fn into_vec(self) -> Vec<Listed>
         ensures { result.items ≡ self }
     {
         let Events { list } = self;
         list
     }
 
-    /// The events as a slice.
-    pub fn as_slice(&self) -> &[Event]
+    /// What stands there as a slice.
+    pub fn as_slice(&self) -> &[Listed]
         ensures { result.now ≡ self.now }
     {
         self.list.as_slice()
@@ -82,6 +83,8 @@ impl FileName {
 pub enum Command {
     /// An event, posted by collector 0.
     Event(Event),
+    /// The change of a whole set or point: its events, posted by collector 0 one after the other.
+    Whole(Whole),
     /// A post: the collector, its sequence number, the event.
     Post(u8, u64, Event),
     /// The opening of a target.

@@ -49,8 +49,8 @@ const FORMS: &[Form] = &[
     },
     Form {
         word: "point",
-        form: "point add CODE KIND or point drop CODE",
-        example: "point add 2-1-3 sep",
+        form: "point add CODE KIND or point drop CODE or point CHANGE CODE END",
+        example: "point fail 2-10-1",
     },
     Form {
         word: "pair",
@@ -64,8 +64,8 @@ const FORMS: &[Form] = &[
     },
     Form {
         word: "set",
-        form: "set add ID CODE CODE SLC SLC .. or set drop ID",
-        example: "set add 3 2-1-3 2-10-1 0 1",
+        form: "set add ID CODE CODE SLC SLC .. or set drop ID or set CHANGE ID END",
+        example: "set fail 2",
     },
     Form {
         word: "link",
@@ -180,12 +180,12 @@ const FORMS: &[Form] = &[
     Form {
         word: "whatif",
         form: "whatif EVENT ; EVENT ..",
-        example: "whatif fail 2 0 ; inhibit 1 0 a",
+        example: "whatif set fail 2 ; inhibit 1 0 a",
     },
     Form {
         word: "reroutes",
         form: "reroutes EVENT ; EVENT ..",
-        example: "reroutes fail 2 0 ; inhibit 1 0 a",
+        example: "reroutes point fail 2-10-1 ; restore 2 0",
     },
     Form {
         word: "picture",

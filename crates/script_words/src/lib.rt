@@ -28,11 +28,13 @@
 //!     at least one EVENT.
 //! 13. Words are read exactly if they are what is written of their event or command: no other word, and none too many or
 //!     too few. Only a change of the first end has two forms, with `a` and without.
-//! 14. One table has each word that begins a command, the form of its commands and an example, and `help` besides, which begins
+//! 14. `set CHANGE ID` and `point CHANGE CODE`, with `END` or without, may stand in the place of an EVENT in such a list and as a line of
+//!     their own: the change of a whole set or point. CHANGE is the first word of a change of a link.
+//! 15. One table has each word that begins a command, the form of its commands and an example, and `help` besides, which begins
 //!     none. A new command is a new entry, and `forms_law` isn't proved without it.
 //!
-//! Stands on `net_data`, `tokens`. A change here also changes specs/ (Commands, EventWords, Events, Forms, Numbers), proofs/ and
-//! must-fail/.
+//! Stands on `net_data`, `tokens`. A change here also changes specs/ (Commands, EventWords, Events, Forms, Numbers, Wholes), proofs/ and
+//! wrong-bodies/.
 #![tactic(auto)]
 
 mod changes;
@@ -51,6 +53,7 @@ pub mod questions;
 pub mod shows;
 mod verbs;
 mod what_ifs;
+mod wholes;
 mod words;
 
 pub use commands::{Command, Events, FileName};

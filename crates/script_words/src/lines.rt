@@ -1,8 +1,9 @@
 //! The command of a line.
 
-ghost use Rattle.std.specs.Prelude.{◌≡◌, ◌≢◌, ◌<◌, map, IfOk, IfSome};
+ghost use Rattle.std.specs.Prelude.{◌≡◌, ◌≢◌, ◌<◌, map, option_map, IfOk, IfSome};
 ghost use Rattle.tokens.specs.Words.{words_of};
-ghost use Rattle.script_words.specs.Commands.{IsWithin, alone, collector_alone, slot_alone, switch_of, post_of, command_by, command_of, version_asked};
+ghost use Rattle.script_words.specs.Commands.{IsWithin, alone, collector_alone, command_listed, slot_alone, switch_of, post_of, command_by, command_of, version_asked};
+ghost use Rattle.script_words.specs.Wholes.{listed_by};
 
 use crate::command_words::{CommandWord, read_command_word};
 use crate::commands::Command;
@@ -13,8 +14,9 @@ use crate::queries::{read_about, read_either, read_octets, read_trace};
 use crate::questions::Question;
 use crate::read_event;
 use crate::shows::{read_show, read_statuses};
-use crate::verbs::read_verb;
+use crate::verbs::{Verb, read_verb};
 use crate::what_ifs::read_events;
+use crate::wholes::read_whole_by;
 use crate::words::is_word;
 use std::alloc::{AllocError, Global};
 use tokens::split_words;
@@ -155,6 +157,17 @@ fn read_by(alloc: Global, word: CommandWord, rest: &[&[u8]]) -> Result<Option<Co
     }
 }
 
+/// The command of the first word of an event and the words after it: an event, or the change of a whole set or point.
+fn read_said(alloc: Global, verb: Verb, rest: &[&[u8]]) -> Result<Option<Command>, AllocError>
+    ensures value { IfOk result (λ command. command ≡ option_map command_listed (listed_by verb (map (λ w. w.now) rest.now))) }
+    ensures within { IfOk result (λ command. IfSome command IsWithin) }
+{
+    if let Some(event) = read_event_by(alloc, verb, rest)? {
+        return Ok(Some(Command::Event(event)));
+    }
+    Ok(read_whole_by(verb, rest).map(Command::Whole))
+}
+
 /// The command that the words of a line say, if they say one.
 fn read_command(alloc: Global, words: &[&[u8]]) -> Result<Option<Command>, AllocError>
     ensures value { IfOk result (λ command. command ≡ command_of (map (λ w. w.now) words.now)) }
@@ -165,7 +178,7 @@ fn read_command(alloc: Global, words: &[&[u8]]) -> Result<Option<Command>, Alloc
     };
     // No word begins both an event and another command, and most lines are events.
     if let Some(verb) = read_verb(*word) {
-        return Ok(read_event_by(alloc, verb, rest)?.map(Command::Event));
+        return read_said(alloc, verb, rest);
     }
     match read_command_word(*word) {
         Some(word) => read_by(alloc, word, rest),

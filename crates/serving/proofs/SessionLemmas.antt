@@ -2,13 +2,15 @@
 use Rattle.std.proofs.Common.{◌≡◌, ◌≢◌, ℕ, Bool, true, false, List, [], ◌∷◌, ◌++◌, Option, Some, None, Result, Ok, Err, inl, inr, refl, sym, ap, ◌∙◌, subst, append-nil, append_assoc}
 use Rattle.std.specs.Prelude.{◌⊎◌, OnErr, OnOk}
 use mathlib.Core.List.{IsPrefix}
+use Rattle.net_building.specs.declared.wholes.Listed.{Listed}
+use Rattle.net_building.specs.declared.wholes.Listed.TheVariants as listed
 use Rattle.net_data.specs.declared.events.Event.{Event}
 use Rattle.net_data.specs.Network.{Network}
 use Rattle.net_versions.specs.Versions.{VersionValue}
 use Rattle.desk_core.specs.declared.steps.Reply.TheVariants as reply
 use Rattle.desk_core.specs.Runs.{event_taken}
 use Rattle.answers.specs.declared.answer.Answer.{Answer}
-use Rattle.desk_console.specs.Taken.{taken_at}
+use Rattle.desk_console.specs.Taken.{posts_by, taken_at}
 use Rattle.sessions.specs.Lines.{is_silent, is_too_long, lines_of, trimmed, whole_lines}
 use Rattle.sessions.specs.Replies.{Answered, Answers, AreTexts, IsReply, Replies}
 use Rattle.sessions.specs.Run.{IsBegun, IsCutAt, IsEndAt, IsFrontOf}
@@ -16,30 +18,22 @@ use Rattle.sessions.specs.declared.faults.Fault.{Fault}
 use Rattle.sessions.specs.declared.faults.Fault.TheVariants.{OutOfMemory, Read, Write, NoPlace, Load}
 use Rattle.seats.specs.Minutes.{OnlyOthersSince, SeatValue}
 use Rattle.seats.specs.declared.rule.Sight.{Sight}
-use Rattle.versions.specs.Working.{Comes, IsHistory, IsWholeHistory, last_sight, left_at}
+use Rattle.versions.specs.Working.{Comes, IsHistory, IsWholeHistory, left_at}
 use Rattle.versions.specs.declared.state.DeskAndChain.{DeskAndChain}
 use Rattle.versions.proofs.SeatLemmas.{came_last}
-use Rattle.histories.specs.Histories.{Authored, IsEnded, IsOpened, IsSeen, authored, authored_in, events_by, own_events}
+use Rattle.histories.specs.Histories.{Authored, IsEnded, IsOpened, IsSeen, authored_in, events_by, own_events}
 use Rattle.histories.proofs.CountLemmas.{IsPosted, post_is}
 use Rattle.histories.proofs.EventLemmas.{post_events}
-use Rattle.histories.proofs.ExplainLemmas.{authored_append, come_own, did_own, others_leave}
-use Rattle.histories.proofs.SeenLemmas.{ended, nth_later, opened_more, seen_in}
+use Rattle.histories.proofs.ExplainLemmas.{come_own, did_own, others_leave}
+use Rattle.histories.proofs.SeenLemmas.{ended, seen_in}
 use Rattle.beside.specs.Beside.{BesideValue, StartsBeside}
-use Rattle.beside.specs.Seats.{Came, CamePosting, Goes, posted_by}
+use Rattle.beside.specs.Seats.{Came, CamePosting, Goes, TakesEach, TakesNone}
 use Rattle.beside.specs.Right.{Moment, told_in}
 use Rattle.serving.specs.Seated.{CommandsAs, CommandsSeated, KeepsRules, LosesSeated, SeatedValue}
-use Rattle.serving.specs.Served.{AreSeen, AreTold, AreWritten, IsLost, IsToldSession, lines_in, taken_of}
+use Rattle.serving.specs.Served.{AreSeen, AreTold, AreWritten, IsLost, IsPosted as IsPart, IsToldSession, first_number, lines_in, taken_of}
 use Rattle.serving.specs.Sittings.{Sits, final_fault}
 use Rattle.beside.proofs.BesideLemmas.{prefix_then}
-use Rattle.serving.proofs.LineLemmas.{LineTold, history_done, line_told, saw_came, saw_left}
-
--- the events of a part of a history begin those of the whole
-authored_grown : (saw log : List (Sight DeskAndChain)) → IsHistory saw → IsPrefix saw log → IsPrefix (authored_in saw) (authored_in log)
-authored_grown [] log is p = absurd is
-authored_grown (x ∷ xs) log is p = (authored (last_sight x xs) p.0, sym (authored_append x xs p.0) ∙ ap authored_in p.1)
-
-opened_later : (start : Network) (saw log : List (Sight DeskAndChain)) → IsOpened start saw → IsPrefix saw log → IsOpened start log
-opened_later start saw log opened p = subst (IsOpened start) p.1 (opened_more start saw p.0 opened)
+use Rattle.serving.proofs.LineLemmas.{LineTold, authored_grown, history_done, line_told, numbered_later, opened_later, saw_came, saw_left}
 
 -- who answers knows more of the same history
 record Grows (b new : BesideValue) : Type 0 where
@@ -117,14 +111,9 @@ module _ (start : Network) (seats : ℕ) (posts : Bool) (collector : ℕ) where
         each = λ all prefix. (
           record {
             replies = asked;
-            number = λ event one.
-                let n = l.number event one in
-                record {
-                  number = n.0;
-                  is_taken = n.1;
-                  nth = nth_later (authored_in mid.beside.seat.saw) all n.0 _
-                      (prefix_then (authored_in mid.beside.seat.saw) (authored_in new.beside.seat.saw) all (authored_grown mid.beside.seat.saw new.beside.seat.saw l.history rest.grows.saw) prefix) n.2;
-                };
+            numbers =
+                numbered_later (authored_in mid.beside.seat.saw) all s.beside.seat.me (taken_at (trimmed line) first) (first_number first)
+                (prefix_then (authored_in mid.beside.seat.saw) (authored_in new.beside.seat.saw) all (authored_grown mid.beside.seat.saw new.beside.seat.saw l.history rest.grows.saw) prefix) l.numbers;
             back = l.seen;
           },
           subst (λ n. AreTold seats posts collector all n mid.beside rest.moments) l.me (rest.each all prefix),
@@ -145,10 +134,14 @@ not_lost : (lines : List (List ℕ)) → IsLost lines []
 not_lost [] = refl
 not_lost (line ∷ lines) = inl refl
 
-kept_all : (lines : List (List ℕ)) (b new : BesideValue) → IsHistory b.seat.saw → new.seat ≡ b.seat → IsPrefix b.seen new.seen → Losing lines b new
-kept_all lines b new history same seen = record {
-  lost = [];
-  is_lost = not_lost lines;
+-- who answers knows more, and these events came through its seat
+record Went (b : BesideValue) (events : List Event) (new : BesideValue) : Type 0 where
+  grows : Grows b new
+  own : own_events b.seat.me new.seat.saw ≡ own_events b.seat.me b.seat.saw ++ events
+
+-- the seat stayed
+went_nowhere : (b new : BesideValue) → IsHistory b.seat.saw → new.seat ≡ b.seat → IsPrefix b.seen new.seen → Went b [] new
+went_nowhere b new history same seen = record {
   grows = record {
     me = ap (λ (s : SeatValue DeskAndChain). s.me) same;
     saw = ([], append-nil b.seat.saw ∙ ap (λ (s : SeatValue DeskAndChain). s.saw) (sym same));
@@ -158,11 +151,14 @@ kept_all lines b new history same seen = record {
   own = ap (λ (s : SeatValue DeskAndChain). own_events b.seat.me s.saw) same ∙ sym (append-nil (own_events b.seat.me b.seat.saw));
 }
 
-module _ (seats : ℕ) (line : List ℕ) (lines : List (List ℕ)) (b new : BesideValue) (history : IsHistory b.seat.saw) where
-  came_lost : Came seats b new → Losing (line ∷ lines) b new
-  came_lost came = record {
-    lost = [];
-    is_lost = inl refl;
+kept_all : (lines : List (List ℕ)) (b new : BesideValue) → IsHistory b.seat.saw → new.seat ≡ b.seat → IsPrefix b.seen new.seen → Losing lines b new
+kept_all lines b new history same seen =
+    let went = went_nowhere b new history same seen in record { lost = []; is_lost = not_lost lines; grows = went.grows; own = went.own }
+
+module _ (seats : ℕ) (b new : BesideValue) (history : IsHistory b.seat.saw) where
+  -- the seat came, and changed nothing
+  went_there : Came seats b new → Went b [] new
+  went_there came = record {
     grows = record {
       me = ap (λ (s : SeatValue DeskAndChain). s.me) came.comes.saw;
       saw = saw_came seats b.seat new.seat came.found came.comes;
@@ -172,32 +168,73 @@ module _ (seats : ℕ) (line : List ℕ) (lines : List (List ℕ)) (b new : Besi
     own = come_own seats b.seat new.seat came.found history came.comes ∙ sym (append-nil (own_events b.seat.me b.seat.saw));
   }
 
-  posting_lost : (event : Event) → posted_by (trimmed line) ≡ event ∷ [] → CamePosting seats event b new → Losing (line ∷ lines) b new
-  posting_lost event one came =
+  -- the seat came, and posted
+  went_posting : (event : Event) → (came : CamePosting seats event b new) → Went b (event_taken came.call.event (reply.Post came.call.reply)) new
+  went_posting event came =
       let call = came.call in
       let there : SeatValue DeskAndChain = came.came.0 in
       let comes : Comes seats b.seat came.found there = came.came.1 in
-      let lost : List Event = event_taken call.event (reply.Post call.reply) in
       record {
-        lost = lost;
-        is_lost = lost_is (post_is came.found.desk call.collector call.seq call.event call.reply came.left.desk call.made);
         grows = record {
           me = ap (λ (s : SeatValue DeskAndChain). s.me) came.came.2 ∙ ap (λ (s : SeatValue DeskAndChain). s.me) comes.saw;
           saw = prefix_then b.seat.saw there.saw new.seat.saw (saw_came seats b.seat there came.found comes) (saw_left there new.seat came.left came.came.2);
           history = subst IsHistory (sym (ap (λ (s : SeatValue DeskAndChain). s.saw) came.came.2)) (history_done seats b.seat there came.found came.left comes call);
           seen = came.seen;
         };
-        own = did_own seats b.seat new.seat came.found came.left lost history came.came (post_events came.found came.left call.collector call.seq call.event call.reply call.made call.shown);
+        own = did_own seats b.seat new.seat came.found came.left (event_taken call.event (reply.Post call.reply)) history came.came
+            (post_events came.found came.left call.collector call.seq call.event call.reply call.made call.shown);
       }
+
+  -- nothing was accepted
+  went_vainly : TakesNone seats b new → Went b [] new
+  went_vainly (inl stays) = went_nowhere b new history stays.seat stays.seen
+  went_vainly (inr (inl came)) = went_there came
+  went_vainly (inr (inr vain)) =
+      subst (λ (es : List Event). Went b es new) (ap (λ (e : Event). event_taken e (reply.Post vain.1.call.reply)) vain.1.posted ∙ vain.2) (went_posting vain.0 vain.1)
+
+-- one thing after another
+went_on : (b mid new : BesideValue) (xs ys : List Event) → Went b xs mid → Went mid ys new → Went b (xs ++ ys) new
+went_on b mid new xs ys one other = record {
+  grows = record {
+    me = other.grows.me ∙ one.grows.me;
+    saw = prefix_then b.seat.saw mid.seat.saw new.seat.saw one.grows.saw other.grows.saw;
+    history = other.grows.history;
+    seen = prefix_then b.seen mid.seen new.seen one.grows.seen other.grows.seen;
+  };
+  own =
+      ap (λ n. own_events n new.seat.saw) (sym one.grows.me) ∙ other.own ∙ ap (λ (es : List Event). es ++ ys) (ap (λ n. own_events n mid.seat.saw) one.grows.me ∙ one.own)
+      ∙ append_assoc (own_events b.seat.me b.seat.saw) xs ys;
+}
+
+-- each of these events was accepted
+went_taking : (seats : ℕ) (events : List Event) (b new : BesideValue) → IsHistory b.seat.saw → TakesEach seats events b new → Went b events new
+went_taking seats [] b new history is = went_vainly seats b new history is
+went_taking seats (event ∷ events) b new history is =
+    let posting = is.1.posting in
+    let one : Went b (event ∷ []) is.0 =
+    subst (λ (es : List Event). Went b es is.0) (ap (λ (e : Event). event_taken e (reply.Post posting.call.reply)) posting.posted ∙ is.1.taken) (went_posting seats b is.0 history event posting) in
+    went_on b is.0 new (event ∷ []) events one (went_taking seats events is.0 new one.grows.history is.2)
+
+module _ (seats : ℕ) (line : List ℕ) (lines : List (List ℕ)) (b new : BesideValue) (history : IsHistory b.seat.saw) where
+  lost_so : (events : List Event) → IsLost (line ∷ lines) events → Went b events new → Losing (line ∷ lines) b new
+  lost_so events is_lost went = record { lost = events; is_lost = is_lost; grows = went.grows; own = went.own }
+
+  posting_lost : (event : Event) → posts_by (trimmed line) ≡ Some (listed.Event event) → CamePosting seats event b new → Losing (line ∷ lines) b new
+  posting_lost event one came =
+      lost_so (event_taken came.call.event (reply.Post came.call.reply)) (lost_is (post_is came.found.desk came.call.collector came.call.seq came.call.event came.call.reply came.left.desk came.call.made))
+      (went_posting seats b new history event came)
     where
       lost_is : IsPosted came.found.desk came.call.collector came.call.seq came.call.event came.call.reply came.left.desk → IsLost (line ∷ lines) (event_taken came.call.event (reply.Post came.call.reply))
       lost_is (inl same) = inl same.0
-      lost_is (inr put) = inr (put.0 ∙ ap (λ (e : Event). e ∷ []) came.posted ∙ sym one)
+      lost_is (inr put) = inr (subst (λ (o : Option Listed). IsPart o (event_taken came.call.event (reply.Post came.call.reply))) (sym one) (put.0 ∙ ap (λ (e : Event). e ∷ []) came.posted))
 
-  goes_lost : Goes seats (posted_by (trimmed line)) b new → Losing (line ∷ lines) b new
+  goes_lost : Goes seats (posts_by (trimmed line)) b new → Losing (line ∷ lines) b new
   goes_lost (inl same) = kept_all (line ∷ lines) b new history same.seat same.seen
-  goes_lost (inr (inl came)) = came_lost came
-  goes_lost (inr (inr posted)) = posting_lost posted.0 posted.1 posted.2
+  goes_lost (inr (inl came)) = lost_so [] (inl refl) (went_there seats b new history came)
+  goes_lost (inr (inr (inl posted))) = posting_lost posted.0 posted.1 posted.2
+  goes_lost (inr (inr (inr whole))) =
+      let some = whole.2 in
+      lost_so some.events (inr (subst (λ (o : Option Listed). IsPart o some.events) (sym whole.1) (some.net, some.first))) (went_taking seats some.events b new history some.each)
 
 losing : (seats : ℕ) (lines : List (List ℕ)) (s new : SeatedValue) → IsHistory s.beside.seat.saw → IsBegun (LosesSeated seats) lines s new → Losing lines s.beside new.beside
 losing seats [] s new history same =

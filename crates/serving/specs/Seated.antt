@@ -9,7 +9,7 @@ use Rattle.script_words.specs.Commands.{command_of}
 use Rattle.script_words.specs.declared.commands.Command.{Command}
 use Rattle.script_words.specs.declared.commands.Command.TheVariants as command
 use Rattle.desk_console.specs.Does.{PostsNext}
-use Rattle.beside.specs.Beside.{BesideValue, DoesBeside, DoesThere, Tells}
+use Rattle.beside.specs.Beside.{BesideValue, DoesBeside, DoesThere, PostsWholeBeside, Tells}
 use Rattle.beside.specs.Seats.{LosesBeside}
 
 -- who answers a session: who comes to the hub for it, whether it may post, and the collector of its plain events
@@ -18,10 +18,11 @@ pub record SeatedValue : Type 0 where
   pub posts : Bool
   pub collector : ℕ
 
--- whether a command is a plain event, and whether it is a post under a sequence number
-abbrev pub is_event : Command → Bool
-is_event (command.Event event) = true
-is_event done = false
+-- whether a command is posted by the session's own collector, and whether it is a post under a sequence number
+abbrev pub is_plain : Command → Bool
+is_plain (command.Event event) = true
+is_plain (command.Whole w) = true
+is_plain done = false
 
 abbrev pub is_post : Command → Bool
 is_post (command.Post by seq event) = true
@@ -32,9 +33,10 @@ abbrev pub IfPosts : Bool → (BesideValue → Answer → BesideValue → Type 0
 IfPosts true Done = Done
 IfPosts false Done = Tells (answer.Refused reason.BadLine)
 
--- what a command does: as beside workers, but that a plain event is posted by this collector, and that not all may post
+-- what a command does: as beside workers, but that a plain event, and those of a whole set or point, are posted by this collector, and that not all may post
 abbrev pub DoesAs : ℕ → Bool → ℕ → Command → BesideValue → Answer → BesideValue → Type 0
 DoesAs seats posts collector (command.Event event) = IfPosts posts (DoesThere seats (PostsNext collector event))
+DoesAs seats posts collector (command.Whole w) = IfPosts posts (PostsWholeBeside seats collector w)
 DoesAs seats posts collector (command.Post by seq event) = IfPosts posts (DoesBeside seats (command.Post by seq event))
 DoesAs seats posts collector done = DoesBeside seats done
 

@@ -1,7 +1,10 @@
 -- What many sessions at one desk were told: one history (own).
-use Rattle.std.specs.Prelude.{◌≡◌, ◌≢◌, ◌⊎◌, ◌<◌, ℕ, Bool, List, [], ◌∷◌, ◌++◌, Option, Some, None, length, map, slice_index_or}
+use Rattle.std.specs.Prelude.{◌≡◌, ◌≢◌, ◌⊎◌, ◌<◌, ℕ, ◌+◌, Bool, List, [], ◌∷◌, ◌++◌, Option, Some, None, length, map, slice_index_or}
 use Rattle.std.specs.Io.KnownBytes.{Consumes, Appends, IsAtEnd}
 use mathlib.Core.List.{IsPrefix}
+use Rattle.net_building.specs.Wholes.{whole_events}
+use Rattle.net_building.specs.declared.wholes.Listed.{Listed}
+use Rattle.net_building.specs.declared.wholes.Listed.TheVariants as listed
 use Rattle.net_data.specs.declared.events.Event.{Event}
 use Rattle.net_data.specs.Edits.{replay}
 use Rattle.net_data.specs.Network.{Network}
@@ -10,7 +13,7 @@ use Rattle.answers.specs.declared.answer.Answer.{Answer}
 use Rattle.answers.specs.declared.answer.Answer.TheVariants as answer
 use Rattle.answers.specs.declared.answer.Reply.TheVariants as reply
 use Rattle.desk_core.specs.Desk.{new_desk}
-use Rattle.desk_console.specs.Taken.{taken_at}
+use Rattle.desk_console.specs.Taken.{posts_by, taken_at}
 use Rattle.sessions.specs.Lines.{line_count, lines_of, trimmed, whole_lines}
 use Rattle.sessions.specs.Replies.{AreTexts, Replies}
 use Rattle.sessions.specs.Run.{IsFrontOf}
@@ -19,22 +22,26 @@ use Rattle.sessions.specs.declared.faults.Fault.TheVariants.{NoPlace, OutOfMemor
 use Rattle.histories.specs.Histories.{AreOfSeats, Authored, IsNth, events_by, events_in}
 use Rattle.histories.specs.Right.{AreRight}
 use Rattle.beside.specs.Beside.{BesideValue, StartsBeside}
-use Rattle.beside.specs.Seats.{posted_by}
 use Rattle.beside.specs.Right.{Moment, told_in}
 use Rattle.serving.specs.declared.channels.Channel.{Channel}
 use Rattle.serving.specs.declared.channels.SessionEnd.{SessionEnd}
 use Rattle.serving.specs.Seated.{CommandsAs}
 
--- the answer is `taken N`, and the N-th accepted event is this one, which came through this seat
-pub record IsNumbered (all : List Authored) (me : ℕ) (event : Event) (told : Option Answer) : Type 0 where
-  pub number : ℕ
-  pub is_taken : told ≡ Some (answer.Reply (reply.Taken number))
-  pub nth : IsNth all number (record { by = me; event = event })
+-- the number that `taken N` tells, or the first of those that `taken FIRST to LAST` tells
+abbrev pub first_number : Option Answer → ℕ
+first_number (Some (answer.Reply (reply.Taken number))) = number
+first_number (Some (answer.AllTaken taken)) = taken.first
+first_number told = 0
 
--- a line is answered from what the line before left; if it is answered `taken`, then with the number that its event has; and its view doesn't go back
+-- the accepted events of this number and of those after it are these, and they came through this seat
+abbrev pub AreNumbered : List Authored → ℕ → List Event → ℕ → Type 0
+AreNumbered all me [] number = Unit {0}
+AreNumbered all me (event ∷ events) number = IsNth all number (record { by = me; event = event }) × AreNumbered all me events (number + 1)
+
+-- a line is answered from what the line before left; if it is answered `taken`, then with the numbers that its events have; and its view doesn't go back
 pub record IsTold (seats : ℕ) (posts : Bool) (collector : ℕ) (all : List Authored) (me : ℕ) (before : BesideValue) (m : Moment) : Type 0 where
   pub replies : Replies (CommandsAs seats posts collector) m.line before m.told m.after
-  pub number : (event : Event) → taken_at (trimmed m.line) m.told ≡ event ∷ [] → IsNumbered all me event m.told
+  pub numbers : AreNumbered all me (taken_at (trimmed m.line) m.told) (first_number m.told)
   pub back : IsPrefix before.seen m.after.seen
 
 -- so it is with one line after the other
@@ -56,10 +63,16 @@ taken_of (m ∷ moments) = taken_at (trimmed m.line) m.told ++ taken_of moments
 abbrev pub lines_in : List Moment → List (List ℕ)
 lines_in = map (λ (m : Moment). m.line)
 
--- no event, or that of the first of some lines, whose answer was lost
+-- what a line may have posted whose answer was lost: its event, or the first of the events that a whole set or point means in some network, or all
+abbrev pub IsPosted : Option Listed → List Event → Type 0
+IsPosted None events = events ≡ []
+IsPosted (Some (listed.Event event)) events = events ≡ event ∷ []
+IsPosted (Some (listed.Whole w)) events = (net : Network) × IsPrefix events (whole_events net w)
+
+-- no event, or what the first of some lines posted, whose answer was lost
 abbrev pub IsLost : List (List ℕ) → List Event → Type 0
 IsLost [] lost = lost ≡ []
-IsLost (line ∷ lines) lost = (lost ≡ []) ⊎ (lost ≡ posted_by (trimmed line))
+IsLost (line ∷ lines) lost = (lost ≡ []) ⊎ IsPosted (posts_by (trimmed line)) lost
 
 -- by the fault that ended the lines: these lines were read, of whose answers this was written; of the lines that weren't answered one may have posted
 abbrev pub AreWritten : (Answer → List ℕ → Type 0) → Option Fault → Option (List ℕ) → List ℕ → List ℕ → List Moment → List Event → Type 0
@@ -70,7 +83,7 @@ AreWritten Tells (Some fault) left read written moments lost =
     (rest : List (List ℕ)) × (lines_of read ≡ lines_in moments ++ rest) × IsFrontOf Tells (told_in moments) written × IsLost rest lost
 
 -- what a session was told: some bytes were read; their lines were answered one after the other, of which this was written; of the one list of events those
--- that came through its seat are those that it was answered `taken` for, in their order, and one at most whose answer was lost
+-- that came through its seat are those that it was answered `taken` for, in their order, and those of one line at most whose answer was lost
 pub record IsToldSession (Tells : Answer → List ℕ → Type 0) (start : Network) (seats : ℕ) (posts : Bool) (collector : ℕ) (all : List Authored) (shown : List VersionValue)
     (me : ℕ) (unread left held holds : Option (List ℕ)) (fault : Option Fault) (lines : ℕ) : Type 0 where
   pub read : List ℕ

@@ -1,14 +1,16 @@
 //! Who answers a session: a seat, which may post or only ask.
 
-ghost use Rattle.std.specs.Prelude.{◌≡◌, ◌∷◌, [], false, IfErr, IfOk};
-ghost use Rattle.desk_console.specs.Taken.{event_of};
+ghost use Rattle.std.specs.Prelude.{◌≡◌, Some, false, IfErr, IfOk};
+ghost use Rattle.net_building.specs.declared.wholes.Listed.{Listed};
+ghost use Rattle.desk_console.specs.Taken.{posts_of};
 ghost use Rattle.script_words.specs.Commands.{IsWithin};
 ghost use Rattle.sessions.specs.Run.{CutsOff};
 ghost use Rattle.beside.specs.Seats.{Goes};
-ghost use Rattle.serving.specs.Seated.{DoesSeated, KeepsRules, is_event, is_post};
+ghost use Rattle.serving.specs.Seated.{DoesSeated, KeepsRules, is_plain, is_post};
 
 use answers::{Answer, Asked, Reason, Telling, answer_other};
 use beside::Beside;
+use net_building::Whole;
 use net_data::{Event, Net};
 use script_words::{Command, read_line};
 use sessions::{Answering, Fault};
@@ -38,7 +40,7 @@ pub struct Seated<'a, N: Naming, R: Wait> {
     pub beside: Beside<'a, N, R>,
     /// Whether it may post.
     pub posts: bool,
-    /// The collector that posts its plain events.
+    /// The collector that posts its plain events, and those of whole sets and points.
     pub collector: u8,
 }
 
@@ -54,7 +56,7 @@ impl<'a, N: Naming, R: Wait> Seated<'a, N, R> {
     /// Posts an event by the session's collector, if it may.
     fn post_event(&mut self, alloc: Global, event: Event) -> Result<Answer, Fault>
         ensures does { IfOk result (λ answer. DoesSeated N.seats (Command.Event event) self.old answer self.new) }
-        ensures goes { Goes N.seats (event ∷ []) self.old.beside self.new.beside }
+        ensures goes { Goes N.seats (Some (Listed.Event event)) self.old.beside self.new.beside }
         ensures rules { KeepsRules self.old self.new }
         ensures fault { IfErr result (CutsOff (Unit {0})) }
     {
@@ -65,12 +67,25 @@ impl<'a, N: Naming, R: Wait> Seated<'a, N, R> {
         }
     }
 
-    /// Does what a command says that is no plain event.
+    /// Posts the events of a whole set or point by the session's collector, if it may.
+    fn post_whole(&mut self, alloc: Global, whole: Whole) -> Result<Answer, Fault>
+        ensures does { IfOk result (λ answer. DoesSeated N.seats (Command.Whole whole) self.old answer self.new) }
+        ensures goes { Goes N.seats (Some (Listed.Whole whole)) self.old.beside self.new.beside }
+        ensures rules { KeepsRules self.old self.new }
+        ensures fault { IfErr result (CutsOff (Unit {0})) }
+    {
+        if !self.posts {
+            return Ok(Answer::Refused(Reason::BadLine));
+        }
+        self.beside.post_whole(alloc, self.collector, whole)
+    }
+
+    /// Does what a command says that isn't posted by the session's collector.
     fn obey_other(&mut self, alloc: Global, command: Command) -> Result<Answer, Fault>
         requires within { IsWithin command }
-        requires other { is_event command ≡ false }
+        requires other { is_plain command ≡ false }
         ensures does { IfOk result (λ answer. DoesSeated N.seats command self.old answer self.new) }
-        ensures goes { Goes N.seats (event_of command) self.old.beside self.new.beside }
+        ensures goes { Goes N.seats (posts_of command) self.old.beside self.new.beside }
         ensures rules { KeepsRules self.old self.new }
         ensures fault { IfErr result (CutsOff (Unit {0})) }
     {
@@ -85,12 +100,13 @@ impl<'a, N: Naming, R: Wait> Seated<'a, N, R> {
     fn obey(&mut self, alloc: Global, command: Command) -> Result<Answer, Fault>
         requires { IsWithin command }
         ensures does { IfOk result (λ answer. DoesSeated N.seats command self.old answer self.new) }
-        ensures goes { Goes N.seats (event_of command) self.old.beside self.new.beside }
+        ensures goes { Goes N.seats (posts_of command) self.old.beside self.new.beside }
         ensures rules { KeepsRules self.old self.new }
         ensures fault { IfErr result (CutsOff (Unit {0})) }
     {
         match command {
             Command::Event(event) => self.post_event(alloc, event),
+            Command::Whole(whole) => self.post_whole(alloc, whole),
             other => self.obey_other(alloc, other),
         }
     }

@@ -8,3 +8,4 @@ pub mod WeightLemmas
 pub mod WayLemmas
 pub mod LeastLemmas
 pub mod MendingLemmas
+pub mod ListedLemmas

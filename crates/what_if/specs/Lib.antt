@@ -1,3 +1,4 @@
 pub mod Reports
 pub mod Reroutes
 pub mod Mending
+pub mod Listed

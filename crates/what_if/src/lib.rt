@@ -13,8 +13,11 @@
 //!    allowed, as is wanted, and takes least: the fewest links; of as many links the fewest that have failed; and of as many of both
 //!    the fewest marks. Of several ways that take as much the first is told: vias class by class, and the mate last; and of each set
 //!    the first link of those that take least. Or it is told that no restoring does it.
+//! 7. In a list of events the change of a whole set or point may stand too: it means its events, in the network that those before
+//!    it make.
 //!
-//! Stands on `net_versions`. A change here also changes specs/ (Mending, Reports, Reroutes), proofs/ and must-fail/.
+//! Stands on `net_versions`, `net_building`. A change here also changes specs/ (Listed, Mending, Reports, Reroutes), proofs/,
+//! must-fail/ and wrong-bodies/.
 #![tactic(auto)]
 
 pub mod changes;
@@ -22,6 +25,7 @@ mod codes;
 mod comparing;
 mod costs;
 pub mod laws;
+pub mod listed;
 pub mod mending;
 pub mod moving;
 pub mod reports;
@@ -30,6 +34,7 @@ pub mod versions;
 pub mod wanted;
 
 pub use changes::{Change, Changes};
+pub use listed::{report_listed, reroutes_listed};
 pub use mending::{Mend, SetLink, find_mend, mate_row};
 pub use moving::reroutes_by;
 pub use reports::{Refused, Report, what_if};

@@ -95,7 +95,7 @@ pub(crate) fn network_after(
 }
 
 /// What changes from a version to the network that the events make of its own.
-fn compare(
+pub(crate) fn compare(
     alloc: Global,
     version: &Version,
     net: &Frozen,

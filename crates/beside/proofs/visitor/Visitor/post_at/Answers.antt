@@ -6,6 +6,7 @@ use Rattle.desk_core.specs.Desk.{accepted}
 use Rattle.desk_core.specs.Steps.{Posts}
 use Rattle.answers.specs.Replies.{posted_answer}
 use Rattle.desk_console.specs.Does.{Calls, HasMemory}
+use Rattle.versions.proofs.SeatLemmas.{did_last}
 use Rattle.versions.specs.Hubs.{HubValue}
 use Rattle.beside.specs.Beside.{BesideValue, DoesAt}
 use Rattle.beside.specs.Seats.{CamePosting}
@@ -65,3 +66,9 @@ returns-in-Err-clause-posts g c =
       posted = refl;
       seen = c.tell.ensures.seen;
     })
+
+pub returns-clause-left : goal.returns-clause-left
+returns-clause-left g c = did_last _ _ _ _ _ c.post-reply.ensures.comes
+
+pub returns-in-Err-clause-left : goal.returns-in-Err-clause-left
+returns-in-Err-clause-left g c = did_last _ _ _ _ _ c.post-reply.ensures.comes
