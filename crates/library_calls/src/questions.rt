@@ -79,8 +79,8 @@ fn moves(alloc: Global, version: &Version) -> Option<(usize, bool)> {
 /// How many statuses the failure of a whole set would change, and how many pairs of a point and a destination it would move.
 fn whole_fails(alloc: Global, version: &Version) -> Option<(usize, usize)> {
     let entries = [Listed::Whole(Whole::Set(4, LinkChange::Fail))];
-    let report = report_listed(alloc, version, &entries).ok()?;
-    let reroutes = reroutes_listed(alloc, version, &entries).ok()?;
+    let report = report_listed(alloc, version, &entries).ok()?.ok()?;
+    let reroutes = reroutes_listed(alloc, version, &entries).ok()?.ok()?;
     Some((report.changes.as_slice().len(), reroutes.as_slice().len()))
 }
 
