@@ -2,6 +2,7 @@
 # make demo      builds the program, if its sources have changed, and runs it on the networks of examples/
 # make test      the gate: every proof from nothing, the edits that must be refused, the tests, the stored run, the transcripts
 #                of the pages, the worked examples, and a part of the hostile runs
+# make wrong     tries the wrong bodies that the gate leaves out: the prover has to refuse each
 # make quick     a first look at a change, in minutes and with nothing proved: the tests, and most worked examples, with run-time checks
 # make keep      proves the program's crates as `rt check` does, which keeps the proof of each function: for who will change them
 # make install   builds the program, if its sources have changed, and puts it and its manual page below PREFIX, /usr/local if none is given
@@ -13,9 +14,9 @@ PROGRAM = crates/route_desk/out/route_desk
 PREFIX = /usr/local
 # what the last build was made from: newer than each source
 BUILT = crates/route_desk/out/built
-SOURCES = crates.txt $(shell find crates \( -name out -o -name must-fail \) -prune -o -type f \( -name '*.rt' -o -name '*.antt' \) -print)
+SOURCES = crates.txt $(shell find crates \( -name out -o -name must-fail -o -name wrong-bodies \) -prune -o -type f \( -name '*.rt' -o -name '*.antt' \) -print)
 
-.PHONY: try demo build install dist quick keep test soak hostile
+.PHONY: try demo build install dist quick keep test wrong soak hostile
 
 try:
 	@scripts/try.sh
@@ -45,6 +46,9 @@ keep:
 
 test:
 	@scripts/gate.sh $(PROGRAM)
+
+wrong:
+	@scripts/wrong.py
 
 soak:
 	@scripts/soak.sh

@@ -52,7 +52,7 @@ def size(crate):
     """The bytes of a crate's code, a measure of its work: lemmas take little. The least stands for what every crate takes."""
     bytes = 10_000
     for at, folders, files in os.walk(f"crates/{crate}"):
-        folders[:] = [it for it in folders if it not in ("out", "must-fail")]
+        folders[:] = [it for it in folders if it not in ("out", "must-fail", "wrong-bodies")]
         bytes += sum(os.path.getsize(f"{at}/{it}") for it in files if it.endswith(".rt"))
     return bytes
 
@@ -91,7 +91,7 @@ def prove_by_gate(graph, crate, is_first, room):
     tree, wanted = f"{room}/{crate}", needed(graph, crate, [])
     shutil.rmtree(tree, ignore_errors=True)
     for it in wanted:
-        shutil.copytree(f"crates/{it}", f"{tree}/crates/{it}", ignore=shutil.ignore_patterns("out", "must-fail"))
+        shutil.copytree(f"crates/{it}", f"{tree}/crates/{it}", ignore=shutil.ignore_patterns("out", "must-fail", "wrong-bodies"))
     with open("crates.txt", encoding="utf-8") as lines, open(f"{tree}/crates.txt", "w", encoding="utf-8") as kept:
         kept.writelines(line for line in lines if line.split(" ")[0].rstrip(":\n") in wanted)
     shutil.copy("HANDLES", tree)
@@ -179,7 +179,7 @@ def prove_side_by_side(graph, crates, count, room):
     """Proves the libraries below the program as `rt check` does."""
     trees, free = [f"{room}/{number}" for number in range(count + 1)], queue.SimpleQueue()
     for tree in trees:
-        shutil.copytree("crates", f"{tree}/crates", ignore=shutil.ignore_patterns("out", "must-fail"))
+        shutil.copytree("crates", f"{tree}/crates", ignore=shutil.ignore_patterns("out", "must-fail", "wrong-bodies"))
         for file in ("crates.txt", "HANDLES"):
             shutil.copy(file, tree)
         free.put(tree)

@@ -26,7 +26,7 @@ fi
 # what the gate said last: it counts only for the sources as they are
 gate=crates/route_desk/out/gate
 changed() {
-    find crates.txt crates \( -name out -o -name must-fail \) -prune -o -type f \( -name '*.rt' -o -name '*.antt' -o -name crates.txt \) \
+    find crates.txt crates \( -name out -o -name must-fail -o -name wrong-bodies \) -prune -o -type f \( -name '*.rt' -o -name '*.antt' -o -name crates.txt \) \
         -newer "$gate" -print -quit
 }
 kit=$(rt version 2> /dev/null) || kit="no kit on this machine"

@@ -1,11 +1,12 @@
 #!/bin/bash
-# gate.sh PROGRAM: the gate. Every crate and its tests are proved from nothing, the wrong edits tried, the tests and the stored
-# run compared; then the program that was just built runs the transcripts of the pages, explains what the tables of SCRIPT.md do,
-# runs the worked examples, 500 questions of what to restore and a session at a terminal, writes files beside others' files,
-# answers many sessions at one desk, is packed and installed, and is deprived of memory, input and output. The line before the
-# last tells the processor time of all this, and with MEASURE=1 also how many times that of a first check of net_items at one job
-# it is. Such checks are made before, one for each processor, and aren't counted. The last line is 'N passed, M failed', which
-# stands in crates/route_desk/out/gate too if nothing failed.
+# gate.sh PROGRAM: the gate. Every crate and its tests are proved from nothing, the wrong bodies of must-fail/ tried, the
+# tests and the stored run compared; the other wrong bodies are looked at; then the program that was just built runs the
+# transcripts of the pages, explains what the tables of SCRIPT.md do, runs the worked examples, 500 questions of what to
+# restore and a session at a terminal, writes files beside others' files, answers many sessions at one desk, is packed and
+# installed, and is deprived of memory, input and output. The line before the last tells the processor time of all this, and
+# with MEASURE=1 also how many times that of a first check of net_items at one job it is. Such checks are made before, one for
+# each processor, and aren't counted. The last line is 'N passed, M failed', which stands in crates/route_desk/out/gate too if
+# nothing failed.
 cd "$(dirname "$0")/.."
 # what the gate said last, which packages tell
 said=crates/route_desk/out/gate
@@ -82,6 +83,7 @@ add() {
     failed=$((failed + ${less:-1}))
 }
 
+add scripts/wrong.py --look
 add scripts/transcripts.py "$1" README.md docs/*.md
 add scripts/explained.py "$1" docs/SCRIPT.md
 add scripts/worked.py "$1"

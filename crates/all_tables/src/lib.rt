@@ -6,7 +6,7 @@
 //!    first wrong table (own).
 //! 3. The work is split among as many threads as there are processors; what comes of it is as from one.
 //!
-//! Stands on `transfer_state`, `rayon`. A change here also changes specs/ (Tables), proofs/ and must-fail/.
+//! Stands on `transfer_state`, `rayon`. A change here also changes specs/ (Tables), proofs/, must-fail/ and wrong-bodies/.
 #![tactic(auto)]
 
 pub mod checking;

@@ -15,7 +15,7 @@
 //!    a change of a link takes none while room is reserved.
 //!
 //! Stands on `work_units`, `path_trace`, `dirty_sets`. A change here also changes specs/ (Desk, Inside, Runs, Steps,
-//! Targets), proofs/ and must-fail/.
+//! Targets), proofs/, must-fail/ and wrong-bodies/.
 #![tactic(auto)]
 
 pub mod desk;

@@ -8,7 +8,7 @@
 //! 5. Destinations wait in order. The first goes out; one that is out waits again, last, or is done (own).
 //!
 //! Stands on `excerpts`, `indexmap`. A change here also changes specs/ (Bits, Entries, Index, Kept, Marks, Touch,
-//! Touched, Waiting), proofs/ and must-fail/.
+//! Touched, Waiting), proofs/, must-fail/ and wrong-bodies/.
 #![tactic(auto)]
 
 pub mod bits;

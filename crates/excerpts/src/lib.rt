@@ -11,8 +11,8 @@
 //! 5. Two networks that agree on what a table reads give the same table.
 //! 6. Of two networks it tells between which points an available set is in one of them alone (own, after Q.704 clause 3.2).
 //!
-//! Stands on `net_data`, `profile`. A change here also changes specs/ (Around, Excerpt, Index, Turned), proofs/ and must-
-//! fail/.
+//! Stands on `net_data`, `profile`. A change here also changes specs/ (Around, Excerpt, Index, Turned), proofs/,
+//! must-fail/ and wrong-bodies/.
 #![tactic(auto)]
 
 pub mod excerpt;

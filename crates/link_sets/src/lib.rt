@@ -6,7 +6,7 @@
 //!    available set joins them.
 //! 4. Neighbours are told in rising point code (own).
 //!
-//! Stands on `net_items`. A change here also changes specs/ (Availability, Neighbours), proofs/ and must-fail/.
+//! Stands on `net_items`. A change here also changes specs/ (Availability, Neighbours), proofs/, must-fail/ and wrong-bodies/.
 #![tactic(auto)]
 
 pub mod availability;

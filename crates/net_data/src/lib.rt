@@ -10,7 +10,7 @@
 //! 3. An edit is refused by the first refusal that applies, in the order of their numbers, or makes one change. Want of
 //!    memory comes last and changes nothing; an edit of a link's state takes no memory.
 //!
-//! Stands on `plan_rows`. A change here also changes specs/ (Edits, Kinds, Network, Valid), proofs/ and must-fail/.
+//! Stands on `plan_rows`. A change here also changes specs/ (Edits, Kinds, Network, Valid), proofs/, must-fail/ and wrong-bodies/.
 #![tactic(auto)]
 
 pub mod edits;

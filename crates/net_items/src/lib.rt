@@ -9,8 +9,8 @@
 //! The lists inside these types are small types of their own, which contracts see as lists. Whether they make a
 //! valid network is the subject of the crate `net_data`.
 //!
-//! Stands on `point_codes`, `link_state`, `smallvec`. A change here also changes specs/ (Classes, Keyed, Lookups, Vias), proofs/ and
-//! must-fail/.
+//! Stands on `point_codes`, `link_state`, `smallvec`. A change here also changes specs/ (Classes, Keyed, Lookups, Vias), proofs/,
+//! must-fail/ and wrong-bodies/.
 #![tactic(auto)]
 
 pub mod classes;

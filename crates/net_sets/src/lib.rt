@@ -8,7 +8,7 @@
 //!    clause 3.2).
 //! 4. Out of memory leaves the sets as they were. Only a new set, a new link and a copy take memory.
 //!
-//! Stands on `net_items`. A change here also changes specs/ (Joints, Sets), proofs/ and must-fail/.
+//! Stands on `net_items`. A change here also changes specs/ (Joints, Sets), proofs/, must-fail/ and wrong-bodies/.
 #![tactic(auto)]
 
 pub mod changes;

@@ -19,7 +19,7 @@
 //! what holds of every valid source.
 //!
 //! Stands on `sls_share`, `route_choice`. A change here also changes specs/ (Laws, Links, Local, Reads, Status, Traces,
-//! Valid, Walk, Whole), proofs/ and must-fail/.
+//! Valid, Walk, Whole), proofs/ and wrong-bodies/.
 #![tactic(auto)]
 
 pub mod hops;

@@ -12,7 +12,7 @@
 //! 5. The links that carry the sixteen share numbers follow from two masks: the signalling link codes of the set, and
 //!    which of its links are available (own).
 //!
-//! Stands on `link_sets`. A change here also changes specs/ (Carried, Share), proofs/ and must-fail/.
+//! Stands on `link_sets`. A change here also changes specs/ (Carried, Share), proofs/, must-fail/ and wrong-bodies/.
 #![tactic(auto)]
 
 pub mod carried;

@@ -15,8 +15,8 @@
 //! 7. The routing of a plan can be followed from that in another network, if the two differ in link sets alone: only rows that rest on
 //!    a set that became available or was so no longer, or on a status that changed, are chosen anew (own).
 //!
-//! Stands on `excerpts`. A change here also changes specs/ (Complaints, Following, Kept, Members, Promises, Routing, Told), proofs/ and
-//! must-fail/.
+//! Stands on `excerpts`. A change here also changes specs/ (Complaints, Following, Kept, Members, Promises, Routing, Told), proofs/,
+//! must-fail/ and wrong-bodies/.
 #![tactic(auto)]
 
 mod auditing;

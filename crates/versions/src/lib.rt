@@ -13,7 +13,7 @@
 //!    network, as long as that target is open.
 //!
 //! Stands on `desk_core`, `seats`, `left_right`, `logbook`. A change here also changes specs/ (Book, Chains, Hubs,
-//! Tickets, Worked, Working), proofs/ and must-fail/.
+//! Tickets, Worked, Working), proofs/, must-fail/ and wrong-bodies/.
 #![tactic(auto)]
 
 mod book;

@@ -7,7 +7,7 @@
 //! 5. What a desk answers to a post, to an opening and to a call that it refuses is plain data. When it answers which, the
 //!    desk says; how each is printed, `answers` says. So neither of the two waits for the other to be proved.
 //!
-//! Stands on `transfer_state`. A change here also changes specs/ (Before, Work) and must-fail/.
+//! Stands on `transfer_state`. A change here also changes specs/ (Before, Work), must-fail/ and wrong-bodies/.
 #![tactic(auto)]
 
 mod befores;
