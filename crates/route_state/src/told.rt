@@ -1,7 +1,7 @@
 //! What a line of a script is answered, and who tells it.
 
 pub use answers::{
-    Action, AllTaken, Answer, Asked, Moved, NetAnswer, Offer, Publication, Reason, Remedy, Reply, RowAnswer,
-    TakenEvents, Telling, Text, Way, Ways, print_answer, put_answer,
+    Action, AllTaken, Answer, Asked, Moved, NetAnswer, Offer, Publication, Reason, Remedy, Reply,
+    RowAnswer, TakenEvents, Telling, Text, Way, Ways, print_answer, put_answer,
 };
 pub use json_answers::{Clerk, Content, Filing, Form, Outcome};
