@@ -8,7 +8,7 @@
 //! 4. A mated pair has one entry, the lower code first (own).
 //! 5. What is written reads as the network.
 //!
-//! Stands on `net_text`, `toml`. A change here also changes specs/ (Writing), proofs/ and wrong-bodies/.
+//! Stands on `net_text`, `toml`. A change here also changes specs/ (Writing), proofs/ and must-fail/.
 #![tactic(auto)]
 
 mod entries;

@@ -5,7 +5,7 @@
 //!    network, from scratch.
 //! 3. Versions share routings that are the same.
 //!
-//! Stands on `transfer_state`. A change here also changes specs/ (Versions), proofs/ and wrong-bodies/.
+//! Stands on `transfer_state`. A change here also changes specs/ (Versions), proofs/, must-fail/ and wrong-bodies/.
 #![tactic(auto)]
 
 pub mod versions;

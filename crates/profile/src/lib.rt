@@ -19,7 +19,7 @@
 //! what holds of every valid source.
 //!
 //! Stands on `sls_share`, `route_choice`. A change here also changes specs/ (Laws, Links, Local, Reads, Status, Traces,
-//! Valid, Walk, Whole), proofs/ and wrong-bodies/.
+//! Valid, Walk, Whole), proofs/, must-fail/ and wrong-bodies/.
 #![tactic(auto)]
 
 pub mod hops;
