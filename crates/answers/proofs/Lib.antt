@@ -4,3 +4,4 @@ pub mod RemedyLemmas
 pub mod RowLemmas
 pub mod MendLemmas
 pub mod ShownLemmas
+pub mod WhoLemmas

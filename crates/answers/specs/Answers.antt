@@ -15,6 +15,7 @@ use Rattle.answers.specs.Status.{status_text}
 use Rattle.answers.specs.Traces.{trace_text}
 use Rattle.answers.specs.Refusals.{refusal_name, refusal_values}
 use Rattle.answers.specs.WhatIfs.{report_text}
+use Rattle.answers.specs.Who.{who_text}
 use Rattle.answers.specs.Why.{why_text}
 use Rattle.answers.specs.declared.answer.Answer.{Answer}
 use Rattle.answers.specs.declared.answer.Answer.TheVariants as answer
@@ -113,6 +114,7 @@ answer_text (answer.Publication p) = publication_text p
 answer_text (answer.Row r) = row_text r
 answer_text (answer.Net n) = net_text n
 answer_text (answer.Shown what) = shown_text what
+answer_text (answer.Who list) = who_text list
 answer_text (answer.Help text) = text
 answer_text (answer.Refused why) = reason_text why
 

@@ -23,9 +23,17 @@ abbrev pub is_of_workers : List ℕ → Bool
 is_of_workers word =
     bytes_eq word (codes "open") || bytes_eq word (codes "take") || bytes_eq word (codes "give") || bytes_eq word (codes "abandon") || bytes_eq word (codes "publish")
 
--- `EXAMPLE`, and `; refused beside workers` if it is
+-- the word of what is told of seats alone: it is refused where there are none
+abbrev pub is_of_seats : List ℕ → Bool
+is_of_seats word = bytes_eq word (codes "who")
+
+-- where a command is refused, if it is
+abbrev pub refused_text : List ℕ → List ℕ
+refused_text word = word_if (is_of_workers word) (codes "; refused beside workers") ++ word_if (is_of_seats word) (codes "; refused outside serve")
+
+-- `EXAMPLE`, and where it is refused
 abbrev pub example_text : FormValue → List ℕ
-example_text form = form.example ++ word_if (is_of_workers form.word) (codes "; refused beside workers")
+example_text form = form.example ++ refused_text form.word
 
 -- `help FORM, as EXAMPLE`
 abbrev pub form_text : FormValue → List ℕ

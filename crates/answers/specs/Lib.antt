@@ -17,5 +17,6 @@ pub mod Audits
 pub mod Replies
 pub mod Help
 pub mod Shown
+pub mod Who
 pub mod Answers
 pub mod Filed

@@ -6,6 +6,7 @@ use crate::shown::ShownBox;
 use crate::taken::AllTaken;
 use crate::text::Text;
 use crate::ways::Ways;
+use crate::who::SeatCounts;
 use point_codes::PointCode;
 use profile::{Messages, RowLinks, Trace};
 use route_choice::{Choice, Far};
@@ -134,6 +135,8 @@ pub enum Answer {
     Net(NetAnswer),
     /// What is shown of the network.
     Shown(ShownBox),
+    /// How many events were accepted through each seat.
+    Who(SeatCounts),
     /// What `help` tells.
     Help(Text),
     /// Why the line is refused.

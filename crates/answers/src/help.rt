@@ -4,7 +4,7 @@ ghost use Rattle.std.specs.Prelude.{◌≡◌, ◌∷◌, ◌++◌, [], IfOk, On
 ghost use Rattle.std.specs.List.{flat_map};
 ghost use Rattle.std.specs.Str.{bytes_eq};
 ghost use Rattle.script_words.specs.Forms.{value_of};
-ghost use Rattle.answers.specs.Help.{all_words, example_text, form_text, help_on, is_of_workers as of_workers, other_answer, quit_on, word_text};
+ghost use Rattle.answers.specs.Help.{all_words, example_text, form_text, help_on, is_of_workers as of_workers, other_answer, quit_on, refused_text, word_text};
 ghost use Rattle.tokens.specs.Words.{words_of};
 
 use crate::answer::{Answer, Reason, Reply};
@@ -58,12 +58,20 @@ fn is_of_workers(word: &str) -> bool
         || is_word(word, "publish")
 }
 
-/// Adds the example of a form, and that it is refused beside workers if it is.
+/// Adds where a command of this word is refused, if it is.
+fn put_refused(text: &mut String, word: &str) -> Result<(), AllocError>
+    ensures { OnOk result (string_bytes text.new ≡ string_bytes text.old ++ refused_text word.now) }
+{
+    put_if(text, is_of_workers(word), "; refused beside workers")?;
+    put_if(text, is_word(word, "who"), "; refused outside serve")
+}
+
+/// Adds the example of a form, and where it is refused.
 fn put_example(text: &mut String, form: &Form) -> Result<(), AllocError>
     ensures { OnOk result (string_bytes text.new ≡ string_bytes text.old ++ example_text (value_of form.now)) }
 {
     text.push_str(form.example)?;
-    put_if(text, is_of_workers(form.word), "; refused beside workers")
+    put_refused(text, form.word)
 }
 
 /// The answer that tells a form and its example.

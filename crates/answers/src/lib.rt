@@ -33,18 +33,18 @@
 //!    `taken FIRST to LAST`; an opening `opened T
 //!    waiting W`; the taking of a job `job V CODE`; a result `given`; an abandonment `abandoned`; a publication `published
 //!    N`; `synced N` and `version P accepted N` tell what is published and accepted; `last SEQ` a collector's last
-//!    sequence number.
+//!    sequence number; `who` and `NAME:EVENTS` for each seat, how many events were accepted through it.
 //! 14. A refusal is `refused`, its number, its name and its values. An answer is told in one line, but that what a publication changed
 //!     stands behind it on a line of its own, with `*` at its front.
 //! 15. A line that is no command is refused 62 BadLine, but for `help`: it tells every word that begins a command, and `help
-//!     WORD` the form of that word's commands, with an example: `help FORM, as EXAMPLE`, and that they are refused beside workers if they are.
+//!     WORD` the form of that word's commands, with an example: `help FORM, as EXAMPLE`, and where they are refused, if they are.
 //!     Both are of the table of `script_words`.
 //! 16. Who tells the answers to a script is `Telling`: it says in which texts an answer may be told, and makes them. It may explain why a
 //!     line is refused, by the network after all accepted events.
 //!
 //! Stands on `work_units`, `path_trace`, `what_if`, `tokens`, `script_words`, `itoa`. A change here also changes specs/ (Answers, Audits,
 //! Changes, DeskRefusals, Ends, Filed, Help, Links, Mend, Messages, Refusals, Remedies, Replies, Reroutes, Rows, Shown, Status, Traces, Ways,
-//! WhatIfs, Why), proofs/, must-fail/ and wrong-bodies/.
+//! WhatIfs, Who, Why), proofs/, must-fail/ and wrong-bodies/.
 #![tactic(auto)]
 
 pub mod answer;
@@ -75,6 +75,7 @@ pub mod text;
 pub mod traces;
 pub mod ways;
 pub mod what_ifs;
+pub mod who;
 mod why;
 
 pub use answer::{Answer, Moved, NetAnswer, Publication, Reason, Reply, RowAnswer};
@@ -101,3 +102,4 @@ pub use text::Text;
 pub use traces::answer_trace;
 pub use ways::{Offer, Way, Ways};
 pub use what_ifs::answer_what_if;
+pub use who::{SeatCount, SeatCounts, SeatNames, answer_who};

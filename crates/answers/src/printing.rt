@@ -20,6 +20,7 @@ use crate::taken::put_all_taken;
 use crate::text::Text;
 use crate::traces::put_trace;
 use crate::what_ifs::{put_refused_values, put_report};
+use crate::who::put_who;
 use crate::why::put_why;
 use net_data::Refusal;
 use std::alloc::{AllocError, Global};
@@ -111,6 +112,7 @@ pub fn put_answer(alloc: Global, text: &mut String, answer: &Answer) -> Result<(
         Answer::Row(row) => put_row(alloc, text, row),
         Answer::Net(net) => put_net(alloc, text, net),
         Answer::Shown(shown) => put_shown(alloc, text, shown.as_shown()),
+        Answer::Who(counts) => put_who(text, counts),
         Answer::Help(told) => text.push_str(told.as_str()),
         Answer::Refused(reason) => put_reason(alloc, text, reason),
     }

@@ -1,7 +1,8 @@
 //! A text that an answer holds.
 
-ghost use Rattle.std.specs.Prelude.{◌≡◌, string_bytes};
+ghost use Rattle.std.specs.Prelude.{◌≡◌, IfOk, string_bytes};
 
+use std::alloc::{AllocError, Global};
 use std::marker::Model;
 
 /// A text. Contracts see its bytes.
@@ -24,6 +25,14 @@ impl Text {
         ensures { result ≡ string_bytes text }
     {
         Text { text }
+    }
+
+    /// The same text.
+    pub fn copy(&self, alloc: Global) -> Result<Text, AllocError>
+        ensures { IfOk result (λ text. text ≡ self.now) }
+    {
+        let text = String::from_str(alloc, self.text.as_str())?;
+        Ok(Text { text })
     }
 
     /// The text as a slice.

@@ -17,6 +17,7 @@ use Rattle.desk_console.specs.Watch.{unwatched}
 use Rattle.seats.specs.Minutes.{SeatValue, sight}
 use Rattle.versions.specs.Book.{no_table}
 use Rattle.versions.specs.Hubs.{PairValue}
+use Rattle.versions.specs.Authors.{authored_in, counts_of}
 use Rattle.versions.specs.Working.{Comes, ComesAndDoes, IsWorkedOn, leaving, left_at}
 use Rattle.versions.proofs.SeatLemmas.{alone, came_last, did_last}
 use Rattle.versions.specs.declared.state.DeskAndChain.{DeskAndChain}
@@ -25,7 +26,7 @@ use Rattle.sessions.specs.Run.{Ran}
 use Rattle.sessions.specs.declared.faults.Fault.{Fault}
 use Rattle.sessions.specs.declared.faults.Fault.TheVariants.{OutOfMemory}
 use Rattle.sessions.proofs.RunLemmas.{ran_nothing}
-use Rattle.beside.specs.Beside.{BesideValue, CommandsBeside, DoesAt, DoesThere, Finds, KeepsSynced, LeavesBeside, Looks, StartsBeside, Visits, VisitsAt, at_console, newcomer}
+use Rattle.beside.specs.Beside.{BesideValue, CommandsBeside, CountsSeats, DoesAt, DoesThere, Finds, KeepsSynced, LeavesBeside, Looks, StartsBeside, Visits, VisitsAt, at_console, newcomer}
 use Rattle.beside.specs.Runs.{IsFresh, RanBeside}
 use Rattle.beside.specs.Seats.{Came, StaysSeated}
 
@@ -175,6 +176,12 @@ visit_found (Err e) seats seat there seen chain synced watch found comes told = 
 pub came_somewhere : {F : Type 0} (r : Result (Unit {0}) F) (seats : ℕ) (old : BesideValue) (found : DeskAndChain) (new : BesideValue) → OnOk r (VisitsAt seats old found new) → OnOk r (Visits seats old new)
 came_somewhere (Ok x) seats old found new is = (found, is)
 came_somewhere (Err e) seats old found new is = tt
+
+-- who comes, and is told the counts of the seats
+pub counts_somewhere : {T F : Type 0} (r : Result T F) (items : T → List ℕ) (seats : ℕ) (old : BesideValue) (found : DeskAndChain) (new : BesideValue) → IfOk r (λ counts. VisitsAt seats old found new)
+    → IfOk r (λ counts. items counts ≡ counts_of seats (authored_in new.seat.saw)) → IfOk r (λ counts. CountsSeats seats old (items counts) new)
+counts_somewhere (Ok x) items seats old found new is counts = ((found, is), counts)
+counts_somewhere (Err e) items seats old found new is counts = tt
 
 -- who came, and stays then
 pub came_stays : (seats : ℕ) (old there new : BesideValue) → Came seats old there → StaysSeated there new → Came seats old new

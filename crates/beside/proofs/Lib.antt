@@ -2,6 +2,8 @@ pub mod BesideLemmas
 pub mod RightLemmas
 pub mod WholeLemmas
 pub mod AlikeLemmas
+pub mod WatchLemmas
+pub mod EachLemmas
 pub mod SyncedLemmas
 pub mod ToldLemmas
 pub mod WorkersLemmas

@@ -149,6 +149,7 @@ module _ (line : List ℕ) (old : BesideValue) (a : Answer) (new : BesideValue) 
       comes_and_looks is.there is.visits.0 is.syncs.0 (none_taken (Some command.Sync) e refl) (visit_acts old is.visits.0 is.there is.visits.1) is.syncs.1
   obeyed (Some command.Version) e is = done_there (Some command.Version) e is.0 is.1 (ap (λ (c : ConsoleValue). c.desk.published) is.1.done.1)
   obeyed (Some (command.Last k)) e is = done_there (Some (command.Last k)) e is.0 is.1 (ap (λ (c : ConsoleValue). c.desk.published) is.1.done.1)
+  obeyed (Some command.Who) e is = stays_same old (taken_by line a) new (none_taken (Some command.Who) e refl) is.1
   obeyed (Some (command.Save file)) e is = done_there (Some (command.Save file)) e is.0 is.1 (ap (λ (c : ConsoleValue). c.desk.published) is.1.done.1)
   obeyed (Some (command.About asked y x)) e is = looks is.0 (none_taken (Some (command.About asked y x)) e refl) is.1
   obeyed (Some (command.Trace y x s)) e is = looks is.0 (none_taken (Some (command.Trace y x s)) e refl) is.1

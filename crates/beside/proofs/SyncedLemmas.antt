@@ -1,6 +1,5 @@
 -- Scripts with a `sync` between their events and what they ask are answered beside workers as in line.
-use Rattle.std.proofs.Common.{◌≡◌, ℕ, ◌+◌, ◌-◌, ◌^◌, ◌<◌, ◌≤◌, ◌==◌, ◌&&◌, ◌||◌, not, nat_lt, Bool, true, false, List, [], ◌∷◌, ◌++◌, Option, Some, None, option_map, refl, sym, ap, ◌∙◌, subst, length, take, arith, length-append, append-nil}
-use Rattle.std.specs.Prelude.{if◌then◌else◌}
+use Rattle.std.proofs.Common.{◌≡◌, ℕ, ◌+◌, ◌-◌, ◌^◌, ◌<◌, ◌≤◌, ◌==◌, not, Bool, true, false, List, [], ◌∷◌, ◌++◌, Option, Some, None, option_map, refl, sym, ap, ◌∙◌, subst, length, arith, length-append, append-nil}
 use Rattle.std.proofs.lemmas.List.{take_all}
 use Rattle.net_data.specs.declared.events.Event.{Event}
 use Rattle.net_data.specs.Edits.{replay}
@@ -20,7 +19,6 @@ use Rattle.desk_core.specs.Steps.{Posts, last_of}
 use Rattle.desk_core.specs.Runs.{IsSteadyDesk}
 use Rattle.desk_core.proofs.ReplayLemmas.{replay-append}
 use Rattle.answers.specs.Audits.{audit_answer}
-use Rattle.answers.specs.Changes.{Earlier, changes_answer, moved_since}
 use Rattle.answers.specs.Replies.{posted_answer}
 use Rattle.answers.specs.Reroutes.{reroutes_answer}
 use Rattle.answers.specs.Rows.{answer_about}
@@ -30,20 +28,16 @@ use Rattle.answers.specs.declared.answer.Answer.{Answer}
 use Rattle.answers.specs.declared.answer.Answer.TheVariants as answer
 use Rattle.answers.specs.declared.answer.Moved.{Moved}
 use Rattle.answers.specs.declared.answer.Publication.TheVariants as publication
-use Rattle.answers.specs.declared.answer.Reason.TheVariants as reason
 use Rattle.answers.specs.declared.answer.Reply.TheVariants as reply
 use Rattle.desk_console.specs.Pictures.{picture_told}
 use Rattle.desk_console.specs.Commands.{Commands, Obeys}
 use Rattle.desk_console.specs.Console.{ConsoleValue, opening}
-use Rattle.std.specs.Option.{option_or}
-use Rattle.std.proofs.lemmas.Bool.{ltb-false}
-use Rattle.desk_console.specs.Does.{Calls, Does, PostsAfter, PostsAll, PostsEach, PostsNext, PostsWhole, Syncs, Watches, events_refusal, save_told, taken_next, whole_against}
+use Rattle.desk_console.specs.Does.{Calls, Does, PostsAfter, PostsAll, PostsWhole, Syncs, Watches, events_refusal, save_told, whole_against}
 use Rattle.net_building.specs.Wholes.{whole_events, whole_refusal}
 use Rattle.net_building.specs.declared.wholes.Whole.{Whole}
-use Rattle.net_data.specs.declared.events.Refusal.TheVariants.{NoSet}
 use Rattle.work_units.specs.declared.replies.Refusal.{Refusal}
-use Rattle.work_units.specs.declared.replies.Refusal.TheVariants.{BacklogFull, Edit, EndOfNumbers}
-use Rattle.desk_console.specs.Watch.{WatchValue, changes_told, kept_at, newest, notice, told_since, watched}
+use Rattle.work_units.specs.declared.replies.Refusal.TheVariants.{Edit}
+use Rattle.desk_console.specs.Watch.{WatchValue, changes_told, notice}
 use Rattle.desk_console.specs.Syncing.{HasKept, synced}
 use Rattle.sessions.specs.Lines.{is_silent, is_too_long, trimmed}
 use Rattle.sessions.specs.Replies.{Answered, Answers, AreTexts, IsReply, Replies}
@@ -51,7 +45,7 @@ use Rattle.versions.specs.Chains.{ChainPrefixValue, EndsWith}
 use Rattle.versions.specs.Worked.{LosesNothing}
 use Rattle.versions.specs.declared.state.DeskAndChain.{DeskAndChain}
 use Rattle.versions.proofs.WorkedLemmas.{worked_keeps}
-use Rattle.beside.specs.Beside.{BesideValue, CommandsBeside, DoesAt, Finds, KeepsSynced, LeavesBeside, Looks, ObeysBeside, StartsBeside, SyncsThere, VisitsAt, WatchesBeside, PostsAllBeside, PostsEachBeside, PostsWholeBeside, at_console}
+use Rattle.beside.specs.Beside.{BesideValue, CommandsBeside, DoesAt, Finds, KeepsSynced, LeavesBeside, Looks, ObeysBeside, StartsBeside, SyncsThere, VisitsAt, WatchesBeside, PostsAllBeside, PostsWholeBeside, at_console}
 use Rattle.histories.specs.Right.{AreRight, IsRightAt}
 use Rattle.beside.specs.Synced.{IsSynced, MayCome, command_in, events_after, said_by}
 use Rattle.desk_console.specs.Taken.{taken_at}
@@ -60,59 +54,10 @@ use Rattle.histories.proofs.KeepLemmas.{Keeps, keeps_worked, new_is_steady}
 use Rattle.beside.proofs.BesideLemmas.{visited}
 use Rattle.beside.proofs.RightLemmas.{Later, each_acts, finds_later, keeps_acted, keeps_first, keeps_moved, line_moves, seen_right, visit_acts}
 use Rattle.beside.proofs.AlikeLemmas.{Alike, IsSettled, last_same, more_alike, no_length, post_aims, posts_same, rises, same_alike, synced_settled}
+use Rattle.beside.proofs.WatchLemmas.{IsShown, notice_same, shown_still, told_alike, watch_same}
+use Rattle.beside.proofs.EachLemmas.{against_same, each_alike, each_keeps, each_still, none_or, room_for, some_events}
 
 -- ---- beside workers and in line
-
--- the last `sync` told what is published in line, and the same is kept for `changes`
-abbrev IsShown : BesideValue → ConsoleValue → Type 0
-IsShown b c = (b.synced.number ≡ c.desk.published.number) × (b.synced.network ≡ c.desk.published.network) × (b.watch ≡ c.watch)
-
--- what is told by the numbers and networks of versions
-abbrev watch_by : WatchValue → ℕ → Network → ℕ → WatchValue
-watch_by w m old n = if not (n == m) then record w { kept = Some (record { number = m; network = old }) ∷ take 7 w.kept } else w
-
-abbrev notice_by : WatchValue → ℕ → Network → ℕ → Network → Option Moved
-notice_by w m old n new = if w.is_on && not (n == m) then Some (moved_since (newest (watch_by w m old n)) new) else None
-
-abbrev since_by : Option Earlier → ℕ → Network → Answer
-since_by None number net = answer.Refused reason.NotKept
-since_by (Some old) number net = changes_answer (Some old) number net
-
-abbrev told_by : WatchValue → Option ℕ → ℕ → Network → Answer
-told_by w None number net = changes_answer (newest w) number net
-told_by w (Some n) number net = since_by (kept_at w n) number net
-
-module _ (w x : WatchValue) (old other new next : VersionValue) where
-  watch_same : w ≡ x → old.number ≡ other.number → old.network ≡ other.network → new.number ≡ next.number → watched w old new ≡ watched x other next
-  watch_same same number network later =
-      ap (λ (q : WatchValue). watch_by q old.number old.network new.number) same ∙ ap (λ (k : ℕ). watch_by x k old.network new.number) number
-      ∙ ap (λ (net : Network). watch_by x other.number net new.number) network ∙ ap (watch_by x other.number other.network) later
-
-  notice_same : w ≡ x → old.number ≡ other.number → old.network ≡ other.network → new.number ≡ next.number → new.network ≡ next.network → notice w old new ≡ notice x other next
-  notice_same same number network later left =
-      ap (λ (q : WatchValue). notice_by q old.number old.network new.number new.network) same ∙ ap (λ (k : ℕ). notice_by x k old.network new.number new.network) number
-      ∙ ap (λ (net : Network). notice_by x other.number net new.number new.network) network ∙ ap (λ (k : ℕ). notice_by x other.number other.network k new.network) later
-      ∙ ap (notice_by x other.number other.network next.number) left
-
-since_is : (e : Option Earlier) (version : VersionValue) → told_since e version ≡ since_by e version.number version.network
-since_is None version = refl
-since_is (Some old) version = refl
-
-told_is : (w : WatchValue) (since : Option ℕ) (version : VersionValue) → changes_told w since version ≡ told_by w since version.number version.network
-told_is w None version = refl
-told_is w (Some n) version = since_is (kept_at w n) version
-
-told_alike : (w x : WatchValue) (since : Option ℕ) (old other : VersionValue) → w ≡ x → old.number ≡ other.number → old.network ≡ other.network → changes_told w since old ≡ changes_told x since other
-told_alike w x since old other same number network =
-    told_is w since old ∙ ap (λ (q : WatchValue). told_by q since old.number old.network) same ∙ ap (λ (k : ℕ). told_by x since k old.network) number
-    ∙ ap (told_by x since other.number) network ∙ sym (told_is x since other)
-
-shown_still : (b new : BesideValue) (c end : ConsoleValue) → IsShown b c → KeepsSynced b new → end.desk.published ≡ c.desk.published → end.watch ≡ c.watch → IsShown new end
-shown_still b new c end shown kept published watch = (
-  ap (λ (v : VersionValue). v.number) kept.0 ∙ shown.0 ∙ ap (λ (v : VersionValue). v.number) (sym published),
-  ap (λ (v : VersionValue). v.network) kept.0 ∙ shown.1 ∙ ap (λ (v : VersionValue). v.network) (sym published),
-  kept.1 ∙ shown.2 ∙ sym watch,
-)
 
 -- what stands beside workers and in line, so many events after the last `sync`: the same events are accepted, the last version that the reader knows has all
 -- but those, and the last `sync` told what is published in line
@@ -175,88 +120,6 @@ stands_same start es n new end seen kept alike aim shown =
       near = omega arith;
       shown = shown;
     }
-
--- ---- whole sets and points
-
--- an event that is posted next at two such desks, and answered `taken` at both
-next_alike : (n : ℕ) → n < 65536 → (event : Event) (p p' q q' : ConsoleValue) → Alike n p.desk q.desk → PostsNext 0 event p (taken_next p.desk) p' → PostsNext 0 event q (taken_next q.desk) q' → Alike (n + 1) p'.desk q'.desk
-next_alike n small event p p' q q' alike = go ((last_of p.desk 0).seq == 2 ^ 64 - 1) ((last_of q.desk 0).seq == 2 ^ 64 - 1)
-  where
-    go : (b c : Bool) → PostsAfter b 0 event p (taken_next p.desk) p' → PostsAfter c 0 event q (taken_next q.desk) q' → Alike (n + 1) p'.desk q'.desk
-    go true c is at = absurd (let no = is.0 in cc)
-    go false true is at = absurd (let no = at.0 in cc)
-    go false false is at =
-        (posts_same n p.desk q.desk alike small 0 ((last_of p.desk 0).seq + 1) event is.0 at.0 p'.desk q'.desk is.2 at.2 is.1
-        (subst (λ (l : Last). Posts q.desk 0 (l.seq + 1) event at.0 q'.desk) (sym (last_same n p.desk q.desk 0 alike)) at.1)).1
-
-each_alike : (n : ℕ) (event : Event) (events : List Event) → n + length (event ∷ events) ≤ 65536 → (b : BesideValue) (found : DeskAndChain) (new : BesideValue) (c end : ConsoleValue) → Alike n found.desk c.desk
-    → PostsEachBeside 1 0 (event ∷ events) b found new → PostsEach 0 (event ∷ events) c end → Alike (n + length (event ∷ events)) new.left.desk end.desk
-each_alike n event [] room b found new c end alike is at =
-    let one : Alike (n + 1) is.0.left.desk at.0.desk = next_alike n (omega arith) event (at_console found.desk) (at_console is.0.left.desk) c at.0 alike is.1.done at.1 in
-    same_alike (n + 1) is.0.left.desk at.0.desk new.left.desk end.desk one (ap (λ (x : BesideValue). x.left.desk) is.2) (ap (λ (d : ConsoleValue). d.desk) at.2)
-each_alike n event (next ∷ events) room b found new c end alike is at =
-    let one : Alike (n + 1) is.0.left.desk at.0.desk = next_alike n (omega arith) event (at_console found.desk) (at_console is.0.left.desk) c at.0 alike is.1.done at.1 in
-    let count : n + 1 + length (next ∷ events) ≡ n + length (event ∷ next ∷ events) = omega arith in
-    subst (λ (k : ℕ). Alike k new.left.desk end.desk) count (each_alike (n + 1) next events (omega arith) is.0 is.0.left new at.0 end one is.2 at.2)
-
--- what is kept by posts, in line
-each_still : (events : List Event) (c end : ConsoleValue) → PostsEach 0 events c end → (end.desk.published ≡ c.desk.published) × (end.watch ≡ c.watch) × (end.desk.target ≡ c.desk.target)
-each_still [] c end is = (ap (λ (d : ConsoleValue). d.desk.published) is, ap (λ (d : ConsoleValue). d.watch) is, ap (λ (d : ConsoleValue). d.desk.target) is)
-each_still (event ∷ events) c end is =
-    let rest = each_still events is.0 end is.2 in
-    let one = go ((last_of c.desk 0).seq == 2 ^ 64 - 1) is.1 in (rest.0 ∙ one.0, rest.1 ∙ one.1, rest.2 ∙ one.2)
-  where
-    go : (b : Bool) → PostsAfter b 0 event c (taken_next c.desk) is.0 → (is.0.desk.published ≡ c.desk.published) × (is.0.watch ≡ c.watch) × (is.0.desk.target ≡ c.desk.target)
-    go true does = absurd (let no = does.0 in cc)
-    go false does =
-        let seq : ℕ = (last_of c.desk 0).seq + 1 in
-        (post_publishes_none c.desk 0 seq event does.0 is.0.desk does.1, does.5, post_aims c.desk 0 seq event does.0 is.0.desk does.1)
-
--- and beside workers
-each_keeps : (events : List Event) (b : BesideValue) (found : DeskAndChain) (new : BesideValue) → PostsEachBeside 1 0 events b found new → KeepsSynced b new
-each_keeps [] b found new is = (ap (λ (x : BesideValue). x.synced) is, ap (λ (x : BesideValue). x.watch) is)
-each_keeps (event ∷ events) b found new is =
-    let rest = each_keeps events is.0 is.0.left new is.2 in (rest.0 ∙ is.1.kept.0, rest.1 ∙ is.1.kept.1)
-
--- what stands against the change, by what it depends on
-abbrev against_by : Whole → Network → ℕ → ℕ → ℕ → Option Refusal
-against_by w net seq count waiting =
-    option_or (option_map (λ r. Edit r) (whole_refusal net w))
-    (if length (whole_events net w) == 0 then Some (Edit NoSet)
-    else if nat_lt (2 ^ 64 - 1) (seq + length (whole_events net w)) || nat_lt (2 ^ 64 - 1) (count + length (whole_events net w)) then Some EndOfNumbers
-    else if nat_lt 65536 (waiting + length (whole_events net w)) then Some BacklogFull else None)
-
--- at two such desks, where nothing waits, the same stands against it
-against_same : (s t : DeskValue) (w : Whole) → Alike 0 s t → whole_against s 0 w ≡ whole_against t 0 w
-against_same s t w alike =
-    let few = alike.few in
-    let less = alike.less in
-    let waiting : length s.pending ≡ length t.pending = omega arith in
-    ap (λ (net : Network). against_by w net (last_of s 0).seq (accepted s) (length s.pending)) alike.net
-    ∙ ap (λ (l : Last). against_by w (net_now t) l.seq (accepted s) (length s.pending)) (last_same 0 s t 0 alike)
-    ∙ ap (λ (k : ℕ). against_by w (net_now t) (last_of t 0).seq k (length s.pending)) alike.count
-    ∙ ap (against_by w (net_now t) (last_of t 0).seq (accepted t)) waiting
-
-none_or : (a b : Option Refusal) → option_or a b ≡ None → b ≡ None
-none_or None b h = h
-none_or (Some x) b h = absurd (cc)
-
--- where nothing stands against it there is something to post
-some_events : (s : DeskValue) (w : Whole) → whole_against s 0 w ≡ None → whole_events (net_now s) w ≡ [] → ⊥
-some_events s w free none =
-    let no : Some (Edit NoSet) ≡ None = ap (events_refusal s 0) (sym none) ∙ none_or (option_map (λ r. Edit r) (whole_refusal (net_now s) w)) (events_refusal s 0 (whole_events (net_now s) w)) free in cc
-
--- and there is room for it
-room_for : (s : DeskValue) (events : List Event) → events_refusal s 0 events ≡ None → length s.pending + length events ≤ 65536
-room_for s events free =
-    go (length events == 0) (nat_lt (2 ^ 64 - 1) ((last_of s 0).seq + length events) || nat_lt (2 ^ 64 - 1) (accepted s + length events)) (nat_lt 65536 (length s.pending + length events)) refl free
-  where
-    go : (a b c : Bool) → nat_lt 65536 (length s.pending + length events) ≡ c → (if a then Some (Edit NoSet) else if b then Some EndOfNumbers else if c then Some BacklogFull else None) ≡ None
-        → length s.pending + length events ≤ 65536
-    go true b c is h = absurd (cc)
-    go false true c is h = absurd (cc)
-    go false false true is h = absurd (cc)
-    go false false false is h = ltb-false 65536 (length s.pending + length events) is
 
 wider : (n m : ℕ) (s t : DeskValue) → n ≤ m → Alike n s t → Alike m s t
 wider n m s t low alike =
@@ -533,6 +396,7 @@ module _ (start : DeskValue) (steady : IsSteadyDesk start) (es more : List Event
         synced_same start steady es n is.there c (visited_same start steady es n b c same keeps is.visits.0 is.there stands is.visits.1) stands x y new end later is.syncs at
     obeys_same other (Some command.Version) may is at = versions_same is.0 may is.1 at
     obeys_same other (Some (command.Last k)) may is at = lasts_same is.0 k is.1 at
+    obeys_same other (Some command.Who) may is at = (is.0 ∙ sym at.0, still_same n b new c end same is.1 at.1)
     obeys_same other (Some (command.Save file)) may is at = saves_same is.0 file is.1 at
     obeys_same other (Some (command.About asked p d)) may is at = asks_same (λ net. answer_about asked net p d) is.0 may is.1 is.2 at.0 at.1 is.3
     obeys_same other (Some (command.Trace p d s)) may is at = asks_same (λ net. trace_answer (trace_at net p d s)) is.0 may is.1 is.2 at.0 at.1 is.3

@@ -20,7 +20,7 @@ use Rattle.net_building.specs.declared.wholes.Whole.{Whole}
 use Rattle.desk_console.specs.Does.{CanPost, PostsAfter, PostsNext, Tells, taken_next, whole_against}
 use Rattle.desk_console.proofs.RunLemmas.{taken_one}
 use Rattle.desk_console.proofs.WholeLemmas.{one_posted}
-use Rattle.histories.proofs.CountLemmas.{IsPosted, post_is}
+use Rattle.versions.proofs.EventLemmas.{IsPosted, post_is}
 use Rattle.versions.specs.Working.{leaving}
 use Rattle.versions.specs.declared.state.DeskAndChain.{DeskAndChain}
 use Rattle.beside.specs.Beside.{BesideValue, DoesAt, Leaves, PostsAllBeside, PostsEachBeside, PostsWholeBeside, at_console}

@@ -9,7 +9,7 @@ ghost use Rattle.net_versions.specs.Versions.{VersionValue};
 ghost use Rattle.script_words.specs.Commands.{IsWithin};
 ghost use Rattle.sessions.specs.Run.{CutsOff};
 ghost use Rattle.desk_console.specs.Does.{PostsNext};
-ghost use Rattle.beside.specs.Beside.{DoesBeside, DoesThere, KeepsSynced, Looks, PostsWholeBeside, SyncsBeside, SyncsThere, Visits};
+ghost use Rattle.beside.specs.Beside.{CountsSeats, DoesBeside, DoesThere, KeepsSynced, Looks, PostsWholeBeside, SyncsBeside, SyncsThere, Visits};
 ghost use Rattle.beside.specs.Seats.{Came, CamePosting, Goes, Parts, StaysSeated};
 
 use crate::visitor::Visitor;
@@ -223,6 +223,20 @@ impl<'a, N: Naming, R: Wait> Beside<'a, N, R> {
         self.visitor.visit(self.rt, &mut *self.hub.lock(self.rt))
     }
 
+    /// Comes to the hub, changes nothing there, and tells how many events were accepted through each seat.
+    ///
+    /// # Errors
+    ///
+    /// A fault that cuts the answers off.
+    pub fn count(&mut self, alloc: Global) -> Result<Vec<u64>, Fault>
+        ensures counts { IfOk result (λ counts. CountsSeats N.seats self.old counts.items self.new) }
+        ensures comes { Came N.seats self.old self.new }
+        ensures fault { IfErr result (CutsOff (Unit {0})) }
+    {
+        self.visitor
+            .count(self.rt, alloc, &mut *self.hub.lock(self.rt))
+    }
+
     /// Waits until all is published that had been accepted when it left the hub.
     fn sync_there(&mut self, alloc: Global) -> Result<Answer, Fault>
         ensures does { IfOk result (λ answer. SyncsThere self.old answer self.new) }
@@ -261,7 +275,8 @@ impl<'a, N: Naming, R: Wait> Beside<'a, N, R> {
             | Command::Take(_)
             | Command::Give(_)
             | Command::Abandon(_)
-            | Command::Publish => Ok(Answer::Refused(Reason::BadLine)),
+            | Command::Publish
+            | Command::Who => Ok(Answer::Refused(Reason::BadLine)),
             _ => self.visitor.tell(alloc, command),
         }
     }

@@ -182,7 +182,7 @@ fn run_named<
     requires one { N.seats ≡ 1 }
     ensures { S.ran script (newcomer (first_seat unnamed) unnamed.state) (R.remaining reader) (R.remaining result.reader) (W.contents writer) (W.contents result.writer) result.end }
 {
-    match unnamed.named::<N>(alloc) {
+    match unnamed.named::<N>(alloc, 1) {
         Ok((hub, guest)) => read_at(rt, alloc, n, gate, reader, writer, hub, guest, script),
         Err(_) => script.refuse(reader, writer, Fault::NoPlace),
     }

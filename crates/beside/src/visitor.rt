@@ -11,6 +11,7 @@ ghost use Rattle.desk_console.specs.Console.{net_of};
 ghost use Rattle.desk_console.specs.Does.{Calls, HasMemory, PostsNext, Tells, last_told, save_told, version_of};
 ghost use Rattle.desk_console.specs.Watch.{changes_told, notice, watched};
 ghost use Rattle.sessions.specs.Run.{CutsOff};
+ghost use Rattle.versions.specs.Authors.{authored_in, counts_of};
 ghost use Rattle.versions.specs.Chains.{EndsWith, IsChain};
 ghost use Rattle.versions.specs.Working.{Comes, left_at};
 ghost use Rattle.beside.specs.Seats.{Came, CamePosting, Goes, StaysSeated};
@@ -122,6 +123,24 @@ impl<N: Naming> Visitor<N> {
         self.guest.visit(rt, hub);
         self.accepted = hub.desk().accepted();
         tell(hub, &mut self.reader)
+    }
+
+    /// Comes to the hub, changes nothing there, and tells how many events were accepted through each seat.
+    pub(crate) fn count<R: Wait>(
+        &mut self,
+        rt: &R,
+        alloc: Global,
+        hub: &mut Hub<N, BySeats>,
+    ) -> Result<Vec<u64>, Fault>
+        ensures found { IfOk result (λ counts. VisitsAt N.seats self.old hub.old.state self.new) }
+        ensures counts { IfOk result (λ counts. counts.items ≡ counts_of N.seats (authored_in self.new.seat.saw)) }
+        ensures comes { Came N.seats self.old self.new }
+        ensures fault { IfErr result (CutsOff (Unit {0})) }
+    {
+        let counts = self.guest.count(rt, alloc, hub);
+        self.accepted = hub.desk().accepted();
+        tell(hub, &mut self.reader)?;
+        Ok(counts?)
     }
 
     /// A post, at the hub as it is found.

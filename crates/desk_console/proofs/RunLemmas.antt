@@ -153,6 +153,7 @@ module _ (line : List ℕ) (c : ConsoleValue) (a : Answer) (new : ConsoleValue) 
   command_runs (command.Picture file about) here is = told (rw here refl) is.1
   command_runs (command.Show what) here is = told (rw here refl) is.1
   command_runs (command.Last collector) here is = told (rw here refl) is.1
+  command_runs command.Who here is = told (rw here refl) is.1
   command_runs (command.Save file) here is = told (rw here refl) is.1
   command_runs (command.Changes since) here is = told (rw here refl) is.1
   command_runs (command.Watch is_on) here is = silent (rw here refl) (unmoved c.desk new.desk (ap (λ (d : ConsoleValue). d.desk) is.1))

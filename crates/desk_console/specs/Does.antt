@@ -200,6 +200,8 @@ Does command.Sync c = Syncs c
 Does command.Version c = Tells (version_of c.desk) c
 -- `last C`
 Does (command.Last collector) c = Tells (last_told c.desk collector) c
+-- `who`: a script in line has no seats
+Does command.Who c = Tells (answer.Refused reason.BadLine) c
 -- `save FILE`
 Does (command.Save file) c = Tells (save_told file (net_of c)) c
 -- a question

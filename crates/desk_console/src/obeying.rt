@@ -167,6 +167,7 @@ impl Console {
             Command::Sync => self.sync(alloc),
             Command::Version => Ok(self.version()),
             Command::Last(collector) => Ok(self.last(*collector)),
+            Command::Who => Ok(Answer::Refused(Reason::BadLine)),
             Command::Save(file) => self.save(alloc, file.as_str()),
             Command::Changes(since) => self.changes(alloc, *since),
             Command::Watch(is_on) => Ok(self.set_watch(*is_on)),

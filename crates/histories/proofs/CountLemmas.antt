@@ -1,6 +1,5 @@
 -- What a run of a desk has accepted, and the versions of a chain after more events.
-use Rattle.std.proofs.Common.{◌≡◌, ℕ, ◌+◌, ◌-◌, ◌≤◌, Bool, true, false, List, [], ◌∷◌, ◌++◌, Option, Some, None, Result, Ok, Err, inl, inr, refl, sym, ap, ◌∙◌, subst, length, take, drop, arith, length-append, append-nil, append_assoc}
-use Rattle.std.specs.Prelude.{◌⊎◌}
+use Rattle.std.proofs.Common.{◌≡◌, ℕ, ◌+◌, ◌-◌, ◌≤◌, List, [], ◌∷◌, ◌++◌, Option, Some, None, Result, Ok, inl, inr, refl, sym, ap, ◌∙◌, subst, length, take, drop, arith, length-append, append-nil, append_assoc}
 use Rattle.std.specs.Option.{MatchOption, option_map_or}
 use Rattle.std.proofs.lemmas.List.{take-append-le}
 use mathlib.Core.List.{IsPrefix}
@@ -10,15 +9,13 @@ use Rattle.net_data.specs.Network.{Network}
 use Rattle.net_versions.specs.Versions.{VersionValue, settled_tables}
 use Rattle.path_trace.specs.Traces.{trace_at}
 use Rattle.work_units.specs.declared.replies.Posted.{Posted}
-use Rattle.work_units.specs.declared.replies.Posted.TheVariants.{Taken}
 use Rattle.work_units.specs.declared.replies.Refusal.{Refusal}
-use Rattle.desk_core.specs.declared.posts.Last.{Last}
 use Rattle.desk_core.specs.declared.steps.Step.{Step}
 use Rattle.desk_core.specs.declared.steps.Step.TheVariants as step
 use Rattle.desk_core.specs.declared.steps.Reply.{Reply}
 use Rattle.desk_core.specs.declared.steps.Reply.TheVariants as reply
 use Rattle.desk_core.specs.Desk.{DeskValue, OpenTarget, accepted, net_now}
-use Rattle.desk_core.specs.Steps.{IsPost, IsReply, Posts, is_last, last_of, post_refusal, repeated, with_post}
+use Rattle.desk_core.specs.Steps.{Posts, with_post}
 use Rattle.desk_core.specs.Runs.{IsRightVersion, IsRunOf, IsSteadyDesk, Numbers, Runs, Steps, accepted_by, accepted_in, event_taken, events_up_to, first_numbers, numbers_after, numbers_by}
 use Rattle.desk_core.proofs.ReplayLemmas.{replay-append, replay-push}
 use Rattle.desk_core.proofs.RunLemmas.{right_after, runs-push}
@@ -26,6 +23,7 @@ use Rattle.versions.specs.Chains.{ChainPrefixValue}
 use Rattle.versions.specs.Worked.{LosesNothing}
 use Rattle.versions.specs.Working.{IsOfWorker, Works, shown_after}
 use Rattle.versions.specs.declared.state.DeskAndChain.{DeskAndChain}
+use Rattle.versions.proofs.EventLemmas.{IsPosted, post_is}
 use Rattle.versions.proofs.WorkedLemmas.{worked_keeps}
 use Rattle.histories.specs.Right.{AreRight, IsRightAt}
 
@@ -112,28 +110,6 @@ grown s collector seq event steady =
     ahead (Some target) is =
         let longer : length (s.pending ++ event ∷ []) ≡ length s.pending + 1 = length-append s.pending (event ∷ []) in
         let within = is.1 in (is.0, omega arith)
-
--- a post leaves all as it was, or its event is accepted
-abbrev pub IsPosted : DeskValue → ℕ → ℕ → Event → Result Posted Refusal → DeskValue → Type 0
-IsPosted s collector seq event result t =
-    ((event_taken event (reply.Post result) ≡ []) × (t ≡ s)) ⊎ ((event_taken event (reply.Post result) ≡ event ∷ []) × (t ≡ with_post s collector seq event))
-
-pub post_is : (s : DeskValue) (collector seq : ℕ) (event : Event) (result : Result Posted Refusal) (t : DeskValue) → Posts s collector seq event result t → IsPosted s collector seq event result t
-post_is s collector seq event result t = go (is_last s collector seq)
-  where
-    fresh : (o : Option Refusal) (result : Result Posted Refusal) → IsReply o (λ answer after. (answer ≡ Taken (accepted s + 1)) × (after ≡ with_post s collector seq event)) s result t
-        → IsPosted s collector seq event result t
-    fresh (Some refusal) result is = inl (ap (λ (r : Result Posted Refusal). event_taken event (reply.Post r)) is.0, is.1)
-    fresh None (Ok p) is = inr (ap (λ (q : Posted). event_taken event (reply.Post (Ok q))) is.0, is.1)
-    fresh None (Err e) is = inl (refl, is.1)
-
-    again : (last : Last) (same : Bool) → result ≡ repeated last same → event_taken event (reply.Post result) ≡ []
-    again last true is = ap (λ (r : Result Posted Refusal). event_taken event (reply.Post r)) is
-    again last false is = ap (λ (r : Result Posted Refusal). event_taken event (reply.Post r)) is
-
-    go : (b : Bool) → IsPost b s collector seq event result t → IsPosted s collector seq event result t
-    go true is = inl (again (last_of s collector) is.0 is.2, is.3)
-    go false is = fresh (post_refusal s collector seq event) result is
 
 -- a post leaves the published version
 pub post_publishes_none : (s : DeskValue) (collector seq : ℕ) (event : Event) (result : Result Posted Refusal) (t : DeskValue) → Posts s collector seq event result t → t.published ≡ s.published

@@ -1,30 +1,28 @@
 -- The one history of a hub explains what each of its guests saw.
-use Rattle.std.proofs.Common.{◌≡◌, ◌≢◌, ℕ, ◌+◌, Bool, true, false, List, [], ◌∷◌, ◌++◌, Option, None, Result, inl, inr, ⊎_elim, refl, sym, ap, ◌∙◌, subst, length, drop, arith, append-nil, append_assoc}
-use Rattle.std.specs.Prelude.{◌⊎◌, ◌==◌, if◌then◌else◌}
-use Rattle.std.proofs.Math.Seq.{drop-append_seam}
-use Rattle.std.proofs.lemmas.Bool.Decides.{nat_tests}
+use Rattle.std.proofs.Common.{◌≡◌, ℕ, ◌+◌, List, [], ◌∷◌, ◌++◌, Result, inl, inr, refl, sym, ap, ◌∙◌, subst, arith, append-nil, append_assoc}
 use mathlib.Core.List.{IsPrefix}
 use Rattle.net_data.specs.declared.events.Event.{Event}
 use Rattle.net_data.specs.Network.{Network}
-use Rattle.net_versions.specs.Versions.{VersionValue, settled_version}
 use Rattle.work_units.specs.declared.replies.Posted.{Posted}
 use Rattle.work_units.specs.declared.replies.Refusal.{Refusal}
 use Rattle.desk_core.specs.declared.steps.Step.TheVariants as step
 use Rattle.desk_core.specs.declared.steps.Reply.TheVariants as reply
-use Rattle.desk_core.specs.Desk.{DeskValue, accepted, new_desk}
+use Rattle.desk_core.specs.Desk.{new_desk}
 use Rattle.desk_core.specs.Steps.{Posts}
-use Rattle.desk_core.specs.Runs.{IsRunOf, IsSteadyDesk, event_taken}
-use Rattle.desk_core.proofs.RunLemmas.{right_after, run_none, run_one}
+use Rattle.desk_core.specs.Runs.{IsRunOf, event_taken}
+use Rattle.desk_core.proofs.RunLemmas.{run_one}
 use Rattle.seats.specs.Minutes.{NoneOf, OnlyOthersSince, SeatValue, sight}
 use Rattle.seats.specs.declared.rule.Sight.{Sight}
-use Rattle.versions.specs.Chains.{ChainPrefixValue, IsChain}
-use Rattle.versions.specs.Working.{Comes, ComesAndDoes, Follow, IsCall, IsHistory, IsWorkedOn, StepsTo, last_sight, leaving, left_at}
+use Rattle.versions.specs.Chains.{ChainPrefixValue}
+use Rattle.versions.specs.Working.{Comes, ComesAndDoes, Follow, IsCall, IsHistory, IsWorkedOn, StepsTo, last_sight, left_at}
 use Rattle.versions.specs.declared.state.DeskAndChain.{DeskAndChain}
 use Rattle.versions.proofs.WorkedLemmas.{worked_keeps}
-use Rattle.histories.specs.Right.{AreRight, IsRightAt}
-use Rattle.histories.specs.Histories.{AreRightSights, Authored, IsExplained, IsOpening, IsRightHub, IsTaken, all_by, authored, batches, events_by, events_in, events_of, own_events, taken_between}
+use Rattle.versions.proofs.AuthorLemmas.{authored_append, between, by_append, others_none, own_push}
+use Rattle.versions.proofs.SeatLemmas.{left_push}
+use Rattle.versions.specs.Authors.{Authored, all_by, authored, batches, events_by, events_in, events_of, own_events, taken_between}
+use Rattle.versions.proofs.EventLemmas.{post_events, worked_events}
+use Rattle.histories.specs.Histories.{AreRightSights, IsExplained, IsOpening, IsRightHub, IsTaken}
 use Rattle.histories.proofs.CountLemmas.{Counts, post_publishes_none, run_counts}
-use Rattle.histories.proofs.EventLemmas.{post_events, worked_events}
 use Rattle.histories.proofs.KeepLemmas.{Keeps, ends_same, keeps_opened, keeps_stay, keeps_worked, new_is_steady}
 
 -- ---- what holds at each sight
@@ -87,9 +85,6 @@ in_all : (me : ℕ) (es : List Event) (more : List Authored) → events_in (all_
 in_all me [] more = refl
 in_all me (e ∷ es) more = ap (λ (l : List Event). e ∷ l) (in_all me es more)
 
-pub between : (s t : DeskAndChain) (more : List Event) → events_of t ≡ events_of s ++ more → taken_between s t ≡ more
-between s t more is = ap (drop (length (events_of s))) is ∙ drop-append_seam (events_of s) more
-
 explained : (start : Network) (first : Sight DeskAndChain) (later : List (Sight DeskAndChain)) → Right start first.state → Follow first later
     → AreRightSights start first later × (events_of (last_sight first later).state ≡ events_of first.state ++ events_in (authored first later))
 explained start first [] h follow = (right_hub start first.state h, sym (append-nil (events_of first.state)))
@@ -112,32 +107,6 @@ history_explains start first later opens follow =
 
 -- ---- one seat's own
 
-by_append : (me : ℕ) (xs ys : List Authored) → events_by me (xs ++ ys) ≡ events_by me xs ++ events_by me ys
-by_append me [] ys = refl
-by_append me (x ∷ xs) ys =
-    ap (λ (l : List Event). (if x.by == me then x.event ∷ [] else []) ++ l) (by_append me xs ys)
-    ∙ sym (append_assoc (if x.by == me then x.event ∷ [] else []) (events_by me xs) (events_by me ys))
-
-other_none : (me by : ℕ) (e : Event) → by ≢ me → (if by == me then e ∷ [] else []) ≡ []
-other_none me by e apart = grind (arith, nat_tests)
-
-own_one : (me : ℕ) (e : Event) → (if me == me then e ∷ [] else []) ≡ e ∷ []
-own_one me e = grind (arith, nat_tests)
-
-others_none : (me by : ℕ) (es : List Event) → by ≢ me → events_by me (all_by by es) ≡ []
-others_none me by [] apart = refl
-others_none me by (e ∷ es) apart = (λ i. other_none me by e apart i ++ others_none me by es apart i)
-
-own_all : (me : ℕ) (es : List Event) → events_by me (all_by me es) ≡ es
-own_all me [] = refl
-own_all me (e ∷ es) = (λ i. own_one me e i ++ own_all me es i)
-
-pub authored_append : (x : Sight DeskAndChain) (xs ys : List (Sight DeskAndChain)) → authored x (xs ++ ys) ≡ authored x xs ++ authored (last_sight x xs) ys
-authored_append x [] ys = refl
-authored_append x (z ∷ zs) ys =
-    ap (λ (l : List Authored). all_by z.by (taken_between x.state z.state) ++ l) (authored_append z zs ys)
-    ∙ sym (append_assoc (all_by z.by (taken_between x.state z.state)) (authored z zs) (authored (last_sight z zs) ys))
-
 none_after : (me : ℕ) (x : Sight DeskAndChain) (ys : List (Sight DeskAndChain)) → NoneOf me ys → events_by me (authored x ys) ≡ []
 none_after me x [] none = refl
 none_after me x (y ∷ ys) none =
@@ -153,15 +122,6 @@ others_later me (x ∷ xs) ys is none =
 pub others_leave : (me : ℕ) (saw log : List (Sight DeskAndChain)) → IsHistory saw → OnlyOthersSince me saw log → own_events me log ≡ own_events me saw
 others_leave me saw log is since = ap (own_events me) since.whole ∙ others_later me saw since.since is since.others
 
--- one sight more of one's own
-own_push : (me : ℕ) (log : List (Sight DeskAndChain)) (t : DeskAndChain) → IsHistory log → own_events me (log ++ sight me t ∷ []) ≡ own_events me log ++ taken_between (left_at log) t
-own_push me [] t is = absurd is
-own_push me (x ∷ xs) t is =
-    ap (events_by me) (authored_append x xs (sight me t ∷ []))
-    ∙ by_append me (authored x xs) (all_by me (taken_between (last_sight x xs).state t) ++ [])
-    ∙ ap (λ (l : List Event). events_by me (authored x xs) ++ l)
-    (ap (events_by me) (append-nil (all_by me (taken_between (last_sight x xs).state t))) ∙ own_all me (taken_between (last_sight x xs).state t))
-
 history_front : (x : Sight DeskAndChain) (xs ys : List (Sight DeskAndChain)) → Follow x (xs ++ ys) → Follow x xs
 history_front x [] ys follow = tt
 history_front x (z ∷ zs) ys follow = (follow.0, history_front z zs ys follow.1)
@@ -169,14 +129,6 @@ history_front x (z ∷ zs) ys follow = (follow.0, history_front z zs ys follow.1
 longer_front : (saw since ys : List (Sight DeskAndChain)) → IsHistory saw → IsHistory ((saw ++ since) ++ ys) → IsHistory (saw ++ since)
 longer_front [] since ys is whole = absurd is
 longer_front (x ∷ xs) since ys is whole = history_front x (xs ++ since) ys whole
-
-left_push : (x : Sight DeskAndChain) (xs : List (Sight DeskAndChain)) (y : Sight DeskAndChain) → last_sight x (xs ++ y ∷ []) ≡ y
-left_push x [] y = refl
-left_push x (z ∷ zs) y = left_push z zs y
-
-pub left_after : (log : List (Sight DeskAndChain)) (y : Sight DeskAndChain) → left_at (log ++ y ∷ []) ≡ y.state
-left_after [] y = refl
-left_after (x ∷ xs) y = ap (λ (s : Sight DeskAndChain). s.state) (left_push x xs y)
 
 -- who comes and does nothing
 pub come_own : (seats : ℕ) (old new : SeatValue DeskAndChain) (found : DeskAndChain) → IsHistory old.saw → Comes seats old found new → own_events old.me new.saw ≡ own_events old.me old.saw
@@ -195,7 +147,7 @@ did_own seats old new found left more is came all =
     let there : SeatValue DeskAndChain = came.0 in
     let comes : Comes seats old found there = came.1 in
     let me : there.me ≡ old.me = ap (λ (s : SeatValue DeskAndChain). s.me) comes.saw in
-    let at : left_at there.saw ≡ found = ap (λ (s : SeatValue DeskAndChain). left_at s.saw) comes.saw ∙ left_after (old.saw ++ comes.since) (sight old.me found) in
+    let at : left_at there.saw ≡ found = ap (λ (s : SeatValue DeskAndChain). left_at s.saw) comes.saw ∙ left_push (old.saw ++ comes.since) (sight old.me found) in
     let saw : new.saw ≡ there.saw ++ sight old.me left ∷ [] = ap (λ (s : SeatValue DeskAndChain). s.saw) came.2 ∙ ap (λ (n : ℕ). there.saw ++ sight n left ∷ []) me in
     ap (own_events old.me) saw ∙ own_push old.me there.saw left comes.history
     ∙ (λ i. come_own seats old there found is comes i ++ (ap (λ (s : DeskAndChain). taken_between s left) at ∙ between found left more all) i)

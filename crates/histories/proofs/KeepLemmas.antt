@@ -1,5 +1,5 @@
 -- What stands at a hub after a run: versions of their numbers, as the profile gives them from scratch.
-use Rattle.std.proofs.Common.{◌≡◌, ℕ, ◌+◌, Bool, true, false, List, [], ◌∷◌, ◌++◌, Option, Some, None, Result, Ok, Err, refl, sym, ap, ◌∙◌, subst, length, arith, length-append, append-nil}
+use Rattle.std.proofs.Common.{◌≡◌, ℕ, ◌+◌, List, [], ◌∷◌, ◌++◌, Option, Some, None, Result, Ok, Err, refl, sym, ap, ◌∙◌, subst, length, arith, length-append, append-nil}
 use Rattle.net_data.specs.declared.events.Event.{Event}
 use Rattle.net_data.specs.Network.{Network}
 use Rattle.net_versions.specs.Versions.{VersionValue, settled_version}
@@ -17,6 +17,7 @@ use Rattle.versions.specs.Hubs.{IsHub, with_next}
 use Rattle.versions.specs.Working.{AreWorks, IsOfWorker, IsWorkedOn, Works, shown_after}
 use Rattle.versions.specs.declared.state.DeskAndChain.{DeskAndChain}
 use Rattle.versions.proofs.ChainLemmas.{goes_on}
+use Rattle.versions.proofs.EventLemmas.{shown_by}
 use Rattle.versions.proofs.KeptLemmas.{abandoned, gave, next_follows, opened, took}
 use Rattle.histories.specs.Right.{AreRight, IsRightAt}
 use Rattle.histories.proofs.CountLemmas.{Counts, are_grown, published_right, pushed_right, run_counts}
@@ -29,10 +30,6 @@ pub record Keeps (start : DeskValue) (es : List Event) (s : DeskAndChain) : Type
   pub are : AreRight start es None s.shown.chain
   pub is_chain : IsChain s.shown.chain
   pub ends : EndsWith s.shown.chain s.desk.published
-
--- the chain of a reply
-pub shown_by : (s t : DeskAndChain) (answer known : Reply) → t.shown ≡ shown_after answer t.desk.published s.shown → answer ≡ known → t.shown ≡ shown_after known t.desk.published s.shown
-shown_by s t answer known shown is = shown ∙ ap (λ (a : Reply). shown_after a t.desk.published s.shown) is
 
 -- the chain ends as it did
 pub ends_same : (s t : DeskAndChain) → EndsWith s.shown.chain s.desk.published → t.shown ≡ s.shown → t.desk.published ≡ s.desk.published → EndsWith t.shown.chain t.desk.published

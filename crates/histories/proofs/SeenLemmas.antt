@@ -1,5 +1,5 @@
 -- What a seat saw, as a part of the one history, and the numbers of events.
-use Rattle.std.proofs.Common.{◌≡◌, ◌≢◌, ℕ, ◌+◌, ◌<◌, suc, Bool, true, false, List, [], ◌∷◌, ◌++◌, Option, Some, None, Result, Ok, Err, refl, sym, ap, ◌∙◌, subst, length, arith, append-nil, append_assoc}
+use Rattle.std.proofs.Common.{◌≡◌, ℕ, ◌+◌, ◌<◌, suc, Bool, true, false, List, [], ◌∷◌, ◌++◌, Option, Some, None, Ok, refl, sym, ap, ◌∙◌, subst, length, append-nil, append_assoc}
 use mathlib.Core.List.{IsPrefix}
 use Rattle.net_data.specs.declared.events.Event.{Event}
 use Rattle.net_data.specs.Network.{Network}
@@ -9,18 +9,21 @@ use Rattle.work_units.specs.declared.replies.Posted.TheVariants.{Again, Taken}
 use Rattle.work_units.specs.declared.replies.Refusal.{Refusal}
 use Rattle.desk_core.specs.declared.posts.Last.{Last}
 use Rattle.net_data.specs.Edits.{replay}
-use Rattle.desk_core.specs.Desk.{DeskValue, accepted, net_now, new_desk}
+use Rattle.desk_core.specs.Desk.{DeskValue, accepted, new_desk}
 use Rattle.desk_core.specs.Steps.{IsPost, IsReply, Posts, is_last, last_of, post_refusal, repeated, with_post}
 use Rattle.seats.specs.Minutes.{AreBelow, SeatValue, sight}
 use Rattle.seats.specs.declared.rule.Sight.{Sight}
 use Rattle.versions.specs.Working.{Comes, ComesAndDoes, Follow, IsHistory, IsWholeHistory, last_sight, left_at}
 use Rattle.versions.specs.declared.state.DeskAndChain.{DeskAndChain}
 use Rattle.histories.specs.Right.{AreRight}
-use Rattle.histories.specs.Histories.{AreOfSeats, AreRightSights, Authored, IsEnded, IsExplained, IsNth, IsOpened, IsOpening, IsRightHub, IsSeen, all_by, authored, authored_in, events_in, events_of, taken_between}
+use Rattle.versions.specs.Authors.{Authored, all_by, authored, authored_in, events_in, events_of, taken_between}
+use Rattle.versions.proofs.EventLemmas.{post_events, worked_events}
+use Rattle.versions.proofs.AuthorLemmas.{authored_append, between}
+use Rattle.versions.proofs.SeatLemmas.{left_push}
+use Rattle.histories.specs.Histories.{AreOfSeats, AreRightSights, IsEnded, IsExplained, IsNth, IsOpened, IsRightHub, IsSeen}
 use Rattle.histories.proofs.CountLemmas.{Counts, run_counts}
-use Rattle.histories.proofs.EventLemmas.{post_events, worked_events}
-use Rattle.histories.proofs.ExplainLemmas.{Goes, Right, authored_append, between, by_workers, first_right, goes, history_explains, left_after}
-use Rattle.histories.proofs.KeepLemmas.{Keeps, new_is_steady}
+use Rattle.histories.proofs.ExplainLemmas.{Goes, Right, by_workers, first_right, goes, history_explains}
+use Rattle.histories.proofs.KeepLemmas.{new_is_steady}
 
 -- ---- a part of the history
 
@@ -107,7 +110,7 @@ nth_taken start seats old new found left collector seq event number opened came 
     let comes : Comes seats old found there = came.1 in
     let me : there.me ≡ old.me = ap (λ (s : SeatValue DeskAndChain). s.me) comes.saw in
     let saw : there.saw ≡ (old.saw ++ comes.since) ++ sight old.me found ∷ [] = ap (λ (s : SeatValue DeskAndChain). s.saw) comes.saw in
-    let at : left_at there.saw ≡ found = ap left_at saw ∙ left_after (old.saw ++ comes.since) (sight old.me found) in
+    let at : left_at there.saw ≡ found = ap left_at saw ∙ left_push (old.saw ++ comes.since) (sight old.me found) in
     let more : taken_between found left ≡ event ∷ [] = between found left (event ∷ []) (post_events found left collector seq event (Ok (Taken number)) made shown) in
     let first : IsOpened start there.saw = subst (IsOpened start) (sym saw) (opened_more start (old.saw ++ comes.since) (sight old.me found ∷ []) (opened_more start old.saw comes.since opened)) in
     let count : accepted found.desk ≡ length (authored_in there.saw) = ap (λ (s : DeskAndChain). accepted s.desk) (sym at) ∙ counted start there.saw first comes.history in

@@ -1,29 +1,20 @@
 -- The one history of all who come to a hub (own).
-use Rattle.std.specs.Prelude.{◌≡◌, ◌==◌, ◌<◌, ◌+◌, ℕ, List, [], ◌∷◌, ◌++◌, None, length, map, drop, if◌then◌else◌}
+use Rattle.std.specs.Prelude.{◌≡◌, ◌<◌, ◌+◌, ℕ, List, [], ◌∷◌, ◌++◌, None, length}
 use mathlib.Core.List.{IsPrefix}
 use Rattle.net_data.specs.declared.events.Event.{Event}
 use Rattle.net_data.specs.Edits.{replay}
 use Rattle.net_data.specs.Network.{Network}
-use Rattle.net_versions.specs.Versions.{VersionValue, settled_version}
-use Rattle.desk_core.specs.declared.steps.Reply.TheVariants as reply
+use Rattle.net_versions.specs.Versions.{settled_version}
 use Rattle.desk_core.specs.Desk.{accepted, net_now, new_desk}
-use Rattle.desk_core.specs.Runs.{IsRunOf, event_taken}
-use Rattle.seats.specs.Minutes.{NoneOf, OnlyOthersSince, SeatValue}
+use Rattle.desk_core.specs.Runs.{IsRunOf}
+use Rattle.seats.specs.Minutes.{SeatValue}
 use Rattle.seats.specs.declared.rule.Sight.{Sight}
-use Rattle.versions.specs.Working.{Comes, Follow, IsCall, IsHistory, IsWorkedOn, last_sight, leaving, left_at}
+use Rattle.versions.specs.Authors.{Authored, authored, authored_in, events_in, events_of, own_events}
+use Rattle.versions.specs.Working.{last_sight, left_at}
 use Rattle.versions.specs.declared.state.DeskAndChain.{DeskAndChain}
 use Rattle.histories.specs.Right.{AreRight}
 
--- ---- the one list of accepted events
-
--- the events of versions, one version after the other
-abbrev pub batches : List VersionValue → List Event
-batches [] = []
-batches (v ∷ later) = v.batch ++ batches later
-
--- all events that a desk has accepted: those of its published versions, and then those that wait to be published
-abbrev pub events_of : DeskAndChain → List Event
-events_of s = batches s.shown.chain ++ s.desk.pending
+-- ---- the hub of a new desk
 
 -- a hub over a new desk, whose version 0 alone is published
 pub record IsOpening (start : Network) (s : DeskAndChain) : Type 0 where
@@ -42,45 +33,7 @@ AreRightSights start one [] = IsRightHub start one.state
 AreRightSights start one (next ∷ later) =
     IsRightHub start one.state × IsPrefix (events_of one.state) (events_of next.state) × IsPrefix one.state.shown.chain next.state.shown.chain × AreRightSights start next later
 
--- ---- whose events they are
-
--- an accepted event, and the seat through which it came
-pub record Authored : Type 0 where
-  pub by : ℕ
-  pub event : Event
-
--- these events came through this seat
-abbrev pub all_by : ℕ → List Event → List Authored
-all_by me [] = []
-all_by me (e ∷ es) = record { by = me; event = e } ∷ all_by me es
-
--- the events that were accepted between two sights
-abbrev pub taken_between : DeskAndChain → DeskAndChain → List Event
-taken_between one next = drop (length (events_of one)) (events_of next)
-
--- all events that were accepted after a sight, each with the seat through which it came
-abbrev pub authored : Sight DeskAndChain → List (Sight DeskAndChain) → List Authored
-authored one [] = []
-authored one (next ∷ later) = all_by next.by (taken_between one.state next.state) ++ authored next later
-
--- all accepted events of a history, in their order
-abbrev pub authored_in : List (Sight DeskAndChain) → List Authored
-authored_in [] = []
-authored_in (first ∷ later) = authored first later
-
--- the events alone
-abbrev pub events_in : List Authored → List Event
-events_in [] = []
-events_in (a ∷ more) = a.event ∷ events_in more
-
--- the events of one seat alone
-abbrev pub events_by : ℕ → List Authored → List Event
-events_by me [] = []
-events_by me (a ∷ more) = (if a.by == me then a.event ∷ [] else []) ++ events_by me more
-
--- the events of a history that came through a seat
-abbrev pub own_events : ℕ → List (Sight DeskAndChain) → List Event
-own_events me log = events_by me (authored_in log)
+-- ---- the events of a history
 
 -- the event of this number, the first of which is 1
 pub record IsNth (all : List Authored) (number : ℕ) (one : Authored) : Type 0 where

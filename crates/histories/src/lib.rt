@@ -15,7 +15,8 @@ ghost use Rattle.seats.specs.Minutes.{OnlyOthersSince, SeatValue};
 ghost use Rattle.seats.specs.declared.rule.Sight.{Sight};
 ghost use Rattle.versions.specs.Working.{ComesAndDoes, Follow, IsHistory, IsWholeHistory};
 ghost use Rattle.versions.specs.declared.state.DeskAndChain.{DeskAndChain};
-ghost use Rattle.histories.specs.Histories.{IsEnded, IsExplained, IsNth, IsOpened, IsOpening, IsSeen, IsTaken, authored_in, own_events};
+ghost use Rattle.versions.specs.Authors.{authored_in, own_events};
+ghost use Rattle.histories.specs.Histories.{IsEnded, IsExplained, IsNth, IsOpened, IsOpening, IsSeen, IsTaken};
 
 /// The law: in a history of a hub over a new desk the hub is right at each sight, what it shows only grows, and its accepted events
 /// are those of the seats, in their order.

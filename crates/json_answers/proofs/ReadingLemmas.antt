@@ -42,7 +42,7 @@ use Rattle.net_items.specs.declared.items.LinkSet.{LinkSet}
 use Rattle.net_items.specs.declared.items.Point.{Point}
 use Rattle.json_answers.specs.Shown.{code_if, id_value, point_members, point_status_members, set_members, shown_members}
 use Rattle.json_answers.specs.Refusals.{desk_members, edit_values, number_if, value_members}
-use Rattle.json_answers.specs.Objects.{action_members, answer_members, answer_object, change_members, choice_members, choice_value, hop_members, link_items, link_members, links_value, mend_member, message_members, move_members, net_values, octet_value, octets_value, offer_members, publication_members, remedy_member, reply_members, reroute_members, row_values, status_value, trace_members, unused_members, used_members, via_items, way_members}
+use Rattle.json_answers.specs.Objects.{action_members, answer_members, answer_object, change_members, choice_members, choice_value, hop_members, link_items, link_members, links_value, mend_member, message_members, move_members, net_values, octet_value, octets_value, offer_members, publication_members, remedy_member, reply_members, reroute_members, row_values, seat_members, status_value, trace_members, unused_members, used_members, via_items, way_members}
 use Rattle.json_answers.specs.Marked.{marked_value, mend_members}
 
 -- no value of these members is deeper than this
@@ -258,6 +258,7 @@ answer_shallow (answer.Publication p) = publication_shallow p
 answer_shallow (answer.Row r) = (flat 4, row_shallow r)
 answer_shallow (answer.Net n) = (flat 4, net_shallow n)
 answer_shallow (answer.Shown what) = shown_shallow what
+answer_shallow (answer.Who list) = (flat 4, (listed seat_members (λ s. (flat 2, (flat 2, tt))) list, tt))
 answer_shallow (answer.Help text) = (flat 4, (flat 4, tt))
 answer_shallow (answer.Refused why) = (flat 4, (flat 4, reason_shallow why))
 

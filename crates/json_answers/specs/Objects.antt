@@ -40,6 +40,7 @@ use Rattle.answers.specs.declared.remedies.Action.{Action}
 use Rattle.answers.specs.declared.ways.Offer.{Offer}
 use Rattle.answers.specs.declared.ways.Offer.TheVariants as offer
 use Rattle.answers.specs.declared.ways.Way.{Way}
+use Rattle.answers.specs.declared.who.SeatCount.{SeatCount}
 use Rattle.json_answers.specs.Members.{Member, object_with}
 use Rattle.json_answers.specs.Marked.{mend_members}
 use Rattle.json_answers.specs.Refusals.{number_if, reason_members}
@@ -62,6 +63,14 @@ reply_members (reply.Watch is_on) = word_member (codes "watch") ∷ text_member 
 -- all events of a whole set or point were accepted, under these numbers and those between
 abbrev pub all_taken_members : AllTaken → List Member
 all_taken_members taken = word_member (codes "taken") ∷ number_member (codes "first") taken.first ∷ number_member (codes "last") taken.last ∷ []
+
+-- a seat, and how many events were accepted through it
+abbrev pub seat_members : SeatCount → List Member
+seat_members count = text_member (codes "name") count.name ∷ number_member (codes "events") count.events ∷ []
+
+-- the same of each seat
+abbrev pub who_members : List SeatCount → List Member
+who_members list = word_member (codes "who") ∷ list_member (codes "seats") seat_members list ∷ []
 
 -- a status, null if there is no row
 abbrev pub status_value : Option Far → Json
@@ -280,6 +289,7 @@ answer_members (answer.Publication p) = publication_members p
 answer_members (answer.Row r) = row_members r
 answer_members (answer.Net n) = net_members n
 answer_members (answer.Shown what) = shown_members what
+answer_members (answer.Who list) = who_members list
 answer_members (answer.Help text) = help_members text
 answer_members (answer.Refused why) = reason_members why
 

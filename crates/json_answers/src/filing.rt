@@ -25,6 +25,7 @@ fn let_go(answer: Answer) {
         Answer::Net(net) => let_go_net(net),
         Answer::Publication(publication) => let_go_publication(publication),
         Answer::Shown(shown) => drop(shown),
+        Answer::Who(counts) => drop(counts),
         Answer::Help(text) => drop(text),
         Answer::AllTaken(taken) => drop(taken),
         Answer::Reply(_) | Answer::Refused(_) => {}

@@ -30,6 +30,7 @@ mod shown;
 pub mod texts;
 mod told;
 mod ways;
+mod who;
 
 pub use checks::{write_right, write_wrong};
 pub use filing::{Clerk, Content, Filing, Outcome};

@@ -18,6 +18,7 @@ use crate::replies::{put_all_taken, put_reply};
 use crate::rows::put_row;
 use crate::shown::put_shown;
 use crate::told::{Told, put_object};
+use crate::who::put_who;
 use answers::Answer;
 use json::Writer;
 use std::alloc::{AllocError, Global};
@@ -43,6 +44,7 @@ impl Told for Answer {
             Answer::Row(row) => put_row(alloc, writer, row),
             Answer::Net(net) => put_net(alloc, writer, net),
             Answer::Shown(shown) => put_shown(alloc, writer, shown.as_shown()),
+            Answer::Who(counts) => put_who(alloc, writer, counts),
             Answer::Help(text) => put_help(writer, text.as_str()),
             Answer::Refused(reason) => put_reason(alloc, writer, reason),
         }

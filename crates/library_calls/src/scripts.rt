@@ -8,12 +8,13 @@ use route_state::excerpt::Frozen;
 use route_state::nets::{Kind, Net};
 use route_state::pools::Plain;
 use route_state::scripts::{
-    Channel, Order, ScriptEnd, SessionEnd, Silent, check_given, check_net, check_tables, read_net,
-    read_words, run_beside, run_input, run_input_beside, run_script, run_seats, tables_of,
+    Channel, Order, Rules, ScriptEnd, SessionEnd, Silent, check_given, check_net, check_tables,
+    read_net, read_words, run_beside, run_input, run_input_beside, run_script, run_seats,
+    tables_of,
 };
 use route_state::tables::Table;
 use route_state::texts::{load, read_code, read_id, read_kind, read_row, read_slc, save};
-use route_state::told::Form;
+use route_state::told::{Form, SeatNames, Text};
 use std::alloc::Global;
 use std::sync::Wait;
 use std::thread::Threads;
@@ -63,6 +64,12 @@ const SCRIPT: &str = "fail 4 0\nsync\nstatus 2-10-2 2-1-2\n";
 
 /// What it is answered.
 const ANSWERS: &str = "taken 1\nsynced 1\nstatus restricted class 5 by 2-10-1\n";
+
+/// The script of a session, which asks who is there.
+const SEAT_SCRIPT: &str = "fail 4 0\nsync\nwho\n";
+
+/// What it is answered.
+const SEAT_ANSWERS: &str = "taken 1\nsynced 1\nwho desk:1\n";
 
 /// Whether a run answered the script; None if a fault cut it off, with a beginning of the answers written.
 fn is_answered(end: &ScriptEnd, written: &[u8]) -> Option<bool> {
@@ -120,16 +127,27 @@ fn runs_text_beside<R: Threads + Wait + Sync>(rt: &R, alloc: Global) -> Option<b
     is_answered(&end.end, end.writer.as_slice())
 }
 
-/// A session over the script.
+/// The name of the only session.
+fn names(alloc: Global) -> Option<SeatNames> {
+    let name = String::from_str(alloc, "desk").ok()?;
+    let names = vec![in alloc; Text::from_string(name)].ok()?;
+    SeatNames::from_vec(alloc, names).ok()
+}
+
+/// A session over a script of its own, which asks who is there.
 fn new_session(alloc: Global) -> Option<Vec<Channel<&'static [u8], Vec<u8>, Form>>>
     ensures { IfSome result (λ channels. vec_len channels ≡ 1) }
 {
+    let names = names(alloc)?;
     let channel = Channel {
-        reader: SCRIPT.as_bytes(),
+        reader: SEAT_SCRIPT.as_bytes(),
         writer: Vec::new(alloc),
         telling: Form::Text,
-        posts: true,
-        collector: 0,
+        rules: Rules {
+            posts: true,
+            collector: 0,
+            names,
+        },
     };
     match vec![in alloc; channel] {
         Ok(channels) => Some(channels),
@@ -141,7 +159,7 @@ fn new_session(alloc: Global) -> Option<Vec<Channel<&'static [u8], Vec<u8>, Form
 fn is_told(ends: &[SessionEnd<&'static [u8], Vec<u8>>]) -> Option<bool> {
     match ends {
         [session] if session.fault.is_none() => {
-            Some(session.writer.as_slice() == ANSWERS.as_bytes())
+            Some(session.writer.as_slice() == SEAT_ANSWERS.as_bytes())
         }
         _ => None,
     }

@@ -15,10 +15,11 @@ use crate::seat_outputs::{SeatClerk, SeatOutput};
 use crate::seat_reports::{SeatsText, refuse_desk, refuse_streams, refuse_text};
 use crate::seat_text::{SeatEntry, read_seats};
 use crate::streams::{Seen, SeenReader, SeenWriter};
+use answers::{SeatNames, Text};
 use console::Fault;
 use json_answers::{Filing, Form};
 use net_data::Net;
-use serving::{Channel, DeskEnd, Farewell, run_seats};
+use serving::{Channel, DeskEnd, Farewell, Rules, run_seats};
 use sessions::UntilQuit;
 use std::alloc::{AllocError, Global};
 use std::cell::RefCell;
@@ -94,6 +95,40 @@ fn telling_of<'a>(
     }
 }
 
+/// The names of all seats.
+fn seat_names(alloc: Global, entries: &[SeatEntry]) -> Result<SeatNames, AllocError> {
+    let mut names = Vec::with_capacity(alloc, entries.len())?;
+    for entry in entries {
+        let name = String::from_str(alloc, entry.name.as_str())?;
+        if names.push(Text::from_string(name)).is_err() {
+            return Err(AllocError);
+        }
+    }
+    SeatNames::from_vec(alloc, names)
+}
+
+/// The session of a seat.
+fn channel_of<'a>(
+    rt: &'a HostRuntime,
+    entry: &'a SeatEntry,
+    input: InputKind,
+    output: OutputKind,
+    seen: &'a Seen,
+    manner: SeatManner<'a>,
+    names: SeatNames,
+) -> SeatChannel<'a> {
+    Channel {
+        reader: lines_of(rt, entry, input, seen),
+        writer: output_of(rt, entry, output, seen),
+        telling: telling_of(rt, entry, manner),
+        rules: Rules {
+            posts: entry.posts,
+            collector: entry.collector,
+            names,
+        },
+    }
+}
+
 /// The sessions of all seats.
 fn channels_of<'a>(
     rt: &'a HostRuntime,
@@ -103,6 +138,7 @@ fn channels_of<'a>(
     seen: &'a [Seen],
     manner: SeatManner<'a>,
 ) -> Result<Vec<SeatChannel<'a>>, AllocError> {
+    let names = seat_names(rt.alloc(), entries)?;
     let mut channels = Vec::with_capacity(rt.alloc(), entries.len())?;
     let mut outputs = outputs.into_iter();
     for (place, entry) in entries.iter().enumerate() {
@@ -113,13 +149,7 @@ fn channels_of<'a>(
         ) else {
             break;
         };
-        let channel = Channel {
-            reader: lines_of(rt, entry, *input, seen),
-            writer: output_of(rt, entry, output, seen),
-            telling: telling_of(rt, entry, manner),
-            posts: entry.posts,
-            collector: entry.collector,
-        };
+        let channel = channel_of(rt, entry, *input, output, seen, manner, names.share()?);
         if channels.push(channel).is_err() {
             return Err(AllocError);
         }

@@ -7,4 +7,4 @@ pub use console::{
     CheckEnd, Fault, ScriptEnd, check_given, check_net, read_net, run_input, run_script,
     write_fault,
 };
-pub use serving::{Channel, DeskEnd, Farewell, SessionEnd, Silent, run_seats};
+pub use serving::{Channel, DeskEnd, Farewell, Rules, SessionEnd, Silent, run_seats};

@@ -2,6 +2,7 @@
 
 pub use answers::{
     Action, AllTaken, Answer, Asked, Moved, NetAnswer, Offer, Publication, Reason, Remedy, Reply,
-    RowAnswer, TakenEvents, Telling, Text, Way, Ways, print_answer, put_answer,
+    RowAnswer, SeatCount, SeatCounts, SeatNames, TakenEvents, Telling, Text, Way, Ways, answer_who,
+    print_answer, put_answer,
 };
 pub use json_answers::{Clerk, Content, Filing, Form, Outcome};

@@ -14,7 +14,7 @@ use Rattle.script_words.specs.declared.command_words.CommandWord.{CommandWord}
 use Rattle.script_words.specs.declared.verbs.Verb.{Verb}
 use Rattle.script_words.specs.Events.{verb_of}
 use Rattle.script_words.specs.Wholes.{listed_by}
-use Rattle.script_words.specs.Commands.{desk_word_of, command_listed, command_word_of, command_by, command_of}
+use Rattle.script_words.specs.Commands.{command_by, command_listed, command_of, command_word_of, desk_word_of, net_word_of}
 use Rattle.script_words.specs.Forms.{FormValue, IsExample, IsListed, command_forms, is_of}
 
 -- the value that is there
@@ -95,13 +95,13 @@ verb_found word =
     (found_or word (codes "unpair") _ _ refl (found_or word (codes "set") _ _ refl (found_or word (codes "link") _ _ refl (found_or word (codes "plan") _ _ refl
     (found_or word (codes "tfr") _ _ refl (none_found Verb word)))))))))))))
 
+net_word_found : (word : List ℕ) → IsSome (net_word_of word) → IsFound word
+net_word_found word =
+    found_or word (codes "whatif") _ _ refl (found_or word (codes "reroutes") _ _ refl (found_or word (codes "show") _ _ refl (found_or word (codes "statuses") _ _ refl (found_or word (codes "audit") _ _ refl (found_or word (codes "changes") _ _ refl (found_or word (codes "watch") _ _ refl (found_or word (codes "picture") _ _ refl (found_or word (codes "save") _ _ refl (none_found CommandWord word)))))))))
+
 desk_word_found : (word : List ℕ) → IsSome (desk_word_of word) → IsFound word
 desk_word_found word =
-    found_or word (codes "sync") _ _ refl (found_or word (codes "whatif") _ _ refl (found_or word (codes "reroutes") _ _ refl (found_or word (codes "post") _ _ refl (found_or word (codes "open") _ _ refl
-    (found_or word (codes "take") _ _ refl (found_or word (codes "give") _ _ refl (found_or word (codes "abandon") _ _ refl (found_or word (codes "publish") _ _ refl
-    (found_or word (codes "version") _ _ refl (found_or word (codes "last") _ _ refl (found_or word (codes "show") _ _ refl (found_or word (codes "statuses") _ _ refl (found_or word (codes "audit") _ _ refl
-    (found_or word (codes "changes") _ _ refl (found_or word (codes "watch") _ _ refl (found_or word (codes "picture") _ _ refl
-    (found_or word (codes "save") _ _ refl (none_found CommandWord word))))))))))))))))))
+    found_or word (codes "sync") _ _ refl (found_or word (codes "post") _ _ refl (found_or word (codes "open") _ _ refl (found_or word (codes "take") _ _ refl (found_or word (codes "give") _ _ refl (found_or word (codes "abandon") _ _ refl (found_or word (codes "publish") _ _ refl (found_or word (codes "version") _ _ refl (found_or word (codes "last") _ _ refl (found_or word (codes "who") _ _ refl (net_word_found word))))))))))
 
 command_word_found : (word : List ℕ) → IsSome (command_word_of word) → IsFound word
 command_word_found word =

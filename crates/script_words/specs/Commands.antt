@@ -122,20 +122,11 @@ pieces_at words = slice_split (λ w. bytes_eq w (codes ";")) words
 abbrev pub events_of : List (List ℕ) → Option (List Listed)
 events_of words = all_of listed_of (pieces_at words)
 
--- the first word of a command that is neither an event nor a question about a row
-abbrev pub desk_word_of : List ℕ → Option CommandWord
-desk_word_of text =
-    if bytes_eq text (codes "sync") then Some word.Sync
-    else if bytes_eq text (codes "whatif") then Some word.WhatIf
+-- the first word of a command about the published network, or what moved it
+abbrev pub net_word_of : List ℕ → Option CommandWord
+net_word_of text =
+    if bytes_eq text (codes "whatif") then Some word.WhatIf
     else if bytes_eq text (codes "reroutes") then Some word.Reroutes
-    else if bytes_eq text (codes "post") then Some word.Post
-    else if bytes_eq text (codes "open") then Some word.Open
-    else if bytes_eq text (codes "take") then Some word.Take
-    else if bytes_eq text (codes "give") then Some word.Give
-    else if bytes_eq text (codes "abandon") then Some word.Abandon
-    else if bytes_eq text (codes "publish") then Some word.Publish
-    else if bytes_eq text (codes "version") then Some word.Version
-    else if bytes_eq text (codes "last") then Some word.Last
     else if bytes_eq text (codes "show") then Some word.Show
     else if bytes_eq text (codes "statuses") then Some word.Statuses
     else if bytes_eq text (codes "audit") then Some word.Audit
@@ -144,6 +135,21 @@ desk_word_of text =
     else if bytes_eq text (codes "picture") then Some word.Picture
     else if bytes_eq text (codes "save") then Some word.Save
     else None
+
+-- the first word of a command that is neither an event nor a question about a row
+abbrev pub desk_word_of : List ℕ → Option CommandWord
+desk_word_of text =
+    if bytes_eq text (codes "sync") then Some word.Sync
+    else if bytes_eq text (codes "post") then Some word.Post
+    else if bytes_eq text (codes "open") then Some word.Open
+    else if bytes_eq text (codes "take") then Some word.Take
+    else if bytes_eq text (codes "give") then Some word.Give
+    else if bytes_eq text (codes "abandon") then Some word.Abandon
+    else if bytes_eq text (codes "publish") then Some word.Publish
+    else if bytes_eq text (codes "version") then Some word.Version
+    else if bytes_eq text (codes "last") then Some word.Last
+    else if bytes_eq text (codes "who") then Some word.Who
+    else net_word_of text
 
 -- the first word of a command that is no event
 abbrev pub command_word_of : List ℕ → Option CommandWord
@@ -202,6 +208,8 @@ command_by word.Publish rest = alone Command.Publish rest
 command_by word.Version rest = alone Command.Version rest
 -- `last C`
 command_by word.Last rest = option_map (λ c. Command.Last c) (collector_alone rest)
+-- `who`
+command_by word.Who rest = alone Command.Who rest
 -- `audit`
 command_by word.Audit rest = alone Command.Audit rest
 -- `changes` and `changes N`

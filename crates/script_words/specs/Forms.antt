@@ -41,6 +41,7 @@ command_forms =
     record { word = codes "sync"; form = codes "sync"; example = codes "sync" } ∷
     record { word = codes "version"; form = codes "version"; example = codes "version" } ∷
     record { word = codes "last"; form = codes "last C"; example = codes "last 0" } ∷
+    record { word = codes "who"; form = codes "who"; example = codes "who" } ∷
     record { word = codes "show"; form = codes "show or show down or show set ID or show point CODE or show plan X"; example = codes "show down" } ∷
     record { word = codes "statuses"; form = codes "statuses X"; example = codes "statuses 2-1-2" } ∷
     record { word = codes "status"; form = codes "status Y X"; example = codes "status 2-1-1 2-1-2" } ∷

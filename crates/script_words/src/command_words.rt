@@ -1,7 +1,7 @@
 //! The first word of a command that is no event.
 
 ghost use Rattle.std.specs.Prelude.{◌≡◌};
-ghost use Rattle.script_words.specs.Commands.{desk_word_of, command_word_of};
+ghost use Rattle.script_words.specs.Commands.{command_word_of, desk_word_of, net_word_of};
 
 use crate::words::is_word;
 
@@ -46,6 +46,8 @@ pub enum CommandWord {
     Version,
     /// `last`.
     Last,
+    /// `who`.
+    Who,
     /// `show`.
     Show,
     /// `statuses`.
@@ -62,22 +64,13 @@ pub enum CommandWord {
     Save,
 }
 
-/// The first word of a command that is neither an event nor a question about a row.
-fn read_desk_word(word: &[u8]) -> Option<CommandWord>
-    ensures { result ≡ desk_word_of word.now }
+/// The first word of a command about the published network, or what moved it.
+fn read_net_word(word: &[u8]) -> Option<CommandWord>
+    ensures { result ≡ net_word_of word.now }
 {
     match word {
-        _ if is_word(word, "sync") => Some(CommandWord::Sync),
         _ if is_word(word, "whatif") => Some(CommandWord::WhatIf),
         _ if is_word(word, "reroutes") => Some(CommandWord::Reroutes),
-        _ if is_word(word, "post") => Some(CommandWord::Post),
-        _ if is_word(word, "open") => Some(CommandWord::Open),
-        _ if is_word(word, "take") => Some(CommandWord::Take),
-        _ if is_word(word, "give") => Some(CommandWord::Give),
-        _ if is_word(word, "abandon") => Some(CommandWord::Abandon),
-        _ if is_word(word, "publish") => Some(CommandWord::Publish),
-        _ if is_word(word, "version") => Some(CommandWord::Version),
-        _ if is_word(word, "last") => Some(CommandWord::Last),
         _ if is_word(word, "show") => Some(CommandWord::Show),
         _ if is_word(word, "statuses") => Some(CommandWord::Statuses),
         _ if is_word(word, "audit") => Some(CommandWord::Audit),
@@ -86,6 +79,25 @@ fn read_desk_word(word: &[u8]) -> Option<CommandWord>
         _ if is_word(word, "picture") => Some(CommandWord::Picture),
         _ if is_word(word, "save") => Some(CommandWord::Save),
         _ => None,
+    }
+}
+
+/// The first word of a command that is neither an event nor a question about a row.
+fn read_desk_word(word: &[u8]) -> Option<CommandWord>
+    ensures { result ≡ desk_word_of word.now }
+{
+    match word {
+        _ if is_word(word, "sync") => Some(CommandWord::Sync),
+        _ if is_word(word, "post") => Some(CommandWord::Post),
+        _ if is_word(word, "open") => Some(CommandWord::Open),
+        _ if is_word(word, "take") => Some(CommandWord::Take),
+        _ if is_word(word, "give") => Some(CommandWord::Give),
+        _ if is_word(word, "abandon") => Some(CommandWord::Abandon),
+        _ if is_word(word, "publish") => Some(CommandWord::Publish),
+        _ if is_word(word, "version") => Some(CommandWord::Version),
+        _ if is_word(word, "last") => Some(CommandWord::Last),
+        _ if is_word(word, "who") => Some(CommandWord::Who),
+        _ => read_net_word(word),
     }
 }
 

@@ -117,6 +117,8 @@ pub enum Command {
     Changes(Option<u64>),
     /// A collector's last sequence number is asked.
     Last(u8),
+    /// How many events were accepted through each seat is asked.
+    Who,
     /// What each publication changes is told behind its reply from now on, or no more.
     Watch(bool),
     /// A picture of the published network is asked, for a file, about a destination if one is named.

@@ -128,6 +128,11 @@ const FORMS: &[Form] = &[
         example: "last 0",
     },
     Form {
+        word: "who",
+        form: "who",
+        example: "who",
+    },
+    Form {
         word: "show",
         form: "show or show down or show set ID or show point CODE or show plan X",
         example: "show down",

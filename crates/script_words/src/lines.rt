@@ -131,6 +131,7 @@ fn read_plain(word: CommandWord, rest: &[&[u8]]) -> Option<Command>
         CommandWord::Publish => only(Command::Publish, rest),
         CommandWord::Version => only(Command::Version, rest),
         CommandWord::Last => read_only_collector(rest).map(Command::Last),
+        CommandWord::Who => only(Command::Who, rest),
         CommandWord::Audit => only(Command::Audit, rest),
         CommandWord::Changes => read_version(rest).map(Command::Changes),
         CommandWord::Watch => read_switch(rest).map(Command::Watch),

@@ -10,6 +10,7 @@ use Rattle.net_versions.specs.Versions.{VersionValue}
 use Rattle.tokens.specs.Words.{words_of}
 use Rattle.answers.specs.Help.{other_answer}
 use Rattle.answers.specs.Replies.{posted_answer, refused}
+use Rattle.answers.specs.Who.{seat_counts}
 use Rattle.answers.specs.declared.answer.Answer.{Answer}
 use Rattle.answers.specs.declared.answer.Answer.TheVariants as answer
 use Rattle.answers.specs.declared.answer.Reason.TheVariants as reason
@@ -34,16 +35,19 @@ use Rattle.seats.specs.declared.rule.Sight.{Sight}
 use Rattle.versions.specs.Working.{Comes, IsCall, IsHistory, IsWorkedOn, last_sight, leaving, left_at}
 use Rattle.versions.specs.declared.state.DeskAndChain.{DeskAndChain}
 use Rattle.versions.proofs.SeatLemmas.{by_post, came, came_last, did, stays}
-use Rattle.histories.specs.Histories.{Authored, IsNth, IsOpened, authored, authored_in, events_of, own_events}
-use Rattle.histories.proofs.CountLemmas.{IsPosted, post_is}
-use Rattle.histories.proofs.EventLemmas.{post_events}
-use Rattle.histories.proofs.ExplainLemmas.{authored_append, come_own, did_own}
+use Rattle.versions.specs.Authors.{Authored, authored, authored_in, events_of, own_events}
+use Rattle.versions.proofs.EventLemmas.{IsPosted, post_events, post_is}
+use Rattle.versions.proofs.AuthorLemmas.{authored_append}
+use Rattle.histories.specs.Histories.{IsNth, IsOpened}
+use Rattle.histories.proofs.ExplainLemmas.{come_own, did_own}
 use Rattle.histories.proofs.SeenLemmas.{nth_later, nth_taken, opened_more}
 use Rattle.desk_console.proofs.RunLemmas.{nothing_taken as answer_takes_none, taken_one}
-use Rattle.beside.specs.Beside.{BesideValue, DoesAt, Leaves, PostsAllBeside, PostsEachBeside, Tells, at_console}
+use Rattle.beside.specs.Beside.{BesideValue, DoesAt, DoesBeside, DoesThere, Leaves, PostsAllBeside, PostsEachBeside, PostsWholeBeside, Tells, at_console}
+use Rattle.beside.specs.Synced.{command_in, said_by}
 use Rattle.beside.proofs.BesideLemmas.{prefix_then}
-use Rattle.serving.specs.Seated.{CommandsAs, ObeysAs}
-use Rattle.serving.specs.Served.{AreNumbered, first_number}
+use Rattle.serving.specs.declared.channels.Rules.{Rules}
+use Rattle.serving.specs.Seated.{CommandsAs, IfPosts, ObeysAs, TellsSeats}
+use Rattle.serving.specs.Served.{AreNumbered, IsCounted, first_number}
 
 pub versions_same : (xs ys : List VersionValue) → ys ≡ xs → IsPrefix xs ys
 versions_same xs ys same = ([], append-nil xs ∙ sym same)
@@ -328,46 +332,84 @@ module _ (start : Network) (seats : ℕ) (b : BesideValue) (line : List ℕ) (to
   refuses : (a other : Answer) → told ≡ Some a → taken_at line (Some other) ≡ [] → Tells other b a new → LineTold b line told new
   refuses a other is_told none is = same start seats b new opened history taken first (ap (taken_at line) (is_told ∙ ap (λ (x : Answer). Some x) is.0) ∙ none) is.1
 
-  obeyed : (a : Answer) → told ≡ Some a → (may : Bool) (collector : ℕ) (other : Answer) (o : Option Command) → command_of (words_of line) ≡ o → ObeysAs seats may collector other o b a new → LineTold b line told new
-  obeyed a is_told may collector other None here is = posts_none (rw here refl) is.1
-  obeyed a is_told true collector other (Some (command.Event event)) here is = next_told is.0 a collector event (ap (option_and_then posts_of) here) is_told is.1 _ is.1.done
-  obeyed a is_told false collector other (Some (command.Event event)) here is = refuses a (answer.Refused reason.BadLine) is_told refl is
-  obeyed a is_told true collector other (Some (command.Whole w)) here is = whole_told _ collector w _ is.0 a (ap (option_and_then posts_of) here) is_told is.1
-  obeyed a is_told false collector other (Some (command.Whole w)) here is = refuses a (answer.Refused reason.BadLine) is_told refl is
-  obeyed a is_told true collector other (Some (command.Post by seq event)) here is =
-      call_told (Does (command.Post by seq event)) is.0 a by seq event (ap (option_and_then posts_of) here) is_told is.1 is.1.done
-  obeyed a is_told false collector other (Some (command.Post by seq event)) here is = refuses a (answer.Refused reason.BadLine) is_told refl is
-  obeyed a is_told may collector other (Some command.Open) here is = posts_none (rw here refl) is.1
-  obeyed a is_told may collector other (Some (command.Take k)) here is = posts_none (rw here refl) is.1
-  obeyed a is_told may collector other (Some (command.Give k)) here is = posts_none (rw here refl) is.1
-  obeyed a is_told may collector other (Some (command.Abandon k)) here is = posts_none (rw here refl) is.1
-  obeyed a is_told may collector other (Some command.Publish) here is = posts_none (rw here refl) is.1
-  obeyed a is_told may collector other (Some command.Sync) here is =
+  -- what is posted, if the session may post
+  event_told : (a : Answer) → told ≡ Some a → (may : Bool) (collector : ℕ) (event : Event) → command_of (words_of line) ≡ Some (command.Event event) → IfPosts may (DoesThere seats (PostsNext collector event)) b a new
+      → LineTold b line told new
+  event_told a is_told true collector event here is = next_told is.0 a collector event (ap (option_and_then posts_of) here) is_told is.1 _ is.1.done
+  event_told a is_told false collector event here is = refuses a (answer.Refused reason.BadLine) is_told refl is
+
+  whole_done : (a : Answer) → told ≡ Some a → (may : Bool) (collector : ℕ) (w : Whole) → command_of (words_of line) ≡ Some (command.Whole w) → IfPosts may (PostsWholeBeside seats collector w) b a new → LineTold b line told new
+  whole_done a is_told true collector w here is = whole_told _ collector w _ is.0 a (ap (option_and_then posts_of) here) is_told is.1
+  whole_done a is_told false collector w here is = refuses a (answer.Refused reason.BadLine) is_told refl is
+
+  post_told : (a : Answer) → told ≡ Some a → (may : Bool) (by seq : ℕ) (event : Event) → command_of (words_of line) ≡ Some (command.Post by seq event) → IfPosts may (DoesBeside seats (command.Post by seq event)) b a new
+      → LineTold b line told new
+  post_told a is_told true by seq event here is = call_told (Does (command.Post by seq event)) is.0 a by seq event (ap (option_and_then posts_of) here) is_told is.1 is.1.done
+  post_told a is_told false by seq event here is = refuses a (answer.Refused reason.BadLine) is_told refl is
+
+  obeyed : (a : Answer) → told ≡ Some a → (rules : Rules) (other : Answer) (o : Option Command) → command_of (words_of line) ≡ o → ObeysAs seats rules other o b a new → LineTold b line told new
+  obeyed a is_told rules other None here is = posts_none (rw here refl) is.1
+  obeyed a is_told rules other (Some (command.Event event)) here is = event_told a is_told rules.posts rules.collector event here is
+  obeyed a is_told rules other (Some (command.Whole w)) here is = whole_done a is_told rules.posts rules.collector w here is
+  obeyed a is_told rules other (Some (command.Post by seq event)) here is = post_told a is_told rules.posts by seq event here is
+  obeyed a is_told rules other (Some command.Open) here is = posts_none (rw here refl) is.1
+  obeyed a is_told rules other (Some (command.Take k)) here is = posts_none (rw here refl) is.1
+  obeyed a is_told rules other (Some (command.Give k)) here is = posts_none (rw here refl) is.1
+  obeyed a is_told rules other (Some (command.Abandon k)) here is = posts_none (rw here refl) is.1
+  obeyed a is_told rules other (Some command.Publish) here is = posts_none (rw here refl) is.1
+  obeyed a is_told rules other (Some command.Sync) here is =
       let visit = is.visits.1 in
       let look = is.syncs.1 in
       visits start seats b new opened history taken first visit.0.there is.visits.0 (nothing_taken line told (rw here refl)) visit.0.comes (look.seat ∙ ap (λ (x : BesideValue). x.seat) visit.1)
       (prefix_then b.seen is.there.seen new.seen (subst (IsPrefix b.seen) (sym (ap (λ (x : BesideValue). x.seen) visit.1)) visit.0.seen) look.seen)
-  obeyed a is_told may collector other (Some command.Version) here is = tells_there (Does command.Version) is.0 a (rw here refl) is.1 is.1.done.1
-  obeyed a is_told may collector other (Some (command.Last k)) here is = tells_there (Does (command.Last k)) is.0 a (rw here refl) is.1 is.1.done.1
-  obeyed a is_told may collector other (Some (command.Save file)) here is = tells_there (Does (command.Save file)) is.0 a (rw here refl) is.1 is.1.done.1
-  obeyed a is_told may collector other (Some (command.About asked y x)) here is = looks (rw here refl) is.1.seat is.1.seen
-  obeyed a is_told may collector other (Some (command.Trace y x s)) here is = looks (rw here refl) is.1.seat is.1.seen
-  obeyed a is_told may collector other (Some (command.WhatIf events)) here is = looks (rw here refl) is.1.seat is.1.seen
-  obeyed a is_told may collector other (Some (command.Reroutes events)) here is = looks (rw here refl) is.1.seat is.1.seen
-  obeyed a is_told may collector other (Some command.Audit) here is = looks (rw here refl) is.1.seat is.1.seen
-  obeyed a is_told may collector other (Some (command.Picture file about)) here is = looks (rw here refl) is.1.seat is.1.seen
-  obeyed a is_told may collector other (Some (command.Show what)) here is = looks (rw here refl) is.1.seat is.1.seen
-  obeyed a is_told may collector other (Some (command.Changes since)) here is = posts_none (rw here refl) is.1
-  obeyed a is_told may collector other (Some (command.Watch is_on)) here is =
+  obeyed a is_told rules other (Some command.Version) here is = tells_there (Does command.Version) is.0 a (rw here refl) is.1 is.1.done.1
+  obeyed a is_told rules other (Some (command.Last k)) here is = tells_there (Does (command.Last k)) is.0 a (rw here refl) is.1 is.1.done.1
+  obeyed a is_told rules other (Some command.Who) here is =
+      let visit = is.1.0.1 in
+      visits start seats b new opened history taken first visit.0.there is.1.0.0 (nothing_taken line told (rw here refl)) visit.0.comes (ap (λ (x : BesideValue). x.seat) visit.1)
+      (subst (IsPrefix b.seen) (sym (ap (λ (x : BesideValue). x.seen) visit.1)) visit.0.seen)
+  obeyed a is_told rules other (Some (command.Save file)) here is = tells_there (Does (command.Save file)) is.0 a (rw here refl) is.1 is.1.done.1
+  obeyed a is_told rules other (Some (command.About asked y x)) here is = looks (rw here refl) is.1.seat is.1.seen
+  obeyed a is_told rules other (Some (command.Trace y x s)) here is = looks (rw here refl) is.1.seat is.1.seen
+  obeyed a is_told rules other (Some (command.WhatIf events)) here is = looks (rw here refl) is.1.seat is.1.seen
+  obeyed a is_told rules other (Some (command.Reroutes events)) here is = looks (rw here refl) is.1.seat is.1.seen
+  obeyed a is_told rules other (Some command.Audit) here is = looks (rw here refl) is.1.seat is.1.seen
+  obeyed a is_told rules other (Some (command.Picture file about)) here is = looks (rw here refl) is.1.seat is.1.seen
+  obeyed a is_told rules other (Some (command.Show what)) here is = looks (rw here refl) is.1.seat is.1.seen
+  obeyed a is_told rules other (Some (command.Changes since)) here is = posts_none (rw here refl) is.1
+  obeyed a is_told rules other (Some (command.Watch is_on)) here is =
       looks (rw here refl) (ap (λ (x : BesideValue). x.seat) is.1) (versions_same b.seen new.seen (ap (λ (x : BesideValue). x.seen) is.1))
 
 -- a line, by whoever has a seat
-pub line_told : (start : Network) (seats : ℕ) (posts : Bool) (collector : ℕ) (line : List ℕ) (b : BesideValue) (told : Option Answer) (new : BesideValue) → IsOpened start b.seat.saw → IsHistory b.seat.saw
-    → Replies (CommandsAs seats posts collector) line b told new → LineTold b (trimmed line) told new
-line_told start seats posts collector line b told new opened history = go (is_too_long (trimmed line)) (is_silent (trimmed line))
+pub line_told : (start : Network) (seats : ℕ) (rules : Rules) (line : List ℕ) (b : BesideValue) (told : Option Answer) (new : BesideValue) → IsOpened start b.seat.saw → IsHistory b.seat.saw
+    → Replies (CommandsAs seats rules) line b told new → LineTold b (trimmed line) told new
+line_told start seats rules line b told new opened history = go (is_too_long (trimmed line)) (is_silent (trimmed line))
   where
-    go : (long quiet : Bool) → IsReply (CommandsAs seats posts collector) long quiet (trimmed line) b told new → LineTold b (trimmed line) told new
+    go : (long quiet : Bool) → IsReply (CommandsAs seats rules) long quiet (trimmed line) b told new → LineTold b (trimmed line) told new
     go true quiet is = same start seats b new opened history _ (first_number told) (ap (taken_at (trimmed line)) is.0) is.1
     go false true is = same start seats b new opened history _ (first_number told) (ap (taken_at (trimmed line)) is.0) is.1
     go false false is =
-        obeyed start seats b (trimmed line) told new opened history is.0 is.2 posts collector (other_answer (words_of (trimmed line))) (command_of (words_of (trimmed line))) refl is.1
+        obeyed start seats b (trimmed line) told new opened history is.0 is.2 rules (other_answer (words_of (trimmed line))) (command_of (words_of (trimmed line))) refl is.1
+
+-- ---- what `who` tells
+
+-- the counts of the seats as they were when the session came
+pub who_told : (seats : ℕ) (rules : Rules) (line : List ℕ) (b : BesideValue) (told : Option Answer) (new : BesideValue) → Replies (CommandsAs seats rules) line b told new → command_in line ≡ Some command.Who
+    → IsCounted seats rules.names (authored_in new.seat.saw) told
+who_told seats rules line b told new = go (is_too_long (trimmed line)) (is_silent (trimmed line))
+  where
+    counted : (a : Answer) → told ≡ Some a → TellsSeats seats rules.names b a new → IsCounted seats rules.names (authored_in new.seat.saw) told
+    counted a is_told is = (
+      authored_in new.seat.saw,
+      ([], append-nil (authored_in new.seat.saw)),
+      is_told ∙ ap (λ (x : Answer). Some x) (is.2 ∙ ap (λ (counts : List ℕ). answer.Who (seat_counts rules.names counts)) is.1.1),
+    )
+
+    go : (long quiet : Bool) → IsReply (CommandsAs seats rules) long quiet (trimmed line) b told new → said_by long quiet (trimmed line) ≡ Some command.Who → IsCounted seats rules.names (authored_in new.seat.saw) told
+    go true quiet is who = absurd (cc who)
+    go false true is who = absurd (cc who)
+    go false false is who = counted is.0 is.2 (subst (λ (o : Option Command). ObeysAs seats rules (other_answer (words_of (trimmed line))) o b is.0 new) who is.1)
+
+-- they stay counts where more is accepted
+pub counted_later : (seats : ℕ) (names : List (List ℕ)) (some all : List Authored) (told : Option Answer) → IsPrefix some all → IsCounted seats names some told → IsCounted seats names all told
+counted_later seats names some all told p is = (is.0, (is.1.0 ++ p.0, sym (append_assoc is.0 is.1.0 p.0) ∙ ap (λ (l : List Authored). l ++ p.0) is.1.1 ∙ p.1), is.2)

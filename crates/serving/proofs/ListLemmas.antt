@@ -10,7 +10,8 @@ use Rattle.answers.specs.declared.answer.Answer.{Answer}
 use Rattle.desk_core.specs.Desk.{DeskValue, net_now}
 use Rattle.seats.specs.declared.rule.Sight.{Sight}
 use Rattle.versions.specs.declared.state.DeskAndChain.{DeskAndChain}
-use Rattle.histories.specs.Histories.{AreOfSeats, IsEnded, IsOpening, authored_in}
+use Rattle.versions.specs.Authors.{authored_in}
+use Rattle.histories.specs.Histories.{AreOfSeats, IsEnded, IsOpening}
 use Rattle.beside.specs.Beside.{StartsBeside, newcomer}
 use Rattle.serving.specs.declared.channels.Channel.{Channel}
 use Rattle.serving.specs.declared.channels.SessionEnd.{SessionEnd}
@@ -128,9 +129,9 @@ module _ {R W T : Type 0} (remaining : R → Option (List ℕ)) (contents : W �
         let end_at : IsEndOf seats log state (slice_index_or sat j d) (slice_index_or ends i e) = subst (λ k. IsEndOf seats log state (slice_index_or sat k d) (slice_index_or ends i e)) at end in
         let explained = end_at.seat was.seat was.guest in
         let sits = subst
-        (λ (s : SittingValue R W T). Sits (tells s.telling) seats s.posts s.collector (newcomer (seat_at table first i) first) (remaining s.reader) (remaining (slice_index_or sat j d).reader) (contents s.writer) (contents (slice_index_or sat j d).writer)
+        (λ (s : SittingValue R W T). Sits (tells s.telling) seats s.rules (newcomer (seat_at table first i) first) (remaining s.reader) (remaining (slice_index_or sat j d).reader) (contents s.writer) (contents (slice_index_or sat j d).writer)
         (slice_index_or sat j d).fault (slice_index_or sat j d).lines was.seat) sitting was.sits in
-        let one = session_told (tells channel.telling) start seats channel.posts channel.collector (newcomer (seat_at table first i) first) _ _ _ _ _ _ was.seat (starts start table first i opening) sits log state explained.0 explained.1 in (
+        let one = session_told (tells channel.telling) start seats channel.rules (newcomer (seat_at table first i) first) _ _ _ _ _ _ was.seat (starts start table first i opening) sits log state explained.0 explained.1 in (
           subst (λ (x : SessionEnd R W). IsSessionOf remaining contents tells start seats (authored_in log) state.shown.chain i channel x) (sym end_at.is) one.0,
           one.1,
         )

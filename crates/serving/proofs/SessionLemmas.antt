@@ -21,19 +21,20 @@ use Rattle.seats.specs.declared.rule.Sight.{Sight}
 use Rattle.versions.specs.Working.{Comes, IsHistory, IsWholeHistory, left_at}
 use Rattle.versions.specs.declared.state.DeskAndChain.{DeskAndChain}
 use Rattle.versions.proofs.SeatLemmas.{came_last}
-use Rattle.histories.specs.Histories.{Authored, IsEnded, IsOpened, IsSeen, authored_in, events_by, own_events}
-use Rattle.histories.proofs.CountLemmas.{IsPosted, post_is}
-use Rattle.histories.proofs.EventLemmas.{post_events}
+use Rattle.versions.specs.Authors.{Authored, authored_in, events_by, own_events}
+use Rattle.versions.proofs.EventLemmas.{IsPosted, post_events, post_is}
+use Rattle.histories.specs.Histories.{IsEnded, IsOpened, IsSeen}
 use Rattle.histories.proofs.ExplainLemmas.{come_own, did_own, others_leave}
 use Rattle.histories.proofs.SeenLemmas.{ended, seen_in}
 use Rattle.beside.specs.Beside.{BesideValue, StartsBeside}
 use Rattle.beside.specs.Seats.{Came, CamePosting, Goes, TakesEach, TakesNone}
 use Rattle.beside.specs.Right.{Moment, told_in}
+use Rattle.serving.specs.declared.channels.Rules.{Rules}
 use Rattle.serving.specs.Seated.{CommandsAs, CommandsSeated, KeepsRules, LosesSeated, SeatedValue}
 use Rattle.serving.specs.Served.{AreSeen, AreTold, AreWritten, IsLost, IsPosted as IsPart, IsToldSession, first_number, lines_in, taken_of}
 use Rattle.serving.specs.Sittings.{Sits, final_fault}
 use Rattle.beside.proofs.BesideLemmas.{prefix_then}
-use Rattle.serving.proofs.LineLemmas.{LineTold, authored_grown, history_done, line_told, numbered_later, opened_later, saw_came, saw_left}
+use Rattle.serving.proofs.LineLemmas.{LineTold, authored_grown, counted_later, history_done, line_told, numbered_later, opened_later, saw_came, saw_left, who_told}
 
 -- who answers knows more of the same history
 record Grows (b new : BesideValue) : Type 0 where
@@ -44,30 +45,30 @@ record Grows (b new : BesideValue) : Type 0 where
 
 -- ---- lines that were answered
 
-record Made (seats : ℕ) (posts : Bool) (collector : ℕ) (b : BesideValue) (lines : List (List ℕ)) (told : List (Option Answer)) (new : BesideValue) : Type 0 where
+record Made (seats : ℕ) (rules : Rules) (b : BesideValue) (lines : List (List ℕ)) (told : List (Option Answer)) (new : BesideValue) : Type 0 where
   moments : List Moment
   asked : lines ≡ lines_in moments
   are_told : told ≡ told_in moments
   grows : Grows b new
   own : own_events b.seat.me new.seat.saw ≡ own_events b.seat.me b.seat.saw ++ taken_of moments
-  each : (all : List Authored) → IsPrefix (authored_in new.seat.saw) all → AreTold seats posts collector all b.seat.me b moments
+  each : (all : List Authored) → IsPrefix (authored_in new.seat.saw) all → AreTold seats rules all b.seat.me b moments
   views : (shown : List VersionValue) → IsPrefix new.seen shown → AreSeen shown moments
 
 -- a line of a session, as one of who comes to the hub
 unseated : (seats : ℕ) (line : List ℕ) (s : SeatedValue) (told : Option Answer) (new : SeatedValue) → Replies (CommandsSeated seats) line s told new
-    → Replies (CommandsAs seats s.posts s.collector) line s.beside told new.beside × KeepsRules s new
+    → Replies (CommandsAs seats s.rules) line s.beside told new.beside × KeepsRules s new
 unseated seats line s told new = go (is_too_long (trimmed line)) (is_silent (trimmed line))
   where
     go : (long quiet : Bool) → IsReply (CommandsSeated seats) long quiet (trimmed line) s told new
-        → IsReply (CommandsAs seats s.posts s.collector) long quiet (trimmed line) s.beside told new.beside × KeepsRules s new
-    go true quiet is = ((is.0, ap (λ (x : SeatedValue). x.beside) is.1), (ap (λ (x : SeatedValue). x.posts) is.1, ap (λ (x : SeatedValue). x.collector) is.1))
-    go false true is = ((is.0, ap (λ (x : SeatedValue). x.beside) is.1), (ap (λ (x : SeatedValue). x.posts) is.1, ap (λ (x : SeatedValue). x.collector) is.1))
+        → IsReply (CommandsAs seats s.rules) long quiet (trimmed line) s.beside told new.beside × KeepsRules s new
+    go true quiet is = ((is.0, ap (λ (x : SeatedValue). x.beside) is.1), ap (λ (x : SeatedValue). x.rules) is.1)
+    go false true is = ((is.0, ap (λ (x : SeatedValue). x.beside) is.1), ap (λ (x : SeatedValue). x.rules) is.1)
     go false false is = ((is.0, is.1.0, is.2), is.1.1)
 
-module _ (start : Network) (seats : ℕ) (posts : Bool) (collector : ℕ) where
-  made : (s : SeatedValue) (lines : List (List ℕ)) (told : List (Option Answer)) (new : SeatedValue) → s.posts ≡ posts → s.collector ≡ collector → IsOpened start s.beside.seat.saw → IsHistory s.beside.seat.saw
-      → Answers (CommandsSeated seats) s lines told new → Made seats posts collector s.beside lines told new.beside
-  made s [] told new p c opened history is =
+module _ (start : Network) (seats : ℕ) (rules : Rules) where
+  made : (s : SeatedValue) (lines : List (List ℕ)) (told : List (Option Answer)) (new : SeatedValue) → s.rules ≡ rules → IsOpened start s.beside.seat.saw → IsHistory s.beside.seat.saw
+      → Answers (CommandsSeated seats) s lines told new → Made seats rules s.beside lines told new.beside
+  made s [] told new r opened history is =
       let same : new.beside ≡ s.beside = ap (λ (x : SeatedValue). x.beside) is.1 in
       record {
         moments = [];
@@ -83,16 +84,19 @@ module _ (start : Network) (seats : ℕ) (posts : Bool) (collector : ℕ) where
         each = λ all prefix. tt;
         views = λ shown prefix. tt;
       }
-  made s (line ∷ lines) told new p c opened history is =
+  made s (line ∷ lines) told new r opened history is =
       let first : Option Answer = is.0 in
       let mid : SeatedValue = is.1 in
       let reply = unseated seats line s first mid is.3 in
-      let asked : Replies (CommandsAs seats posts collector) line s.beside first mid.beside =
-      subst (λ (x : Bool × ℕ). Replies (CommandsAs seats x.0 x.1) line s.beside first mid.beside) (λ i. (p i, c i)) reply.0 in
-      let l : LineTold s.beside (trimmed line) first mid.beside = line_told start seats posts collector line s.beside first mid.beside opened history asked in
-      let rest : Made seats posts collector mid.beside lines is.2 new.beside =
-      made mid lines is.2 new (reply.1.0 ∙ p) (reply.1.1 ∙ c) (opened_later start s.beside.seat.saw mid.beside.seat.saw opened l.saw) l.history is.4 in
+      let asked : Replies (CommandsAs seats rules) line s.beside first mid.beside =
+      subst (λ (x : Rules). Replies (CommandsAs seats x) line s.beside first mid.beside) r reply.0 in
+      let l : LineTold s.beside (trimmed line) first mid.beside = line_told start seats rules line s.beside first mid.beside opened history asked in
+      let rest : Made seats rules mid.beside lines is.2 new.beside =
+      made mid lines is.2 new (reply.1 ∙ r) (opened_later start s.beside.seat.saw mid.beside.seat.saw opened l.saw) l.history is.4 in
       let m : Moment = record { line = line; told = first; after = mid.beside } in
+      let before : (all : List Authored) → IsPrefix (authored_in new.beside.seat.saw) all → IsPrefix (authored_in mid.beside.seat.saw) all =
+      λ all prefix.
+      prefix_then (authored_in mid.beside.seat.saw) (authored_in new.beside.seat.saw) all (authored_grown mid.beside.seat.saw new.beside.seat.saw l.history rest.grows.saw) prefix in
       record {
         moments = m ∷ rest.moments;
         asked = ap (λ (ls : List (List ℕ)). line ∷ ls) rest.asked;
@@ -111,12 +115,11 @@ module _ (start : Network) (seats : ℕ) (posts : Bool) (collector : ℕ) where
         each = λ all prefix. (
           record {
             replies = asked;
-            numbers =
-                numbered_later (authored_in mid.beside.seat.saw) all s.beside.seat.me (taken_at (trimmed line) first) (first_number first)
-                (prefix_then (authored_in mid.beside.seat.saw) (authored_in new.beside.seat.saw) all (authored_grown mid.beside.seat.saw new.beside.seat.saw l.history rest.grows.saw) prefix) l.numbers;
+            numbers = numbered_later (authored_in mid.beside.seat.saw) all s.beside.seat.me (taken_at (trimmed line) first) (first_number first) (before all prefix) l.numbers;
+            counts = λ who. counted_later seats rules.names (authored_in mid.beside.seat.saw) all first (before all prefix) (who_told seats rules line s.beside first mid.beside asked who);
             back = l.seen;
           },
-          subst (λ n. AreTold seats posts collector all n mid.beside rest.moments) l.me (rest.each all prefix),
+          subst (λ n. AreTold seats rules all n mid.beside rest.moments) l.me (rest.each all prefix),
         );
         views = λ shown prefix. (prefix_then mid.beside.seen new.beside.seen shown rest.grows.seen prefix, rest.views shown prefix);
       }
@@ -248,26 +251,26 @@ losing seats (line ∷ lines) s new history (inr lost) = goes_lost seats line li
 -- ---- a session
 
 -- how the lines of a session ended
-record Lines (Tells : Answer → List ℕ → Type 0) (seats : ℕ) (posts : Bool) (collector : ℕ) (ended : Option Fault) (left : Option (List ℕ)) (read written : List ℕ) (b after : BesideValue) : Type 0 where
+record Lines (Tells : Answer → List ℕ → Type 0) (seats : ℕ) (rules : Rules) (ended : Option Fault) (left : Option (List ℕ)) (read written : List ℕ) (b after : BesideValue) : Type 0 where
   moments : List Moment
   lost : List Event
   grows : Grows b after
   own : own_events b.seat.me after.seat.saw ≡ own_events b.seat.me b.seat.saw ++ (taken_of moments ++ lost)
-  each : (all : List Authored) → IsPrefix (authored_in after.seat.saw) all → AreTold seats posts collector all b.seat.me b moments
+  each : (all : List Authored) → IsPrefix (authored_in after.seat.saw) all → AreTold seats rules all b.seat.me b moments
   views : (shown : List VersionValue) → IsPrefix after.seen shown → AreSeen shown moments
   outcome : AreWritten Tells ended left read written moments lost
 
-module _ (Tells : Answer → List ℕ → Type 0) (start : Network) (seats : ℕ) (posts : Bool) (collector : ℕ)
+module _ (Tells : Answer → List ℕ → Type 0) (start : Network) (seats : ℕ) (rules : Rules)
     (b : BesideValue) (opened : IsOpened start b.seat.saw) (history : IsHistory b.seat.saw) (left : Option (List ℕ)) (read written : List ℕ) (after : SeatedValue) where
   abbrev first : SeatedValue
-  first = record { beside = b; posts = posts; collector = collector }
+  first = record { beside = b; rules = rules }
 
   -- all lines were answered
   whole_lines_told : (ended : Option Fault) (lines : List (List ℕ)) → Answered Tells (CommandsSeated seats) first lines written after
       → ((moments : List Moment) → lines ≡ lines_in moments → AreTexts Tells (told_in moments) written → AreWritten Tells ended left read written moments [])
-      → Lines Tells seats posts collector ended left read written b after.beside
+      → Lines Tells seats rules ended left read written b after.beside
   whole_lines_told ended lines answered outcome =
-      let m : Made seats posts collector b lines answered.0 after.beside = made start seats posts collector first lines answered.0 after refl refl opened history answered.1 in
+      let m : Made seats rules b lines answered.0 after.beside = made start seats rules first lines answered.0 after refl opened history answered.1 in
       record {
         moments = m.moments;
         lost = [];
@@ -281,9 +284,9 @@ module _ (Tells : Answer → List ℕ → Type 0) (start : Network) (seats : ℕ
   -- the answers were cut off
   cut_lines_told : (ended : Option Fault) → IsCutAt Tells (CommandsSeated seats) (LosesSeated seats) first (lines_of read) written after
       → ((moments : List Moment) (lost : List Event) (rest : List (List ℕ)) → lines_of read ≡ lines_in moments ++ rest → IsFrontOf Tells (told_in moments) written → IsLost rest lost
-      → AreWritten Tells ended left read written moments lost) → Lines Tells seats posts collector ended left read written b after.beside
+      → AreWritten Tells ended left read written moments lost) → Lines Tells seats rules ended left read written b after.beside
   cut_lines_told ended cut outcome =
-      let m : Made seats posts collector b cut.done cut.told cut.mid.beside = made start seats posts collector first cut.done cut.told cut.mid refl refl opened history cut.answers in
+      let m : Made seats rules b cut.done cut.told cut.mid.beside = made start seats rules first cut.done cut.told cut.mid refl opened history cut.answers in
       let l : Losing cut.left cut.mid.beside after.beside = losing seats cut.left cut.mid after m.grows.history cut.begun in
       record {
         moments = m.moments;
@@ -307,7 +310,7 @@ module _ (Tells : Answer → List ℕ → Type 0) (start : Network) (seats : ℕ
             (subst (λ (t : List (Option Answer)). IsFrontOf Tells t written) m.are_told cut.front) l.is_lost;
       }
 
-  lines_told : (ended : Option Fault) → IsEndAt Tells (CommandsSeated seats) (LosesSeated seats) (Unit {0}) ended first left read written after → Lines Tells seats posts collector ended left read written b after.beside
+  lines_told : (ended : Option Fault) → IsEndAt Tells (CommandsSeated seats) (LosesSeated seats) (Unit {0}) ended first left read written after → Lines Tells seats rules ended left read written b after.beside
   lines_told None is = whole_lines_told None (lines_of read) is.1 (λ moments asked told. (is.0, asked, told, refl))
   lines_told (Some Read) is = whole_lines_told (Some Read) (whole_lines read) is (λ moments asked told. (asked, told, refl))
   lines_told (Some Write) is = cut_lines_told (Some Write) is (λ moments lost rest asked told none. (rest, asked, told, none))
@@ -316,11 +319,11 @@ module _ (Tells : Answer → List ℕ → Type 0) (start : Network) (seats : ℕ
   lines_told (Some (Load e)) is = absurd is
 
 -- from the first line to the last visit, once the hub has ended
-pub session_told : (Tells : Answer → List ℕ → Type 0) (start : Network) (seats : ℕ) (posts : Bool) (collector : ℕ) (b : BesideValue) (unread left held holds : Option (List ℕ)) (fault : Option Fault) (lines : ℕ)
-    (seat : SeatValue DeskAndChain) → StartsBeside start b → Sits Tells seats posts collector b unread left held holds fault lines seat
+pub session_told : (Tells : Answer → List ℕ → Type 0) (start : Network) (seats : ℕ) (rules : Rules) (b : BesideValue) (unread left held holds : Option (List ℕ)) (fault : Option Fault) (lines : ℕ)
+    (seat : SeatValue DeskAndChain) → StartsBeside start b → Sits Tells seats rules b unread left held holds fault lines seat
     → (log : List (Sight DeskAndChain)) (state : DeskAndChain) → IsWholeHistory seats log state → OnlyOthersSince seat.me seat.saw log
-    → IsToldSession Tells start seats posts collector (authored_in log) state.shown.chain b.seat.me unread left held holds fault lines × IsEnded start seats log state
-session_told Tells start seats posts collector b unread left held holds fault lines seat opens sits log state whole since = (
+    → IsToldSession Tells start seats rules (authored_in log) state.shown.chain b.seat.me unread left held holds fault lines × IsEnded start seats log state
+session_told Tells start seats rules b unread left held holds fault lines seat opens sits log state whole since = (
   record {
     read = sits.ran.read;
     consumed = sits.ran.consumed;
@@ -350,8 +353,8 @@ session_told Tells start seats posts collector b unread left held holds fault li
     after : BesideValue
     after = sits.after.beside
 
-    l : Lines Tells seats posts collector sits.ended left sits.ran.read sits.ran.written b after
-    l = lines_told Tells start seats posts collector b opened history left sits.ran.read sits.ran.written sits.after sits.ended sits.ran.outcome
+    l : Lines Tells seats rules sits.ended left sits.ran.read sits.ran.written b after
+    l = lines_told Tells start seats rules b opened history left sits.ran.read sits.ran.written sits.after sits.ended sits.ran.outcome
 
     found : DeskAndChain
     found = sits.parts.found

@@ -1,5 +1,5 @@
 -- What many sessions at one desk were told: one history (own).
-use Rattle.std.specs.Prelude.{◌≡◌, ◌≢◌, ◌⊎◌, ◌<◌, ℕ, ◌+◌, Bool, List, [], ◌∷◌, ◌++◌, Option, Some, None, length, map, slice_index_or}
+use Rattle.std.specs.Prelude.{◌≡◌, ◌≢◌, ◌⊎◌, ◌<◌, ℕ, ◌+◌, List, [], ◌∷◌, ◌++◌, Option, Some, None, length, map, slice_index_or}
 use Rattle.std.specs.Io.KnownBytes.{Consumes, Appends, IsAtEnd}
 use mathlib.Core.List.{IsPrefix}
 use Rattle.net_building.specs.Wholes.{whole_events}
@@ -9,9 +9,11 @@ use Rattle.net_data.specs.declared.events.Event.{Event}
 use Rattle.net_data.specs.Edits.{replay}
 use Rattle.net_data.specs.Network.{Network}
 use Rattle.net_versions.specs.Versions.{VersionValue}
+use Rattle.answers.specs.Who.{seat_counts}
 use Rattle.answers.specs.declared.answer.Answer.{Answer}
 use Rattle.answers.specs.declared.answer.Answer.TheVariants as answer
 use Rattle.answers.specs.declared.answer.Reply.TheVariants as reply
+use Rattle.script_words.specs.declared.commands.Command.TheVariants as command
 use Rattle.desk_core.specs.Desk.{new_desk}
 use Rattle.desk_console.specs.Taken.{posts_by, taken_at}
 use Rattle.sessions.specs.Lines.{line_count, lines_of, trimmed, whole_lines}
@@ -19,11 +21,14 @@ use Rattle.sessions.specs.Replies.{AreTexts, Replies}
 use Rattle.sessions.specs.Run.{IsFrontOf}
 use Rattle.sessions.specs.declared.faults.Fault.{Fault}
 use Rattle.sessions.specs.declared.faults.Fault.TheVariants.{NoPlace, OutOfMemory, Read, Load}
-use Rattle.histories.specs.Histories.{AreOfSeats, Authored, IsNth, events_by, events_in}
+use Rattle.versions.specs.Authors.{Authored, counts_of, events_by, events_in}
+use Rattle.histories.specs.Histories.{AreOfSeats, IsNth}
 use Rattle.histories.specs.Right.{AreRight}
 use Rattle.beside.specs.Beside.{BesideValue, StartsBeside}
 use Rattle.beside.specs.Right.{Moment, told_in}
+use Rattle.beside.specs.Synced.{command_in}
 use Rattle.serving.specs.declared.channels.Channel.{Channel}
+use Rattle.serving.specs.declared.channels.Rules.{Rules}
 use Rattle.serving.specs.declared.channels.SessionEnd.{SessionEnd}
 use Rattle.serving.specs.Seated.{CommandsAs}
 
@@ -38,16 +43,22 @@ abbrev pub AreNumbered : List Authored → ℕ → List Event → ℕ → Type 0
 AreNumbered all me [] number = Unit {0}
 AreNumbered all me (event ∷ events) number = IsNth all number (record { by = me; event = event }) × AreNumbered all me events (number + 1)
 
--- a line is answered from what the line before left; if it is answered `taken`, then with the numbers that its events have; and its view doesn't go back
-pub record IsTold (seats : ℕ) (posts : Bool) (collector : ℕ) (all : List Authored) (me : ℕ) (before : BesideValue) (m : Moment) : Type 0 where
-  pub replies : Replies (CommandsAs seats posts collector) m.line before m.told m.after
+-- it tells of each seat by its name how many events of a beginning of the one list had come through it
+abbrev pub IsCounted : ℕ → List (List ℕ) → List Authored → Option Answer → Type 0
+IsCounted seats names all told = (before : List Authored) × IsPrefix before all × (told ≡ Some (answer.Who (seat_counts names (counts_of seats before))))
+
+-- a line is answered from what the line before left; if it is answered `taken`, then with the numbers that its events have; what `who` tells are counts
+-- of the one list; and its view doesn't go back
+pub record IsTold (seats : ℕ) (rules : Rules) (all : List Authored) (me : ℕ) (before : BesideValue) (m : Moment) : Type 0 where
+  pub replies : Replies (CommandsAs seats rules) m.line before m.told m.after
   pub numbers : AreNumbered all me (taken_at (trimmed m.line) m.told) (first_number m.told)
+  pub counts : command_in m.line ≡ Some command.Who → IsCounted seats rules.names all m.told
   pub back : IsPrefix before.seen m.after.seen
 
 -- so it is with one line after the other
-abbrev pub AreTold : ℕ → Bool → ℕ → List Authored → ℕ → BesideValue → List Moment → Type 0
-AreTold seats posts collector all me before [] = Unit {0}
-AreTold seats posts collector all me before (m ∷ moments) = IsTold seats posts collector all me before m × AreTold seats posts collector all me m.after moments
+abbrev pub AreTold : ℕ → Rules → List Authored → ℕ → BesideValue → List Moment → Type 0
+AreTold seats rules all me before [] = Unit {0}
+AreTold seats rules all me before (m ∷ moments) = IsTold seats rules all me before m × AreTold seats rules all me m.after moments
 
 -- all that was seen at these lines are published versions
 abbrev pub AreSeen : List VersionValue → List Moment → Type 0
@@ -84,7 +95,7 @@ AreWritten Tells (Some fault) left read written moments lost =
 
 -- what a session was told: some bytes were read; their lines were answered one after the other, of which this was written; of the one list of events those
 -- that came through its seat are those that it was answered `taken` for, in their order, and those of one line at most whose answer was lost
-pub record IsToldSession (Tells : Answer → List ℕ → Type 0) (start : Network) (seats : ℕ) (posts : Bool) (collector : ℕ) (all : List Authored) (shown : List VersionValue)
+pub record IsToldSession (Tells : Answer → List ℕ → Type 0) (start : Network) (seats : ℕ) (rules : Rules) (all : List Authored) (shown : List VersionValue)
     (me : ℕ) (unread left held holds : Option (List ℕ)) (fault : Option Fault) (lines : ℕ) : Type 0 where
   pub read : List ℕ
   pub consumed : Consumes unread left read
@@ -94,7 +105,7 @@ pub record IsToldSession (Tells : Answer → List ℕ → Type 0) (start : Netwo
   pub opening : BesideValue
   pub opens : StartsBeside start opening
   pub moments : List Moment
-  pub each : AreTold seats posts collector all me opening moments
+  pub each : AreTold seats rules all me opening moments
   pub seen : fault ≢ Some NoPlace → AreSeen shown moments
   pub lost : List Event
   pub own : events_by me all ≡ taken_of moments ++ lost
@@ -117,7 +128,7 @@ module _ {R W T : Type 0} (remaining : R → Option (List ℕ)) (contents : W �
   -- the session of a number, of those that were given, was told parts of the one history, and ended so
   abbrev pub IsSessionOf : Network → ℕ → List Authored → List VersionValue → ℕ → Channel R W T → SessionEnd R W → Type 0
   IsSessionOf start seats all shown me c e =
-      IsToldSession (tells c.telling) start seats c.posts c.collector all shown me (remaining c.reader) (remaining e.reader) (contents c.writer) (contents e.writer) e.fault e.lines
+      IsToldSession (tells c.telling) start seats c.rules all shown me (remaining c.reader) (remaining e.reader) (contents c.writer) (contents e.writer) e.fault e.lines
 
   -- many sessions at one desk: one list of accepted events, each with its session, and one chain of published versions explain what each of them was told;
   -- the network that comes back is the one after all events

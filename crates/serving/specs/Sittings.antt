@@ -1,5 +1,5 @@
 -- A session at its seat, from its first line to its last visit (own).
-use Rattle.std.specs.Prelude.{◌≡◌, ℕ, ◌+◌, ◌-◌, ◌<◌, Bool, List, [], ◌∷◌, ◌++◌, Option, Some, None, Result, Ok, Err, length, slice_index_or}
+use Rattle.std.specs.Prelude.{◌≡◌, ℕ, ◌+◌, ◌-◌, ◌<◌, List, [], ◌∷◌, ◌++◌, Option, Some, None, Result, Ok, Err, length, slice_index_or}
 use Rattle.atomic_table.specs.Seated.{TableId}
 use Rattle.seats.specs.Minutes.{OnlyOthersSince, SeatValue, sight}
 use Rattle.seats.specs.declared.rule.Sight.{Sight}
@@ -12,6 +12,7 @@ use Rattle.versions.specs.declared.state.DeskAndChain.{DeskAndChain}
 use Rattle.beside.specs.Beside.{BesideValue, newcomer}
 use Rattle.beside.specs.Seats.{Parts}
 use Rattle.serving.specs.declared.channels.Channel.{Channel}
+use Rattle.serving.specs.declared.channels.Rules.{Rules}
 use Rattle.serving.specs.declared.channels.SessionEnd.{SessionEnd}
 use Rattle.serving.specs.Seated.{CommandsSeated, LosesSeated, SeatedValue}
 
@@ -21,10 +22,10 @@ final_fault (Ok done) ended = ended
 final_fault (Err fault) ended = Some fault
 
 -- a session was run: its lines were read and answered, and then it came to the hub for the last time
-pub record Sits (Tells : Answer → List ℕ → Type 0) (seats : ℕ) (posts : Bool) (collector : ℕ) (start : BesideValue) (unread left held holds : Option (List ℕ)) (fault : Option Fault) (lines : ℕ) (seat : SeatValue DeskAndChain) : Type 0 where
+pub record Sits (Tells : Answer → List ℕ → Type 0) (seats : ℕ) (rules : Rules) (start : BesideValue) (unread left held holds : Option (List ℕ)) (fault : Option Fault) (lines : ℕ) (seat : SeatValue DeskAndChain) : Type 0 where
   pub ended : Option Fault
   pub after : SeatedValue
-  pub ran : RanTo Tells (CommandsSeated seats) (LosesSeated seats) (Unit {0}) (record { beside = start; posts = posts; collector = collector }) unread left held holds ended lines after
+  pub ran : RanTo Tells (CommandsSeated seats) (LosesSeated seats) (Unit {0}) (record { beside = start; rules = rules }) unread left held holds ended lines after
   pub told : Result (Unit {0}) Fault
   pub parts : Parts seats after.beside told seat
   pub fault_is : fault ≡ final_fault told ended
@@ -36,8 +37,7 @@ pub record SittingValue (R W T : Type 0) : Type 0 where
   pub reader : R
   pub writer : W
   pub telling : T
-  pub posts : Bool
-  pub collector : ℕ
+  pub rules : Rules
   pub lines : ℕ
   pub fault : Option Fault
 
@@ -48,7 +48,7 @@ seat_at table state me = record { table = table; me = me; saw = sight 0 state �
 module _ {R W T : Type 0} where
   -- a session that has not begun
   abbrev pub unbegun : BesideValue → Channel R W T → SittingValue R W T
-  unbegun visitor c = record { visitor = Some visitor; guest = None; reader = c.reader; writer = c.writer; telling = c.telling; posts = c.posts; collector = c.collector; lines = 0; fault = None }
+  unbegun visitor c = record { visitor = Some visitor; guest = None; reader = c.reader; writer = c.writer; telling = c.telling; rules = c.rules; lines = 0; fault = None }
 
   -- the last channel that is left goes to a session that has not begun
   pub record SeatsLast (visitor : BesideValue) (channels left : List (Channel R W T)) (old new : List (SittingValue R W T)) : Type 0 where
@@ -101,7 +101,7 @@ module _ {R W T : Type 0} (remaining : R → Option (List ℕ)) (contents : W �
   pub record IsSat (start : BesideValue) (old new : SittingValue R W T) : Type 0 where
     pub seat : SeatValue DeskAndChain
     pub guest : new.guest ≡ Some seat
-    pub sits : Sits (tells old.telling) seats old.posts old.collector start (remaining old.reader) (remaining new.reader) (contents old.writer) (contents new.writer) new.fault new.lines seat
+    pub sits : Sits (tells old.telling) seats old.rules start (remaining old.reader) (remaining new.reader) (contents old.writer) (contents new.writer) new.fault new.lines seat
 
   -- each session that was to begin was run
   abbrev pub AreSat : List (SittingValue R W T) → List (SittingValue R W T) → Type 0

@@ -1,5 +1,6 @@
 //! What a session reads and writes, how it ends, and who is told so.
 
+use answers::SeatNames;
 use net_data::Net;
 use sessions::Fault;
 
@@ -18,6 +19,17 @@ impl Farewell for Silent {
     fn tell(&self, _session: usize, _fault: Option<Fault>) {}
 }
 
+/// What a session may do, and what it tells of the others.
+#[derive(Drop)]
+pub struct Rules {
+    /// Whether it may post. If not, an event or a post is answered `refused 62 BadLine`.
+    pub posts: bool,
+    /// The collector that posts its plain events.
+    pub collector: u8,
+    /// The names of the sessions, in the order in which they are given, by which `who` tells them.
+    pub names: SeatNames,
+}
+
 /// A session that is to be run.
 #[derive(Drop)]
 pub struct Channel<R, W, L> {
@@ -27,10 +39,8 @@ pub struct Channel<R, W, L> {
     pub writer: W,
     /// Who tells its answers.
     pub telling: L,
-    /// Whether it may post. If not, an event or a post is answered `refused 62 BadLine`.
-    pub posts: bool,
-    /// The collector that posts its plain events.
-    pub collector: u8,
+    /// What it may do.
+    pub rules: Rules,
 }
 
 /// How a session ended, with its reader and its writer handed back.

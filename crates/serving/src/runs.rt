@@ -249,7 +249,7 @@ fn run_named<
     ensures served { (net : Network) → IsOpening net unnamed.state → IfOk result (λ end. IsServed R.remaining W.contents L.tells net channels.items end.ends.items end.net) }
     ensures fault { IfErr result CannotBegin }
 {
-    match unnamed.named::<N>(alloc) {
+    match unnamed.named::<N>(alloc, channels.len()) {
         Ok((hub, first)) => run_at(rt, alloc, n, gate, farewell, hub, first, seats, channels),
         Err(_) => Err(Fault::NoPlace),
     }

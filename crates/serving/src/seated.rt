@@ -1,14 +1,15 @@
 //! Who answers a session: a seat, which may post or only ask.
 
-ghost use Rattle.std.specs.Prelude.{◌≡◌, Some, false, IfErr, IfOk};
+ghost use Rattle.std.specs.Prelude.{◌≡◌, None, Some, false, IfErr, IfOk};
 ghost use Rattle.net_building.specs.declared.wholes.Listed.{Listed};
 ghost use Rattle.desk_console.specs.Taken.{posts_of};
 ghost use Rattle.script_words.specs.Commands.{IsWithin};
 ghost use Rattle.sessions.specs.Run.{CutsOff};
 ghost use Rattle.beside.specs.Seats.{Goes};
-ghost use Rattle.serving.specs.Seated.{DoesSeated, KeepsRules, is_plain, is_post};
+ghost use Rattle.serving.specs.Seated.{DoesSeated, KeepsRules, is_plain, is_post, is_who};
 
-use answers::{Answer, Asked, Reason, Telling, answer_other};
+use crate::channels::Rules;
+use answers::{Answer, Asked, Reason, Telling, answer_other, answer_who};
 use beside::Beside;
 use net_building::Whole;
 use net_data::{Event, Net};
@@ -38,10 +39,8 @@ fn refuse<T: Drop>(what: T) -> Answer
 #[derive(Drop)]
 pub struct Seated<'a, N: Naming, R: Wait> {
     pub beside: Beside<'a, N, R>,
-    /// Whether it may post.
-    pub posts: bool,
-    /// The collector that posts its plain events, and those of whole sets and points.
-    pub collector: u8,
+    /// What the session may do.
+    pub rules: &'a Rules,
 }
 
 impl<'a, N: Naming, R: Wait> Model for Seated<'a, N, R> {
@@ -49,7 +48,7 @@ impl<'a, N: Naming, R: Wait> Model for Seated<'a, N, R> {
 
     ghost Value = { SeatedValue };
 
-    ghost view = { λ s. record { beside = s.beside; posts = s.posts; collector = s.collector } };
+    ghost view = { λ s. record { beside = s.beside; rules = s.rules.now } };
 }
 
 impl<'a, N: Naming, R: Wait> Seated<'a, N, R> {
@@ -60,8 +59,8 @@ impl<'a, N: Naming, R: Wait> Seated<'a, N, R> {
         ensures rules { KeepsRules self.old self.new }
         ensures fault { IfErr result (CutsOff (Unit {0})) }
     {
-        if self.posts {
-            self.beside.post_next(alloc, self.collector, event)
+        if self.rules.posts {
+            self.beside.post_next(alloc, self.rules.collector, event)
         } else {
             Ok(refuse(event))
         }
@@ -74,22 +73,33 @@ impl<'a, N: Naming, R: Wait> Seated<'a, N, R> {
         ensures rules { KeepsRules self.old self.new }
         ensures fault { IfErr result (CutsOff (Unit {0})) }
     {
-        if !self.posts {
+        if !self.rules.posts {
             return Ok(Answer::Refused(Reason::BadLine));
         }
-        self.beside.post_whole(alloc, self.collector, whole)
+        self.beside.post_whole(alloc, self.rules.collector, whole)
+    }
+
+    /// Comes to the hub, and tells how many events were accepted through each seat.
+    fn who(&mut self, alloc: Global) -> Result<Answer, Fault>
+        ensures does { IfOk result (λ answer. DoesSeated N.seats Command.Who self.old answer self.new) }
+        ensures goes { Goes N.seats None self.old.beside self.new.beside }
+        ensures rules { KeepsRules self.old self.new }
+        ensures fault { IfErr result (CutsOff (Unit {0})) }
+    {
+        let counts = self.beside.count(alloc)?;
+        Ok(answer_who(alloc, &self.rules.names, counts.as_slice())?)
     }
 
     /// Does what a command says that isn't posted by the session's collector.
     fn obey_other(&mut self, alloc: Global, command: Command) -> Result<Answer, Fault>
         requires within { IsWithin command }
-        requires other { is_plain command ≡ false }
+        requires other { (is_plain command ≡ false) × (is_who command ≡ false) }
         ensures does { IfOk result (λ answer. DoesSeated N.seats command self.old answer self.new) }
         ensures goes { Goes N.seats (posts_of command) self.old.beside self.new.beside }
         ensures rules { KeepsRules self.old self.new }
         ensures fault { IfErr result (CutsOff (Unit {0})) }
     {
-        if !self.posts && is_post(&command) {
+        if !self.rules.posts && is_post(&command) {
             Ok(refuse(command))
         } else {
             self.beside.obey(alloc, command)
@@ -107,6 +117,7 @@ impl<'a, N: Naming, R: Wait> Seated<'a, N, R> {
         match command {
             Command::Event(event) => self.post_event(alloc, event),
             Command::Whole(whole) => self.post_whole(alloc, whole),
+            Command::Who => self.who(alloc),
             other => self.obey_other(alloc, other),
         }
     }
@@ -136,11 +147,7 @@ impl<'a, N: Naming, R: Wait> Answering for Seated<'a, N, R> {
     }
 
     fn into_net(self, alloc: Global) -> Result<Net, Fault> {
-        let Seated {
-            beside,
-            posts: _,
-            collector: _,
-        } = self;
+        let Seated { beside, rules: _ } = self;
         beside.into_net(alloc)
     }
 }

@@ -120,7 +120,8 @@ fn seat_more<N: Naming, R: Drop, W: Drop, L: Drop>(
     ensures fault { IfErr result CannotBegin }
 {
     while let Some(seat) = seats.pop() {
-        if let Err(fault) = seat_last(hub, Guest::over(seat), channels, sittings) {
+        let guest = Guest::over(seat, seats.len() + 1);
+        if let Err(fault) = seat_last(hub, guest, channels, sittings) {
             return Err(fault);
         }
     }

@@ -41,8 +41,7 @@ impl<N: Naming, R, W, L> Model for Sitting<N, R, W, L> {
       reader = s.channel.reader;
       writer = s.channel.writer;
       telling = s.channel.telling;
-      posts = s.channel.posts;
-      collector = s.channel.collector;
+      rules = s.channel.rules;
       lines = s.lines;
       fault = s.fault;
     } };
@@ -74,14 +73,13 @@ fn read_all<N: Naming, T: Wait, R: Read, W: Write, L: Telling>(
     visitor: Visitor<N>,
     channel: &mut Channel<R, W, L>,
 ) -> Sat<N>
-    ensures rules { (channel.new.telling ≡ channel.old.telling) × (channel.new.posts ≡ channel.old.posts) × (channel.new.collector ≡ channel.old.collector) }
-    ensures sits { Sits (L.tells channel.old.telling) N.seats channel.old.posts channel.old.collector visitor (R.remaining channel.old.reader)
+    ensures rules { (channel.new.telling ≡ channel.old.telling) × (channel.new.rules ≡ channel.old.rules) }
+    ensures sits { Sits (L.tells channel.old.telling) N.seats channel.old.rules visitor (R.remaining channel.old.reader)
         (R.remaining channel.new.reader) (W.contents channel.old.writer) (W.contents channel.new.writer) result.fault result.lines result.guest }
 {
     let seated = Seated {
         beside: Beside::new(rt, hub, signals, visitor),
-        posts: channel.posts,
-        collector: channel.collector,
+        rules: &channel.rules,
     };
     let LinesEnd {
         lines,

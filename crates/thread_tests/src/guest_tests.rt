@@ -154,8 +154,10 @@ fn three<N: Naming + Send + Sync, R: Threads + Wait + Abort + Sync>(
 )
     requires names { (unnamed.state.shown.book ≡ N.book) × (unnamed.table ≡ N.table) × (unnamed.seats ≡ N.seats) }
     requires guests { IsGuest N.table one × IsGuest N.table two }
+    requires seats { 3 ≡ N.seats }
+    requires numbers { (1 ≡ one.me) × (2 ≡ two.me) }
 {
-    let (hub, first) = unnamed.named::<N>(alloc).expect(rt, "places");
+    let (hub, first) = unnamed.named::<N>(alloc, 3).expect(rt, "places");
     let hub = Mutex::new(hub);
     let feeds = vec![in alloc;
         Feed {
@@ -164,12 +166,12 @@ fn three<N: Naming + Send + Sync, R: Threads + Wait + Abort + Sync>(
             numbers: Vec::new(alloc)
         },
         Feed {
-            guest: Guest::over(one),
+            guest: Guest::over(one, 1),
             collector: 1,
             numbers: Vec::new(alloc)
         },
         Feed {
-            guest: Guest::over(two),
+            guest: Guest::over(two, 2),
             collector: 2,
             numbers: Vec::new(alloc)
         },

@@ -2,9 +2,10 @@
 
 ghost use Rattle.std.specs.Prelude.{◌≤◌, ◌<◌, vec_len, length};
 
+use answers::{SeatNames, Text};
 use json_answers::Form;
 use sample_nets::worked;
-use serving::{Channel, Silent, run_seats};
+use serving::{Channel, Rules, Silent, run_seats};
 use std::alloc::Global;
 use std::process::Abort;
 use std::sync::Wait;
@@ -17,24 +18,47 @@ fn channel(
     reader: &'static [u8],
     posts: bool,
     collector: u8,
+    names: SeatNames,
 ) -> Channel<&'static [u8], Vec<u8>, Form> {
     Channel {
         reader,
         writer: Vec::new(alloc),
         telling: Form::Text,
-        posts,
-        collector,
+        rules: Rules {
+            posts,
+            collector,
+            names,
+        },
     }
+}
+
+/// The names of three sessions.
+fn three_names(rt: &impl Abort, alloc: Global) -> SeatNames {
+    let mut names = Vec::new(alloc);
+    for name in ["one", "two", "three"] {
+        let name = String::from_str(alloc, name).expect(rt, "memory");
+        names.push(Text::from_string(name)).expect(rt, "memory");
+    }
+    SeatNames::from_vec(alloc, names).expect(rt, "memory")
 }
 
 /// What two sessions that post and one that may only ask are told beside that many workers.
 fn told<R: Threads + Wait + Abort + Sync>(rt: &R, alloc: Global, n: u32) -> Vec<Vec<u8>>
     requires { n ≤ 32 }
 {
+    let names = three_names(rt, alloc);
+    let (one, two) = (names.share(), names.share());
+    let (one, two) = (one.expect(rt, "memory"), two.expect(rt, "memory"));
     let channels = vec![in alloc;
-        channel(alloc, b"fail 3 0\nsync\nnothing\n".as_slice(), true, 1),
-        channel(alloc, b"fail 4 0\nsync\nnothing\n".as_slice(), true, 2),
-        channel(alloc, b"fail 4 0\npost 3 1 fail 4 0\n".as_slice(), false, 3),
+        channel(alloc, b"fail 3 0\nsync\nnothing\n".as_slice(), true, 1, one),
+        channel(alloc, b"fail 4 0\nsync\nnothing\n".as_slice(), true, 2, two),
+        channel(
+            alloc,
+            b"fail 4 0\npost 3 1 fail 4 0\n".as_slice(),
+            false,
+            3,
+            names
+        ),
     ];
     let net = worked(alloc).expect(rt, "a network");
     let channels = channels.expect(rt, "memory");

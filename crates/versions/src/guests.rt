@@ -4,6 +4,7 @@ ghost use Rattle.std.specs.Prelude.{◌≡◌, ◌≢◌, ◌+◌, ◌∷◌, �
 ghost use Rattle.net_data.specs.Kinds.{is_link};
 ghost use Rattle.desk_core.specs.Steps.{Posts};
 ghost use Rattle.seats.specs.Minutes.{OnlyOthersSince, sight};
+ghost use Rattle.versions.specs.Authors.{authored_in, counts_of, was_taken};
 ghost use Rattle.versions.specs.Hubs.{WithDesk};
 ghost use Rattle.versions.specs.Working.{Comes, ComesAndDoes, IsGuest, IsWholeHistory};
 
@@ -23,7 +24,7 @@ use std::sync::Wait;
 #[derive(Drop)]
 pub struct UnnamedWithSeats {
     hub: Unnamed,
-    minutes: BySeats,
+    minutes: Minutes<DeskAndChain>,
     first: Seat<DeskAndChain>,
 }
 
@@ -69,13 +70,18 @@ impl UnnamedWithSeats {
         self.minutes.admit()
     }
 
-    /// The hub, with 64 places for readers, and who has its first seat.
+    /// The hub, which has so many seats, with 64 places for readers, and who has its first seat.
     ///
     /// # Errors
     ///
-    /// `NoPlace` if memory for the places is refused.
-    pub fn named<N: Naming>(self, alloc: Global) -> Result<(Hub<N, BySeats>, Guest<N>), NoPlace>
-        requires { (self.state.shown.book ≡ N.book) × (self.table ≡ N.table) × (self.seats ≡ N.seats) }
+    /// `NoPlace` if memory for the places, or for the counts of the seats, is refused.
+    pub fn named<N: Naming>(
+        self,
+        alloc: Global,
+        seats: usize,
+    ) -> Result<(Hub<N, BySeats>, Guest<N>), NoPlace>
+        requires names { (self.state.shown.book ≡ N.book) × (self.table ≡ N.table) × (self.seats ≡ N.seats) }
+        requires seats { seats ≡ N.seats }
         ensures hub { IfOk result (λ p. p.0 ≡ record { state = self.state; stopping = false; living = 0 }) }
         ensures guest { IfOk result (λ p. p.1 ≡ record { table = self.table; me = 0; saw = sight 0 self.state ∷ [] }) }
     {
@@ -84,19 +90,32 @@ impl UnnamedWithSeats {
             minutes,
             first,
         } = self;
-        let hub = hub.named_for(alloc, minutes)?;
-        Ok((hub, Guest::over(first)))
+        let Ok(posters) = BySeats::over(alloc, minutes, seats) else {
+            return Err(NoPlace);
+        };
+        let hub = hub.named_for(alloc, posters)?;
+        Ok((hub, Guest::over(first, 0)))
     }
+}
+
+/// Whether a post was taken, and not answered again or refused.
+fn is_taken(reply: &Result<Posted, Refusal>) -> bool
+    ensures { result ≡ was_taken reply.now }
+{
+    matches!(reply, Ok(Posted::Taken(_)))
 }
 
 /// Who has a seat at a hub. Contracts see its seat: its number, and all sights up to its own last one.
 #[derive(Drop)]
 pub struct Guest<N: Naming> {
     seat: Seat<DeskAndChain>,
+    /// The number of the seat.
+    number: usize,
     of: PhantomData<N>,
 }
 
 impl<N: Naming> Model for Guest<N> {
+    ghost use Rattle.std.specs.Prelude.{◌≡◌};
     ghost use Rattle.seats.specs.Minutes.{SeatValue};
     ghost use Rattle.versions.specs.Working.{IsGuest};
     ghost use Rattle.versions.specs.declared.state.DeskAndChain.{DeskAndChain};
@@ -105,17 +124,18 @@ impl<N: Naming> Model for Guest<N> {
 
     ghost view = { λ g. g.seat };
 
-    ghost invariant = { λ g. IsGuest N.table g.seat };
+    ghost invariant = { λ g. IsGuest N.table g.seat × (g.number ≡ g.seat.me) };
 }
 
 impl<N: Naming> Guest<N> {
-    /// Who has this seat.
-    pub fn over(seat: Seat<DeskAndChain>) -> Guest<N>
-        requires { IsGuest N.table seat }
+    /// Who has this seat, which has this number.
+    pub fn over(seat: Seat<DeskAndChain>, number: usize) -> Guest<N>
+        requires { IsGuest N.table seat × (number ≡ seat.me) }
         ensures { result ≡ seat }
     {
         Guest {
             seat,
+            number,
             of: PhantomData,
         }
     }
@@ -125,8 +145,28 @@ impl<N: Naming> Guest<N> {
         ensures comes { Comes N.seats self.old hub.old.state self.new }
         ensures rest { hub.new ≡ hub.old }
     {
-        let minutes = &mut hub.posters;
-        self.seat.see(rt, minutes, &hub.state);
+        let posters = &mut hub.posters;
+        posters.see(rt, &mut self.seat, self.number, false, &hub.state);
+    }
+
+    /// Comes to the hub, changes nothing there, and tells how many events were accepted through each seat.
+    ///
+    /// # Errors
+    ///
+    /// `AllocError` if memory for the counts is refused. It has come all the same.
+    pub fn count<R: Wait>(
+        &mut self,
+        rt: &R,
+        alloc: Global,
+        hub: &mut Hub<N, BySeats>,
+    ) -> Result<Vec<u64>, AllocError>
+        ensures comes { Comes N.seats self.old hub.old.state self.new }
+        ensures counts { IfOk result (λ counts. counts.items ≡ counts_of N.seats (authored_in self.new.saw)) }
+        ensures rest { hub.new ≡ hub.old }
+    {
+        let posters = &mut hub.posters;
+        posters.see(rt, &mut self.seat, self.number, false, &hub.state);
+        Vec::from_slice(alloc, posters.counts.as_slice())
     }
 
     /// One post of a collector, as `Desk::post`.
@@ -148,10 +188,14 @@ impl<N: Naming> Guest<N> {
         ensures rest { WithDesk hub.old hub.new }
         ensures no_memory { is_link event ≡ true → 0 < hub.old.state.desk.spare → result ≢ Err Refusal.OutOfMemory }
     {
-        self.seat.see(rt, &mut hub.posters, &hub.state);
+        let number = self.number;
+        hub.posters
+            .see(rt, &mut self.seat, number, false, &hub.state);
         hub.state.desk.steady();
         let reply = hub.state.desk.post(alloc, collector, seq, event);
-        self.seat.see(rt, &mut hub.posters, &hub.state);
+        let is_more = is_taken(&reply);
+        hub.posters
+            .see(rt, &mut self.seat, number, is_more, &hub.state);
         reply
     }
 }
@@ -159,7 +203,7 @@ impl<N: Naming> Guest<N> {
 /// A hub that has ended: its minutes, and how it stood then.
 #[derive(Drop)]
 pub struct History<N: Naming> {
-    minutes: BySeats,
+    minutes: Minutes<DeskAndChain>,
     state: DeskAndChain,
     of: PhantomData<N>,
 }
@@ -188,8 +232,9 @@ impl<N: Naming> Hub<N, BySeats> {
             living: _,
         } = self;
         shelf.close(rt);
+        let BySeats { minutes, counts: _ } = posters;
         History {
-            minutes: posters,
+            minutes,
             state,
             of: PhantomData,
         }

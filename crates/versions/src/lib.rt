@@ -8,12 +8,13 @@
 //!    seen and was told of. A note tells a chain to a reader that has been elsewhere.
 //! 4. To a hub either anyone posts, or who has a seat there. Others may open, take, give, abandon and publish at a hub with seats.
 //!    All who have a seat are told in the hub's minutes, and share one history: who comes back finds that only others came since
-//!    it left, and that between two sights either workers made steps, or the one who was there posted.
+//!    it left, and that between two sights either workers made steps, or the one who was there posted. The hub counts how many events
+//!    were accepted through each seat.
 //! 5. A job that was just taken gets a ticket. A result that comes with the ticket of its job isn't compared with the target's
 //!    network, as long as that target is open.
 //!
-//! Stands on `desk_core`, `seats`, `left_right`, `logbook`. A change here also changes specs/ (Book, Chains, Hubs,
-//! Tickets, Worked, Working), proofs/, must-fail/ and wrong-bodies/.
+//! Stands on `desk_core`, `seats`, `left_right`, `logbook`. A change here also changes specs/ (Authors, Book, Chains,
+//! Hubs, Tickets, Worked, Working), proofs/, must-fail/ and wrong-bodies/.
 #![tactic(auto)]
 
 mod book;

@@ -22,7 +22,7 @@ loop-seat-preserved g c =
     let before : AreSeatedTo ((vec_len left + 1) + 1) table state c.args.channels.now.items c.loop-seat.channels.items c.loop-seat.sittings.items =
     subst (λ n. AreSeatedTo (n + 1) table state c.args.channels.now.items c.loop-seat.channels.items c.loop-seat.sittings.items) (sym count) was.1 in
     let last = subst (λ (s : SeatValue DeskAndChain). SeatsLast (newcomer s state) c.loop-seat.channels.items c.seat_last.new.channels.items c.loop-seat.sittings.items c.seat_last.new.sittings.items)
-    (c.over.ensures ∙ seat_is) c.in_default-seat_last.ensures.seated in (
+    (c.over-guest.ensures ∙ seat_is) c.in_default-seat_last.ensures.seated in (
       (λ j d low.
           let low_items : j < length left.items = omega arith in
           let low_old : j < vec_len c.loop-seat.seats = omega arith in
