@@ -2,7 +2,7 @@
 # gate.sh PROGRAM: the gate. Every crate and its tests are proved from nothing, the wrong bodies of must-fail/ tried, the
 # tests and the stored run compared; the other wrong bodies are looked at; then the program that was just built runs the
 # transcripts of the pages, explains what the tables of SCRIPT.md do, runs the worked examples, 500 questions of what to
-# restore and a session at a terminal, writes files beside others' files, answers many sessions at one desk, is packed and
+# restore, surveys against the what-ifs asked one by one, and a session at a terminal, writes files beside others' files, answers many sessions at one desk, is packed and
 # installed, and is deprived of memory, input and output. The line before the last tells the processor time of all this, and
 # with MEASURE=1 also how many times that of a first check of net_items at one job it is. Such checks are made before, one for
 # each processor, and aren't counted. The last line is 'N passed, M failed', which stands in crates/route_desk/out/gate too if
@@ -89,6 +89,7 @@ add scripts/explained.py "$1" docs/SCRIPT.md
 add scripts/worked.py "$1"
 add scripts/terminal.py "$1"
 add scripts/mending.py "$1"
+add scripts/surveying.py "$1"
 add scripts/files.py "$1"
 add scripts/serving.py "$1"
 add scripts/packed.sh "$1"

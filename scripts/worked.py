@@ -18,7 +18,7 @@ from concurrent.futures import ThreadPoolExecutor
 
 HERE = os.path.join(os.path.dirname(os.path.abspath(__file__)), "..", "examples", "worked")
 # words that ask and change nothing
-QUESTIONS = ("status", "sls", "messages", "octets", "why", "mend", "remedy", "trace", "whatif", "reroutes", "picture", "show", "statuses", "audit")
+QUESTIONS = ("status", "sls", "messages", "octets", "why", "mend", "remedy", "trace", "whatif", "reroutes", "survey", "picture", "show", "statuses", "audit")
 # words that are refused beside workers
 OF_WORKERS = ("open", "take", "give", "abandon", "publish")
 

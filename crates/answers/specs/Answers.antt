@@ -12,6 +12,7 @@ use Rattle.answers.specs.Remedies.{remedy_text}
 use Rattle.answers.specs.Reroutes.{moved_text, reroutes_text}
 use Rattle.answers.specs.Shown.{shown_text}
 use Rattle.answers.specs.Status.{status_text}
+use Rattle.answers.specs.Surveys.{survey_text}
 use Rattle.answers.specs.Traces.{trace_text}
 use Rattle.answers.specs.Refusals.{refusal_name, refusal_values}
 use Rattle.answers.specs.WhatIfs.{report_text}
@@ -69,7 +70,7 @@ reply_text reply.Quit = codes "quit"
 abbrev pub all_taken_text : AllTaken → List ℕ
 all_taken_text taken = codes "taken " ++ (decimal taken.first ++ (codes " to " ++ decimal taken.last))
 
--- `changes P since N lost L regained R moved M`, and each of them
+-- `changes P since N lost L regained R moved M`, and each of those that are told
 abbrev pub changes_text : ℕ → Moved → List ℕ
 changes_text number moved = codes "changes " ++ (decimal number ++ moved_text moved)
 
@@ -99,6 +100,7 @@ abbrev pub net_text : NetAnswer → List ℕ
 net_text (net.Trace trace) = trace_text trace
 net_text (net.WhatIf report) = report_text report
 net_text (net.Reroutes list) = codes "reroutes" ++ reroutes_text list
+net_text (net.Survey survey) = survey_text survey
 net_text (net.Right count) = audit_right count
 net_text (net.Wrong dest complaint) = audit_wrong dest complaint
 net_text (net.Picture file picture) = codes "picture " ++ file

@@ -31,11 +31,11 @@ is_of_seats word = bytes_eq word (codes "who")
 abbrev pub refused_text : List ℕ → List ℕ
 refused_text word = word_if (is_of_workers word) (codes "; refused beside workers") ++ word_if (is_of_seats word) (codes "; refused outside serve")
 
--- `EXAMPLE`, and where it is refused
+-- `EXAMPLE: MEANING`, and where it is refused
 abbrev pub example_text : FormValue → List ℕ
-example_text form = form.example ++ refused_text form.word
+example_text form = form.example ++ (codes ": " ++ (form.meaning ++ refused_text form.word))
 
--- `help FORM, as EXAMPLE`
+-- `help FORM, as EXAMPLE: MEANING`
 abbrev pub form_text : FormValue → List ℕ
 form_text form = codes "help " ++ (form.form ++ (codes ", as " ++ example_text form))
 

@@ -12,6 +12,7 @@ pub mod Rows
 pub mod Traces
 pub mod WhatIfs
 pub mod Reroutes
+pub mod Surveys
 pub mod Changes
 pub mod Audits
 pub mod Replies

@@ -9,6 +9,7 @@ use Rattle.route_choice.specs.declared.choices.Far.{Far}
 use Rattle.tokens.specs.Rows.{vias_text}
 use Rattle.what_if.specs.declared.reports.Refused.{Refused}
 use Rattle.what_if.specs.declared.reroutes.Reroute.{Reroute}
+use Rattle.what_if.specs.declared.reroutes.RerouteCounts.{RerouteCounts}
 use Rattle.what_if.specs.Reports.{is_same}
 use Rattle.what_if.specs.Reroutes.{reroute_counts}
 use Rattle.answers.specs.Status.{far_text}
@@ -52,11 +53,17 @@ sides_text r = side_text r r.before ++ 62 ∷ side_text r r.after
 abbrev pub reroute_text : Reroute → List ℕ
 reroute_text r = 32 ∷ (row_of_text r ++ 32 ∷ sides_text r)
 
--- ` lost L regained R moved M`, and each of them
+-- ` lost L regained R moved M`
+abbrev pub counts_text : RerouteCounts → List ℕ
+counts_text counts = codes " lost " ++ (decimal counts.lost ++ (codes " regained " ++ (decimal counts.regained ++ (codes " moved " ++ decimal counts.moved))))
+
+-- the same, and each of those that are told
+abbrev pub told_text : RerouteCounts → List Reroute → List ℕ
+told_text counts list = counts_text counts ++ flat_map reroute_text list
+
+-- how many there are of each kind, and each of them
 abbrev pub reroutes_text : List Reroute → List ℕ
-reroutes_text list =
-    codes " lost " ++ (decimal (reroute_counts list).lost ++ (codes " regained " ++ (decimal (reroute_counts list).regained
-    ++ (codes " moved " ++ (decimal (reroute_counts list).moved ++ flat_map reroute_text list)))))
+reroutes_text list = told_text (reroute_counts list) list
 
 -- ` since N`: the version before; nothing if there is none
 abbrev pub since_text : Option ℕ → List ℕ
@@ -65,7 +72,7 @@ since_text (Some number) = codes " since " ++ decimal number
 
 -- what moved, and since which version
 abbrev pub moved_text : Moved → List ℕ
-moved_text moved = since_text moved.since ++ reroutes_text moved.reroutes
+moved_text moved = since_text moved.since ++ told_text moved.counts moved.reroutes
 
 -- what events would move, or the refusal and its place
 abbrev pub reroutes_answer : Result (List Reroute) Refused → Answer

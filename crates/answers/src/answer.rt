@@ -11,7 +11,7 @@ use point_codes::PointCode;
 use profile::{Messages, RowLinks, Trace};
 use route_choice::{Choice, Far};
 use transfer_state::Complaint;
-use what_if::{Mend, Refused, Report, Reroutes};
+use what_if::{Mend, Refused, Report, RerouteCounts, Reroutes, Survey};
 use work_units::{Opened, Refusal};
 
 /// Why a line is refused.
@@ -63,7 +63,9 @@ pub enum Reply {
 pub struct Moved {
     /// The number of that version, none if nothing was published before.
     pub since: Option<u64>,
-    /// What moved since.
+    /// How much was lost, regained and moved since.
+    pub counts: RerouteCounts,
+    /// What moved since, all of it or what is of a kind.
     pub reroutes: Reroutes,
 }
 
@@ -106,6 +108,8 @@ pub enum NetAnswer {
     WhatIf(Report),
     /// What events would move.
     Reroutes(Reroutes),
+    /// What single failures would take, or single repairs bring back.
+    Survey(Survey),
     /// So many tables, each right.
     Right(usize),
     /// A wrong table: its destination, and the first complaint about it.

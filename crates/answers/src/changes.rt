@@ -1,46 +1,102 @@
 //! What moved from an earlier version to the published one.
 
-ghost use Rattle.std.specs.Prelude.{◌≡◌, ◌++◌, IfOk, OnOk, string_bytes};
+ghost use Rattle.std.specs.Prelude.{◌≡◌, ◌++◌, filter, IfOk, OnOk, string_bytes};
 ghost use Rattle.std.specs.Option.{option_copied, option_map};
 ghost use Rattle.answers.specs.Answers.{notice_text, publication_text};
-ghost use Rattle.answers.specs.Changes.{changes_answer, earlier, moved_since as all_moved};
+ghost use Rattle.answers.specs.Changes.{changes_answer, earlier, is_of_kind as of_kind, moved as all_moved, moved_since as since_earlier, told_of};
 
 use crate::answer::{Answer, Moved, Publication};
 use crate::codes::put_numbered;
 use crate::reroutes::put_moved;
 use net_versions::Version;
+use script_words::Moves;
 use std::alloc::{AllocError, Global};
-use what_if::{Reroutes, reroutes_since};
+use what_if::{Reroute, Reroutes, is_lost, is_only_moved, is_regained, reroutes_since};
 
-/// What moved since an earlier version, nothing if there is none. It fails if memory is refused.
-pub fn moved_since(
-    alloc: Global,
-    before: Option<&Version>,
-    version: &Version,
-) -> Result<Moved, AllocError>
-    ensures { IfOk result (λ moved. moved ≡ all_moved (option_map earlier (option_copied before.entry)) version.now.network) }
+/// Whether a reroute is of a kind that is asked for.
+fn is_of_kind(which: Moves, reroute: &Reroute) -> bool
+    ensures { result ≡ of_kind which reroute.now }
 {
-    match before {
-        Some(before) => Ok(Moved {
-            since: Some(before.number()),
-            reroutes: reroutes_since(alloc, before, version)?,
-        }),
-        None => Ok(Moved {
-            since: None,
-            reroutes: Reroutes::from_vec(Vec::new(alloc)),
-        }),
+    match which {
+        Moves::All => true,
+        Moves::Lost => is_lost(reroute),
+        Moves::Regained => is_regained(reroute),
+        Moves::Moved => is_only_moved(reroute),
     }
 }
 
-/// What moved from an earlier version to this one; nothing if there is none. It fails if memory is refused.
+/// The reroutes of a kind that is asked for.
+fn kept(alloc: Global, which: Moves, reroutes: &[Reroute]) -> Result<Vec<Reroute>, AllocError>
+    ensures { IfOk result (λ list. list.items ≡ filter (of_kind which) reroutes.now) }
+{
+    let mut list = Vec::new(alloc);
+    for reroute in reroutes {
+        if is_of_kind(which, reroute) {
+            list.push(*reroute)?;
+        }
+    }
+    Ok(list)
+}
+
+/// The reroutes that are told.
+fn told(alloc: Global, which: Moves, reroutes: Reroutes) -> Result<Reroutes, AllocError>
+    ensures { IfOk result (λ list. list ≡ told_of which reroutes) }
+{
+    match which {
+        Moves::All => Ok(reroutes),
+        Moves::Lost | Moves::Regained | Moves::Moved => {
+            let list = kept(alloc, which, reroutes.as_slice())?;
+            Ok(Reroutes::from_vec(list))
+        }
+    }
+}
+
+/// What moved, and how much of each kind; told are those that are asked for.
+fn moved(
+    alloc: Global,
+    which: Moves,
+    since: Option<u64>,
+    reroutes: Reroutes,
+) -> Result<Moved, AllocError>
+    ensures { IfOk result (λ moved. moved ≡ all_moved which since reroutes) }
+{
+    Ok(Moved {
+        since,
+        counts: reroutes.counts(),
+        reroutes: told(alloc, which, reroutes)?,
+    })
+}
+
+/// What moved since an earlier version, all of it or what is of a kind; nothing if there is no earlier one. It fails if memory is
+/// refused.
+pub fn moved_since(
+    alloc: Global,
+    which: Moves,
+    before: Option<&Version>,
+    version: &Version,
+) -> Result<Moved, AllocError>
+    ensures { IfOk result (λ moved. moved ≡ since_earlier which (option_map earlier (option_copied before.entry)) version.now.network) }
+{
+    match before {
+        Some(before) => {
+            let reroutes = reroutes_since(alloc, before, version)?;
+            moved(alloc, which, Some(before.number()), reroutes)
+        }
+        None => moved(alloc, which, None, Reroutes::from_vec(Vec::new(alloc))),
+    }
+}
+
+/// What moved from an earlier version to this one, all of it or what is of a kind; nothing if there is no earlier one. It fails if
+/// memory is refused.
 pub fn answer_changes(
     alloc: Global,
+    which: Moves,
     before: Option<&Version>,
     version: &Version,
 ) -> Result<Answer, AllocError>
-    ensures { IfOk result (λ answer. answer ≡ changes_answer (option_map earlier (option_copied before.entry)) version.now.number version.now.network) }
+    ensures { IfOk result (λ answer. answer ≡ changes_answer which (option_map earlier (option_copied before.entry)) version.now.number version.now.network) }
 {
-    let moved = moved_since(alloc, before, version)?;
+    let moved = moved_since(alloc, which, before, version)?;
     Ok(Answer::Publication(Publication::Changes(version.number(), moved)))
 }
 

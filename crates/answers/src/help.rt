@@ -66,15 +66,17 @@ fn put_refused(text: &mut String, word: &str) -> Result<(), AllocError>
     put_if(text, is_word(word, "who"), "; refused outside serve")
 }
 
-/// Adds the example of a form, and where it is refused.
+/// Adds the example of a form, what it means, and where it is refused.
 fn put_example(text: &mut String, form: &Form) -> Result<(), AllocError>
     ensures { OnOk result (string_bytes text.new ≡ string_bytes text.old ++ example_text (value_of form.now)) }
 {
     text.push_str(form.example)?;
+    text.push_str(": ")?;
+    text.push_str(form.meaning)?;
     put_refused(text, form.word)
 }
 
-/// The answer that tells a form and its example.
+/// The answer that tells a form, its example and what it means.
 fn help_form(alloc: Global, form: &Form) -> Result<Answer, AllocError>
     ensures { IfOk result (λ answer. answer ≡ Answer.Help (form_text (value_of form.now))) }
 {
@@ -140,7 +142,7 @@ fn answer_words(alloc: Global, words: &[&[u8]]) -> Result<Answer, AllocError>
 }
 
 /// What is answered to a line that is no command: `help` tells every word that begins one, `help WORD` the form of that word's
-/// commands, with an example; `quit` that the script ends there; any other is refused as a bad line. It fails if memory is refused.
+/// commands, with an example and what they do; `quit` that the script ends there; any other is refused as a bad line. It fails if memory is refused.
 pub fn answer_other(alloc: Global, line: &[u8]) -> Result<Answer, AllocError>
     ensures { IfOk result (λ answer. answer ≡ other_answer (words_of line.now)) }
 {

@@ -21,8 +21,11 @@
 //!    `none` stands for no row; or `refused`, the refusal of the first event that is refused, and `at PLACE`.
 //! 10. What moved since the version before the published one, or since the one of a number: `changes P since N lost L regained R
 //!     moved M`, and `Y/X BEFORE>AFTER` for each point and destination whose choice differs: the statuses, where these differ, else
-//!     `STATUS:CLASS:CODE+CODE`; nothing if there is no version before, and refused 53 NotKept if the version isn't kept. What events
-//!     would move: `reroutes lost ..`, told so too. `watch on` and `watch off` are answered so.
+//!     `STATUS:CLASS:CODE+CODE`; of all of them, or of those that are lost, regained or moved alone, as is asked; nothing if there is no
+//!     version before, and refused 53 NotKept if the version isn't kept. What events would move: `reroutes lost ..`, told so too. `watch
+//!     on` and `watch off` are answered so. What single failures would take, and single repairs bring back: `survey sets N`, `survey
+//!     points N` or `survey down N` for N of them, and `ID:PAIRS` or `CODE:PAIRS` for each that takes or brings back some pair of a point
+//!     and a destination.
 //! 11. A check of every table by the local rule: `audit ok P` for P tables, or `audit bad X Y c` for the first wrong
 //!    one: its destination, and the point and the letter of the first complaint.
 //! 12. What is shown of the published network: `show points N sets N links N down N plans N tfr on`; `show down` and `ID:MARKED` for each
@@ -37,14 +40,14 @@
 //! 14. A refusal is `refused`, its number, its name and its values. An answer is told in one line, but that what a publication changed
 //!     stands behind it on a line of its own, with `*` at its front.
 //! 15. A line that is no command is refused 62 BadLine, but for `help`: it tells every word that begins a command, and `help
-//!     WORD` the form of that word's commands, with an example: `help FORM, as EXAMPLE`, and where they are refused, if they are.
-//!     Both are of the table of `script_words`.
+//!     WORD` the form of that word's commands, with an example and what they do: `help FORM, as EXAMPLE: MEANING`, and where they are
+//!     refused, if they are. Both are of the table of `script_words`.
 //! 16. Who tells the answers to a script is `Telling`: it says in which texts an answer may be told, and makes them. It may explain why a
 //!     line is refused, by the network after all accepted events.
 //!
 //! Stands on `work_units`, `path_trace`, `what_if`, `tokens`, `script_words`, `itoa`. A change here also changes specs/ (Answers, Audits,
-//! Changes, DeskRefusals, Ends, Filed, Help, Links, Mend, Messages, Refusals, Remedies, Replies, Reroutes, Rows, Shown, Status, Traces, Ways,
-//! WhatIfs, Who, Why), proofs/, must-fail/ and wrong-bodies/.
+//! Changes, DeskRefusals, Ends, Filed, Help, Links, Mend, Messages, Refusals, Remedies, Replies, Reroutes, Rows, Shown, Status, Surveys,
+//! Traces, Ways, WhatIfs, Who, Why), proofs/, must-fail/ and wrong-bodies/.
 #![tactic(auto)]
 
 pub mod answer;
@@ -69,6 +72,7 @@ mod showing;
 pub mod shown;
 mod shown_text;
 mod status;
+pub mod surveys;
 pub mod taken;
 pub mod telling;
 pub mod text;
@@ -96,6 +100,7 @@ pub use shown::{
     DownLinks, NetSize, PointStatus, SetNumbers, Shown, ShownBox, StatusCounts, Statuses,
 };
 pub use status::far_word;
+pub use surveys::{answer_survey, surveyed_word};
 pub use taken::{AllTaken, TakenEvents};
 pub use telling::{Asked, Telling};
 pub use text::Text;

@@ -16,6 +16,7 @@ use crate::replies::put_reply;
 use crate::reroutes::put_reroutes;
 use crate::shown_text::put_shown;
 use crate::status::put_status;
+use crate::surveys::put_survey;
 use crate::taken::put_all_taken;
 use crate::text::Text;
 use crate::traces::put_trace;
@@ -94,6 +95,7 @@ fn put_net(alloc: Global, text: &mut String, net: &NetAnswer) -> Result<(), Allo
             text.push_str("reroutes")?;
             put_reroutes(text, reroutes)
         }
+        NetAnswer::Survey(survey) => put_survey(text, survey),
         NetAnswer::Right(count) => put_right(text, *count),
         NetAnswer::Wrong(dest, complaint) => put_wrong(alloc, text, *dest, *complaint),
         NetAnswer::Picture(file, _) | NetAnswer::Drawn(file) => put_file(text, "picture ", file),

@@ -5,7 +5,7 @@ ghost use Rattle.std.specs.List.{flat_map};
 ghost use Rattle.std.specs.Option.{option_to_list};
 ghost use Rattle.tokens.specs.Rows.{vias_text};
 ghost use Rattle.what_if.specs.Listed.{reroutes_listed as the_reroutes};
-ghost use Rattle.answers.specs.Reroutes.{choice_status, choice_text, choice_word, keeps_status as the_status_stays, moved_text, reroute_text, reroutes_answer, reroutes_text, row_of_text, side_text, sides_text, since_text};
+ghost use Rattle.answers.specs.Reroutes.{choice_status, choice_text, choice_word, counts_text, keeps_status as the_status_stays, moved_text, reroute_text, reroutes_answer, reroutes_text, row_of_text, side_text, sides_text, since_text, told_text};
 
 use crate::answer::{Answer, Moved, NetAnswer, Reason};
 use crate::codes::{put_number, put_numbered, write_code};
@@ -16,7 +16,7 @@ use net_versions::Version;
 use point_codes::PointCode;
 use route_choice::{Choice, Far};
 use std::alloc::{AllocError, Global};
-use what_if::{Reroute, Reroutes, reroutes_listed};
+use what_if::{Reroute, RerouteCounts, Reroutes, reroutes_listed};
 
 /// The status of a choice, if there is one.
 fn status_of(choice: Option<Choice>) -> Option<Far>
@@ -112,15 +112,28 @@ fn put_each(text: &mut String, list: &[Reroute]) -> Result<(), AllocError>
     Ok(())
 }
 
+/// Adds how many are lost, regained and moved.
+fn put_counts(text: &mut String, counts: RerouteCounts) -> Result<(), AllocError>
+    ensures { OnOk result (string_bytes text.new ≡ string_bytes text.old ++ counts_text counts) }
+{
+    put_numbered(text, " lost ", counts.lost as u64)?;
+    put_numbered(text, " regained ", counts.regained as u64)?;
+    put_numbered(text, " moved ", counts.moved as u64)
+}
+
+/// Adds how many are lost, regained and moved, and each of those that are told.
+fn put_told(text: &mut String, counts: RerouteCounts, list: &[Reroute]) -> Result<(), AllocError>
+    ensures { OnOk result (string_bytes text.new ≡ string_bytes text.old ++ told_text counts list.now) }
+{
+    put_counts(text, counts)?;
+    put_each(text, list)
+}
+
 /// Adds how many are lost, regained and moved, and each of them. It takes no memory but that of the text.
 pub(crate) fn put_reroutes(text: &mut String, reroutes: &Reroutes) -> Result<(), AllocError>
     ensures { OnOk result (string_bytes text.new ≡ string_bytes text.old ++ reroutes_text reroutes.now) }
 {
-    let counts = reroutes.counts();
-    put_numbered(text, " lost ", counts.lost as u64)?;
-    put_numbered(text, " regained ", counts.regained as u64)?;
-    put_numbered(text, " moved ", counts.moved as u64)?;
-    put_each(text, reroutes.as_slice())
+    put_told(text, reroutes.counts(), reroutes.as_slice())
 }
 
 /// Adds the version before, if there is one.
@@ -138,7 +151,7 @@ pub(crate) fn put_moved(text: &mut String, moved: &Moved) -> Result<(), AllocErr
     ensures { OnOk result (string_bytes text.new ≡ string_bytes text.old ++ moved_text moved.now) }
 {
     put_since(text, moved.since)?;
-    put_reroutes(text, &moved.reroutes)
+    put_told(text, moved.counts, moved.reroutes.as_slice())
 }
 
 /// What a list of events would move, made one after the other on the network of a version. The change of a whole set or point stands

@@ -155,10 +155,11 @@ module _ (line : List ℕ) (old : BesideValue) (a : Answer) (new : BesideValue) 
   obeyed (Some (command.Trace y x s)) e is = looks is.0 (none_taken (Some (command.Trace y x s)) e refl) is.1
   obeyed (Some (command.WhatIf events)) e is = looks is.0 (none_taken (Some (command.WhatIf events)) e refl) is.1
   obeyed (Some (command.Reroutes events)) e is = looks is.0 (none_taken (Some (command.Reroutes events)) e refl) is.1
+  obeyed (Some (command.Survey what events)) e is = looks is.0 (none_taken (Some (command.Survey what events)) e refl) is.1
   obeyed (Some command.Audit) e is = looks is.0 (none_taken (Some command.Audit) e refl) is.1
   obeyed (Some (command.Picture file about)) e is = looks is.0 (none_taken (Some (command.Picture file about)) e refl) is.1
   obeyed (Some (command.Show what)) e is = looks is.0 (none_taken (Some (command.Show what)) e refl) is.1
-  obeyed (Some (command.Changes since)) e is = stays_same old (taken_by line a) new (none_taken (Some (command.Changes since)) e refl) is.1
+  obeyed (Some (command.Changes since which)) e is = stays_same old (taken_by line a) new (none_taken (Some (command.Changes since which)) e refl) is.1
   obeyed (Some (command.Watch is_on)) e is =
       stays (none_taken (Some (command.Watch is_on)) e refl) (ap (λ (b : BesideValue). b.seat) is.1) (ap (λ (b : BesideValue). b.left) is.1) (ap (λ (b : BesideValue). b.seen) is.1)
 

@@ -11,8 +11,10 @@ use Rattle.answers.specs.Help.{other_answer}
 use Rattle.answers.specs.Shown.{shown_answer}
 use Rattle.script_words.specs.Commands.{command_of}
 use Rattle.script_words.specs.declared.commands.Command.{Command}
+use Rattle.script_words.specs.declared.moves.Moves.{Moves}
 use Rattle.script_words.specs.declared.commands.Command.TheVariants as command
 use Rattle.what_if.specs.Listed.{report_listed, reroutes_listed}
+use Rattle.what_if.specs.Survey.{survey_listed}
 use Rattle.desk_core.specs.declared.posts.Last.{Last}
 use Rattle.desk_core.specs.Desk.{DeskValue, accepted, net_now, new_desk}
 use Rattle.desk_core.specs.Steps.{Posts, last_of}
@@ -21,6 +23,7 @@ use Rattle.desk_core.proofs.ReplayLemmas.{replay-append}
 use Rattle.answers.specs.Audits.{audit_answer}
 use Rattle.answers.specs.Replies.{posted_answer}
 use Rattle.answers.specs.Reroutes.{reroutes_answer}
+use Rattle.answers.specs.Surveys.{survey_answer}
 use Rattle.answers.specs.Rows.{answer_about}
 use Rattle.answers.specs.Traces.{trace_answer}
 use Rattle.answers.specs.WhatIfs.{what_if_answer}
@@ -304,9 +307,9 @@ module _ (start : DeskValue) (steady : IsSteadyDesk start) (es more : List Event
         )
 
     -- `changes` and `changes N`
-    changes_same : (since : Option ℕ) → (x ≡ changes_told b.watch since b.synced) × (new ≡ b) → (y ≡ changes_told c.watch since c.desk.published) × (end ≡ c) → (x ≡ y) × Same n new end
-    changes_same since is at =
-        (is.0 ∙ told_alike b.watch c.watch since b.synced c.desk.published same.shown.2 same.shown.0 same.shown.1 ∙ sym at.0, still_same n b new c end same is.1 at.1)
+    changes_same : (which : Moves) (since : Option ℕ) → (x ≡ changes_told b.watch which since b.synced) × (new ≡ b) → (y ≡ changes_told c.watch which since c.desk.published) × (end ≡ c) → (x ≡ y) × Same n new end
+    changes_same which since is at =
+        (is.0 ∙ told_alike b.watch c.watch which since b.synced c.desk.published same.shown.2 same.shown.0 same.shown.1 ∙ sym at.0, still_same n b new c end same is.1 at.1)
 
     -- `watch on` and `watch off`
     watches_same : (is_on : Bool) → WatchesBeside is_on b x new → Watches is_on c y end → (x ≡ y) × Same n new end
@@ -402,10 +405,11 @@ module _ (start : DeskValue) (steady : IsSteadyDesk start) (es more : List Event
     obeys_same other (Some (command.Trace p d s)) may is at = asks_same (λ net. trace_answer (trace_at net p d s)) is.0 may is.1 is.2 at.0 at.1 is.3
     obeys_same other (Some (command.WhatIf events)) may is at = asks_same (λ net. what_if_answer (report_listed net events)) is.0 may is.1 is.2 at.0 at.1 is.3
     obeys_same other (Some (command.Reroutes events)) may is at = asks_same (λ net. reroutes_answer (reroutes_listed net events)) is.0 may is.1 is.2 at.0 at.1 is.3
+    obeys_same other (Some (command.Survey what events)) may is at = asks_same (λ net. survey_answer (survey_listed what net events)) is.0 may is.1 is.2 at.0 at.1 is.3
     obeys_same other (Some command.Audit) may is at = asks_same (λ net. audit_answer (length net.plans)) is.0 may is.1 is.2 at.0 at.1 is.3
     obeys_same other (Some (command.Picture file about)) may is at = asks_same (λ net. picture_told file net about) is.0 may is.1 is.2 at.0 at.1 is.3
     obeys_same other (Some (command.Show what)) may is at = asks_same (shown_answer what) is.0 may is.1 is.2 at.0 at.1 is.3
-    obeys_same other (Some (command.Changes since)) may is at = changes_same since is at
+    obeys_same other (Some (command.Changes since which)) may is at = changes_same which since is at
     obeys_same other (Some (command.Watch is_on)) may is at = watches_same is_on is at
 
   line_same : (line : List ℕ) (x y : Option Answer) → MayCome n (command_in line) → Replies (CommandsBeside 1) line b x new → Replies Commands line c y end → (x ≡ y) × Same (events_after n (command_in line)) new end

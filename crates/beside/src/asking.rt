@@ -25,7 +25,7 @@ impl<N: Naming> Visitor<N> {
         ensures fault { IfErr result (CutsOff (Unit {0})) }
     {
         match command {
-            Command::Changes(_) | Command::Watch(_) => self.ask_changes(alloc, command),
+            Command::Changes(_, _) | Command::Watch(_) => self.ask_changes(alloc, command),
             _ => self.ask(alloc, command),
         }
     }
@@ -50,7 +50,7 @@ impl<N: Naming> Visitor<N> {
         ensures fault { IfErr result (CutsOff (Unit {0})) }
     {
         match command {
-            Command::Changes(since) => Ok(self.changes(alloc, *since)?),
+            Command::Changes(since, which) => Ok(self.changes(alloc, *which, *since)?),
             Command::Watch(is_on) => Ok(self.set_watch(*is_on)),
             _ => unreachable!(),
         }

@@ -5,7 +5,7 @@
 //!    `Telling` makes of it.
 //! 2. An event, `post`, `version`, `last` and `save` are done under the lock, at the desk as it is found: as the script's thread left it, after
 //!    steps of workers and no others. There they do what they do in line. The script's reader is told of what is published.
-//! 3. What is asked of the published version (each question, `trace`, `whatif`, `reroutes`, `audit`, `picture`) is answered
+//! 3. What is asked of the published version (each question, `trace`, `whatif`, `reroutes`, `survey`, `audit`, `picture`) is answered
 //!    from a look, without the lock: from the last version of a chain that begins with all that was seen before.
 //! 4. `sync` waits for a look that shows all events that were taken, and tells its number. If no worker lives, the script's
 //!    thread does their work meanwhile. `changes` tells what moved up to the last `sync`: between the versions that the last two of

@@ -21,6 +21,7 @@ use answers::{Answer, Publication, Reason, Reply, answer_post};
 use desk_console::{Watch, answer_save, has_memory};
 use desk_core::{Posted, Refusal};
 use net_data::{Event, Net};
+use script_words::Moves;
 use sessions::Fault;
 use std::alloc::{AllocError, Global};
 use std::marker::Model;
@@ -359,11 +360,16 @@ impl<N: Naming> Visitor<N> {
         Ok(Answer::Publication(Publication::Synced(number, moved)))
     }
 
-    /// What moved up to the last `sync`: since the one before it, or since the version of a number.
-    pub(crate) fn changes(&self, alloc: Global, since: Option<u64>) -> Result<Answer, AllocError>
-        ensures { IfOk result (λ answer. answer ≡ changes_told self.now.watch since self.now.synced) }
+    /// What moved up to the last `sync`: since the one before it, or since the version of a number; all of it, or what is of a kind.
+    pub(crate) fn changes(
+        &self,
+        alloc: Global,
+        which: Moves,
+        since: Option<u64>,
+    ) -> Result<Answer, AllocError>
+        ensures { IfOk result (λ answer. answer ≡ changes_told self.now.watch which since self.now.synced) }
     {
-        self.watch.tell(alloc, since, &self.synced)
+        self.watch.tell(alloc, which, since, &self.synced)
     }
 
     /// What moves is told behind each `sync` from now on, or no more.

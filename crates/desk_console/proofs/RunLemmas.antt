@@ -71,6 +71,7 @@ asked_does (command.About asked y x) c a is said = (said, refl)
 asked_does (command.Trace y x s) c a is said = (said, refl)
 asked_does (command.WhatIf events) c a is said = (said, refl)
 asked_does (command.Reroutes events) c a is said = (said, refl)
+asked_does (command.Survey what events) c a is said = (said, refl)
 asked_does command.Audit c a is said = (said, refl)
 asked_does (command.Picture file about) c a is said = (said, refl)
 asked_does (command.Show what) c a is said = (said, refl)
@@ -149,13 +150,14 @@ module _ (line : List ℕ) (c : ConsoleValue) (a : Answer) (new : ConsoleValue) 
   command_runs (command.Trace y x s) here is = told (rw here refl) is.1
   command_runs (command.WhatIf events) here is = told (rw here refl) is.1
   command_runs (command.Reroutes events) here is = told (rw here refl) is.1
+  command_runs (command.Survey what events) here is = told (rw here refl) is.1
   command_runs command.Audit here is = told (rw here refl) is.1
   command_runs (command.Picture file about) here is = told (rw here refl) is.1
   command_runs (command.Show what) here is = told (rw here refl) is.1
   command_runs (command.Last collector) here is = told (rw here refl) is.1
   command_runs command.Who here is = told (rw here refl) is.1
   command_runs (command.Save file) here is = told (rw here refl) is.1
-  command_runs (command.Changes since) here is = told (rw here refl) is.1
+  command_runs (command.Changes since which) here is = told (rw here refl) is.1
   command_runs (command.Watch is_on) here is = silent (rw here refl) (unmoved c.desk new.desk (ap (λ (d : ConsoleValue). d.desk) is.1))
 
   obeyed : (other : Answer) (o : Option Command) → command_of (words_of line) ≡ o → Obeys other o c a new → IsRunOf c.desk (taken_by line a) new.desk

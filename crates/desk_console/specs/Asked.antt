@@ -3,10 +3,12 @@ use Rattle.std.specs.Prelude.{Bool, true, false, length}
 use Rattle.net_data.specs.Network.{Network}
 use Rattle.path_trace.specs.Traces.{trace_at}
 use Rattle.what_if.specs.Listed.{report_listed, reroutes_listed}
+use Rattle.what_if.specs.Survey.{survey_listed}
 use Rattle.answers.specs.Audits.{audit_answer}
 use Rattle.answers.specs.Reroutes.{reroutes_answer}
 use Rattle.answers.specs.Rows.{answer_about}
 use Rattle.answers.specs.Shown.{shown_answer}
+use Rattle.answers.specs.Surveys.{survey_answer}
 use Rattle.answers.specs.Traces.{trace_answer}
 use Rattle.answers.specs.WhatIfs.{what_if_answer}
 use Rattle.answers.specs.declared.answer.Answer.{Answer}
@@ -22,6 +24,7 @@ is_asked (command.About asked y x) = true
 is_asked (command.Trace y x s) = true
 is_asked (command.WhatIf events) = true
 is_asked (command.Reroutes events) = true
+is_asked (command.Survey what events) = true
 is_asked command.Audit = true
 is_asked (command.Picture file about) = true
 is_asked (command.Show what) = true
@@ -37,6 +40,8 @@ asked_answer (command.Trace y x s) net = trace_answer (trace_at net y x s)
 asked_answer (command.WhatIf events) net = what_if_answer (report_listed net events)
 -- `reroutes EVENT ; EVENT ..`
 asked_answer (command.Reroutes events) net = reroutes_answer (reroutes_listed net events)
+-- `survey sets`, `survey points` and `survey down`, and events after them
+asked_answer (command.Survey what events) net = survey_answer (survey_listed what net events)
 -- `audit`
 asked_answer command.Audit net = audit_answer (length net.plans)
 -- `picture FILE` and `picture FILE X`

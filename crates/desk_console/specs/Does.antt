@@ -209,10 +209,12 @@ Does (command.About asked y x) c = Asks (command.About asked y x) c
 Does (command.Trace y x s) c = Asks (command.Trace y x s) c
 Does (command.WhatIf events) c = Asks (command.WhatIf events) c
 Does (command.Reroutes events) c = Asks (command.Reroutes events) c
+-- `survey sets`, `survey points` and `survey down`, and events after them
+Does (command.Survey what events) c = Asks (command.Survey what events) c
 Does command.Audit c = Asks command.Audit c
 Does (command.Picture file about) c = Asks (command.Picture file about) c
 Does (command.Show what) c = Asks (command.Show what) c
 -- `changes` and `changes N`
-Does (command.Changes since) c = Tells (changes_told c.watch since c.desk.published) c
+Does (command.Changes since which) c = Tells (changes_told c.watch which since c.desk.published) c
 -- `watch on` and `watch off`
 Does (command.Watch is_on) c = Watches is_on c

@@ -2,6 +2,8 @@
 use Rattle.std.specs.Prelude.{ℕ, ◌==◌, ◌&&◌, not, Bool, false, if◌then◌else◌, List, ◌∷◌, Option, Some, None, find, replicate, slice_index_or, take, unwrap_or}
 use Rattle.std.specs.Option.{option_map_or}
 use Rattle.net_versions.specs.Versions.{VersionValue}
+use Rattle.script_words.specs.declared.moves.Moves.{Moves}
+use Rattle.script_words.specs.declared.moves.Moves.TheVariants as moves
 use Rattle.answers.specs.Changes.{Earlier, changes_answer, earlier, moved_since}
 use Rattle.answers.specs.declared.answer.Answer.{Answer}
 use Rattle.answers.specs.declared.answer.Answer.TheVariants as answer
@@ -42,15 +44,15 @@ abbrev pub kept_at : WatchValue → ℕ → Option Earlier
 kept_at w n = among w.kept n
 
 -- what moved since an earlier version, refused if that isn't kept
-abbrev pub told_since : Option Earlier → VersionValue → Answer
-told_since None version = answer.Refused reason.NotKept
-told_since (Some old) version = changes_answer (Some old) version.number version.network
+abbrev pub told_since : Moves → Option Earlier → VersionValue → Answer
+told_since which None version = answer.Refused reason.NotKept
+told_since which (Some old) version = changes_answer which (Some old) version.number version.network
 
--- what moved since the version before, or since the one of a number
-abbrev pub changes_told : WatchValue → Option ℕ → VersionValue → Answer
-changes_told w None version = changes_answer (newest w) version.number version.network
-changes_told w (Some n) version = told_since (kept_at w n) version
+-- what moved since the version before, or since the one of a number: all of it, or what is of a kind
+abbrev pub changes_told : WatchValue → Moves → Option ℕ → VersionValue → Answer
+changes_told w which None version = changes_answer which (newest w) version.number version.network
+changes_told w which (Some n) version = told_since which (kept_at w n) version
 
 -- what is told behind the reply of a command that found a version published and leaves one: what moved, if that is watched
 abbrev pub notice : WatchValue → VersionValue → VersionValue → Option Moved
-notice w old new = if w.is_on && is_replaced old new then Some (moved_since (newest (watched w old new)) new.network) else None
+notice w old new = if w.is_on && is_replaced old new then Some (moved_since moves.All (newest (watched w old new)) new.network) else None

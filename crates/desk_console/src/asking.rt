@@ -6,7 +6,8 @@ ghost use Rattle.desk_console.specs.Asked.{asked_answer, is_asked};
 
 use crate::picturing::answer_picture;
 use answers::{
-    Answer, answer_about, answer_audit, answer_reroutes, answer_shown, answer_trace, answer_what_if,
+    Answer, answer_about, answer_audit, answer_reroutes, answer_shown, answer_survey, answer_trace,
+    answer_what_if,
 };
 use net_versions::Version;
 use script_words::Command;
@@ -27,6 +28,7 @@ pub fn answer_asked(
         Command::Trace(point, dest, s) => answer_trace(alloc, version, *point, *dest, *s),
         Command::WhatIf(events) => answer_what_if(alloc, version, events.as_slice()),
         Command::Reroutes(events) => answer_reroutes(alloc, version, events.as_slice()),
+        Command::Survey(what, events) => answer_survey(alloc, version, *what, events.as_slice()),
         Command::Audit => Ok(answer_audit(version)),
         Command::Picture(file, about) => answer_picture(alloc, version, file.as_str(), *about),
         Command::Show(what) => answer_shown(alloc, version, *what),

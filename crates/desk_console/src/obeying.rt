@@ -17,7 +17,7 @@ use crate::sync;
 use answers::{Answer, Moved, Publication, Reason, Reply, answer_open, answer_post};
 use desk_core::Refusal;
 use net_data::Event;
-use script_words::Command;
+use script_words::{Command, Moves};
 use std::alloc::{AllocError, Global};
 use std::sync::Arc;
 
@@ -105,11 +105,11 @@ impl Console {
         Ok(Answer::Publication(Publication::Synced(number, moved)))
     }
 
-    /// What moved since the version before, or since the one of a number.
-    fn changes(&self, alloc: Global, since: Option<u64>) -> Result<Answer, AllocError>
-        ensures { IfOk result (λ answer. answer ≡ changes_told self.now.watch since self.now.desk.published) }
+    /// What moved since the version before, or since the one of a number: all of it, or what is of a kind.
+    fn changes(&self, alloc: Global, which: Moves, since: Option<u64>) -> Result<Answer, AllocError>
+        ensures { IfOk result (λ answer. answer ≡ changes_told self.now.watch which since self.now.desk.published) }
     {
-        self.watch.tell(alloc, since, self.desk.published())
+        self.watch.tell(alloc, which, since, self.desk.published())
     }
 
     /// A collector's last sequence number.
@@ -169,7 +169,7 @@ impl Console {
             Command::Last(collector) => Ok(self.last(*collector)),
             Command::Who => Ok(Answer::Refused(Reason::BadLine)),
             Command::Save(file) => self.save(alloc, file.as_str()),
-            Command::Changes(since) => self.changes(alloc, *since),
+            Command::Changes(since, which) => self.changes(alloc, *which, *since),
             Command::Watch(is_on) => Ok(self.set_watch(*is_on)),
             _ => self.ask(alloc, command),
         }

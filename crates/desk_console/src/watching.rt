@@ -8,6 +8,7 @@ ghost use Rattle.desk_console.specs.Watch.{among, changes_told, is_replaced as r
 
 use answers::{Answer, Moved, Reason, answer_changes, moved_since};
 use net_versions::Version;
+use script_words::Moves;
 use std::alloc::{AllocError, Global};
 use std::marker::Model;
 use std::sync::Arc;
@@ -83,21 +84,22 @@ impl Watch {
         find_kept(&self.kept, number)
     }
 
-    /// What moved since the version before the published one, or since the one of a number, refused if that isn't kept. It fails if memory is
-    /// refused.
+    /// What moved since the version before the published one, or since the one of a number, refused if that isn't kept: all of it, or
+    /// what is of a kind. It fails if memory is refused.
     pub fn tell(
         &self,
         alloc: Global,
+        which: Moves,
         since: Option<u64>,
         version: &Version,
     ) -> Result<Answer, AllocError>
-        ensures { IfOk result (λ answer. answer ≡ changes_told self.now since version.now) }
+        ensures { IfOk result (λ answer. answer ≡ changes_told self.now which since version.now) }
     {
         let Some(number) = since else {
-            return answer_changes(alloc, self.newest(), version);
+            return answer_changes(alloc, which, self.newest(), version);
         };
         match self.find(number) {
-            Some(before) => answer_changes(alloc, Some(before), version),
+            Some(before) => answer_changes(alloc, which, Some(before), version),
             None => Ok(Answer::Refused(Reason::NotKept)),
         }
     }
@@ -130,6 +132,6 @@ impl Watch {
         if !(self.is_on && is_other) {
             return Ok(None);
         }
-        Ok(Some(moved_since(alloc, self.newest(), new)?))
+        Ok(Some(moved_since(alloc, Moves::All, self.newest(), new)?))
     }
 }

@@ -13,6 +13,11 @@ use Rattle.route_choice.specs.declared.choices.Choice.{Choice}
 use Rattle.route_choice.specs.declared.choices.Far.{Far}
 use Rattle.what_if.specs.declared.changes.Change.{Change}
 use Rattle.what_if.specs.declared.reroutes.Reroute.{Reroute}
+use Rattle.what_if.specs.declared.reroutes.RerouteCounts.{RerouteCounts}
+use Rattle.what_if.specs.declared.survey.Effect.{Effect}
+use Rattle.what_if.specs.declared.survey.Single.{Single}
+use Rattle.what_if.specs.declared.survey.Single.TheVariants as single
+use Rattle.what_if.specs.Reroutes.{reroute_counts}
 use Rattle.what_if.specs.declared.mending.SetLink.{SetLink}
 use Rattle.answers.specs.declared.answer.Answer.{Answer}
 use Rattle.answers.specs.declared.answer.Answer.TheVariants as answer
@@ -42,7 +47,7 @@ use Rattle.net_items.specs.declared.items.LinkSet.{LinkSet}
 use Rattle.net_items.specs.declared.items.Point.{Point}
 use Rattle.json_answers.specs.Shown.{code_if, id_value, point_members, point_status_members, set_members, shown_members}
 use Rattle.json_answers.specs.Refusals.{desk_members, edit_values, number_if, value_members}
-use Rattle.json_answers.specs.Objects.{action_members, answer_members, answer_object, change_members, choice_members, choice_value, hop_members, link_items, link_members, links_value, mend_member, message_members, move_members, net_values, octet_value, octets_value, offer_members, publication_members, remedy_member, reply_members, reroute_members, row_values, seat_members, status_value, trace_members, unused_members, used_members, via_items, way_members}
+use Rattle.json_answers.specs.Objects.{action_members, answer_members, answer_object, change_members, choice_members, choice_value, effect_members, hop_members, link_items, link_members, links_value, mend_member, message_members, net_values, octet_value, octets_value, offer_members, publication_members, remedy_member, reply_members, reroute_members, row_values, seat_members, single_member, status_value, told_members, trace_members, unused_members, used_members, via_items, way_members}
 use Rattle.json_answers.specs.Marked.{marked_value, mend_members}
 
 -- no value of these members is deeper than this
@@ -120,8 +125,16 @@ reroute_shallow r = (flat 2, (flat 2, (side_shallow r.before, (side_shallow r.af
 reroutes_shallow : (list : List Reroute) → depth (list_member (codes "changes") reroute_members list).1 ≤ 4
 reroutes_shallow list = listed reroute_members reroute_shallow list
 
-moves_shallow : (list : List Reroute) → AreShallow 4 (move_members list)
-moves_shallow list = (flat 4, (flat 4, (flat 4, (reroutes_shallow list, tt))))
+moves_shallow : (counts : RerouteCounts) (list : List Reroute) → AreShallow 4 (told_members counts list)
+moves_shallow counts list = (flat 4, (flat 4, (flat 4, (reroutes_shallow list, tt))))
+
+single_shallow : (s : Single) → depth (single_member s).1 ≤ 2
+single_shallow (single.SetFails id) = flat 2
+single_shallow (single.PointFails code) = flat 2
+single_shallow (single.SetRestored id) = flat 2
+
+effect_shallow : (effect : Effect) → AreShallow 2 (effect_members effect)
+effect_shallow effect = (single_shallow effect.single, (flat 2, tt))
 
 changes_shallow : (changes : List Change) → depth (list_member (codes "changes") change_members changes).1 ≤ 4
 changes_shallow changes = listed change_members change_shallow changes
@@ -159,7 +172,7 @@ number_shallow (Some n) = flat 4
 publication_shallow : (p : Publication) → AreShallow 4 (publication_members p)
 publication_shallow (publication.Published n moved) = (flat 4, (flat 4, tt))
 publication_shallow (publication.Synced n moved) = (flat 4, (flat 4, tt))
-publication_shallow (publication.Changes n moved) = (flat 4, (flat 4, (number_shallow moved.since, moves_shallow moved.reroutes)))
+publication_shallow (publication.Changes n moved) = (flat 4, (flat 4, (number_shallow moved.since, moves_shallow moved.counts moved.reroutes)))
 
 links_shallow : (class : ℕ) (links : List (Option LinkRef)) → depth (links_value class links) ≤ 4
 links_shallow class links = either (λ j. depth j ≤ 4) (class == 0) _ _ (flat 4) (flat_mapped 3 link_items link_shallow links)
@@ -210,7 +223,8 @@ net_shallow (net.Right count) = (flat 4, (flat 4, tt))
 net_shallow (net.Wrong dest complaint) = (flat 4, (flat 4, (flat 4, (flat 4, tt))))
 net_shallow (net.Picture file picture) = (flat 4, tt)
 net_shallow (net.Drawn file) = (flat 4, tt)
-net_shallow (net.Reroutes list) = moves_shallow list
+net_shallow (net.Reroutes list) = moves_shallow (reroute_counts list) list
+net_shallow (net.Survey survey) = (flat 4, (flat 4, (listed effect_members effect_shallow survey.effects, tt)))
 net_shallow (net.Saving file network) = (flat 4, tt)
 net_shallow (net.Saved file) = (flat 4, tt)
 

@@ -20,10 +20,15 @@ use Rattle.what_if.specs.declared.reports.Report.{Report}
 use Rattle.what_if.specs.declared.reroutes.Reroute.{Reroute}
 use Rattle.what_if.specs.declared.reroutes.RerouteCounts.{RerouteCounts}
 use Rattle.what_if.specs.Reroutes.{reroute_counts}
+use Rattle.what_if.specs.declared.survey.Effect.{Effect}
+use Rattle.what_if.specs.declared.survey.Single.{Single}
+use Rattle.what_if.specs.declared.survey.Single.TheVariants as single
+use Rattle.what_if.specs.declared.survey.Survey.{Survey}
 use Rattle.answers.specs.Audits.{clause_letter}
 use Rattle.answers.specs.Messages.{message_kind_text}
 use Rattle.answers.specs.Remedies.{command_text}
 use Rattle.answers.specs.Status.{far_text}
+use Rattle.answers.specs.Surveys.{surveyed_text}
 use Rattle.answers.specs.declared.answer.Answer.{Answer}
 use Rattle.answers.specs.declared.answer.Answer.TheVariants as answer
 use Rattle.answers.specs.declared.answer.Moved.{Moved}
@@ -120,13 +125,17 @@ reroute_members r = row_of_members r.point r.dest ++ side_members r
 abbrev pub move_counts : RerouteCounts → List Member
 move_counts c = number_member (codes "lost") c.lost ∷ two_numbers (codes "regained") c.regained (codes "moved") c.moved
 
--- the same of a list, and each of it
+-- the same, and each of those that are told
+abbrev pub told_members : RerouteCounts → List Reroute → List Member
+told_members counts list = move_counts counts ++ list_member (codes "changes") reroute_members list ∷ []
+
+-- how many of a list are of each kind, and each of it
 abbrev pub move_members : List Reroute → List Member
-move_members list = move_counts (reroute_counts list) ++ list_member (codes "changes") reroute_members list ∷ []
+move_members list = told_members (reroute_counts list) list
 
 -- what moved, and since which version
 abbrev pub moved_members : Moved → List Member
-moved_members moved = (codes "since", number_if moved.since) ∷ move_members moved.reroutes
+moved_members moved = (codes "since", number_if moved.since) ∷ told_members moved.counts moved.reroutes
 
 -- the same with the number of the version that it leads to, behind a word
 abbrev pub told_changes : List ℕ → ℕ → Moved → List Member
@@ -244,6 +253,21 @@ abbrev pub report_members : Report → List Member
 report_members report =
     text_member (codes "result") (if report.denied then codes "denied" else codes "granted") ∷ list_member (codes "changes") change_members report.changes ∷ []
 
+-- the set or the point that fails or is restored
+abbrev pub single_member : Single → Member
+single_member (single.SetFails id) = number_member (codes "set") id
+single_member (single.PointFails code) = code_member (codes "point") code
+single_member (single.SetRestored id) = number_member (codes "set") id
+
+-- what has an effect, and on how many pairs
+abbrev pub effect_members : Effect → List Member
+effect_members effect = single_member effect.single ∷ number_member (codes "pairs") effect.pairs ∷ []
+
+-- what is surveyed, how much was tried, and what has an effect
+abbrev pub survey_members : Survey → List Member
+survey_members survey =
+    text_member (codes "surveyed") (surveyed_text survey.surveyed) ∷ number_member (codes "tried") survey.tried ∷ list_member (codes "effects") effect_members survey.effects ∷ []
+
 -- a wrong table: its destination, and the point and the letter of the first complaint
 abbrev pub complaint_members : ℕ → Complaint → List Member
 complaint_members dest complaint =
@@ -254,6 +278,7 @@ abbrev pub net_word : NetAnswer → List ℕ
 net_word (net.Trace trace) = codes "trace"
 net_word (net.WhatIf report) = codes "whatif"
 net_word (net.Reroutes list) = codes "reroutes"
+net_word (net.Survey survey) = codes "survey"
 net_word (net.Right count) = codes "audit"
 net_word (net.Wrong dest complaint) = codes "audit"
 net_word (net.Picture file picture) = codes "picture"
@@ -266,6 +291,7 @@ abbrev pub net_values : NetAnswer → List Member
 net_values (net.Trace trace) = trace_members trace
 net_values (net.WhatIf report) = report_members report
 net_values (net.Reroutes list) = move_members list
+net_values (net.Survey survey) = survey_members survey
 net_values (net.Right count) = text_member (codes "result") (codes "ok") ∷ number_member (codes "plans") count ∷ []
 net_values (net.Wrong dest complaint) = text_member (codes "result") (codes "bad") ∷ complaint_members dest complaint
 net_values (net.Picture file picture) = text_member (codes "file") file ∷ []

@@ -27,6 +27,7 @@ mod remedies;
 mod replies;
 mod rows;
 mod shown;
+mod surveys;
 pub mod texts;
 mod told;
 mod ways;

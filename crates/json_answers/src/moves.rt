@@ -2,7 +2,7 @@
 
 ghost use Rattle.std.specs.Prelude.{◌∷◌, [], OnOk, codes};
 ghost use Rattle.json_answers.specs.Members.{Adds, member_tokens};
-ghost use Rattle.json_answers.specs.Objects.{change_members, choice_value, move_counts, move_members, moved_members, publication_members, row_of_members, side_members, status_value, told_changes};
+ghost use Rattle.json_answers.specs.Objects.{change_members, choice_value, move_counts, move_members, moved_members, publication_members, row_of_members, side_members, status_value, told_changes, told_members};
 ghost use Rattle.json_answers.specs.Values.{list_member};
 
 use crate::members::{
@@ -110,12 +110,24 @@ fn put_move_counts(writer: &mut Writer, counts: RerouteCounts) -> Result<(), All
     put_two(writer, "regained", regained as u64, "moved", moved as u64)
 }
 
+/// Writes how many are lost, regained and moved, and each of those that are told.
+fn put_told_moves(
+    alloc: Global,
+    writer: &mut Writer,
+    counts: RerouteCounts,
+    list: &[Reroute],
+) -> Result<(), AllocError>
+    ensures { OnOk result (Adds writer.old writer.new (member_tokens (told_members counts list.now))) }
+{
+    put_move_counts(writer, counts)?;
+    put_list(alloc, writer, "changes", list)
+}
+
 /// Writes how many are lost, regained and moved, and each of them.
 pub fn put_moves(alloc: Global, writer: &mut Writer, reroutes: &Reroutes) -> Result<(), AllocError>
     ensures { OnOk result (Adds writer.old writer.new (member_tokens (move_members reroutes.now))) }
 {
-    put_move_counts(writer, reroutes.counts())?;
-    put_list(alloc, writer, "changes", reroutes.as_slice())
+    put_told_moves(alloc, writer, reroutes.counts(), reroutes.as_slice())
 }
 
 /// Writes what moved, and since which version.
@@ -123,7 +135,7 @@ fn put_moved(alloc: Global, writer: &mut Writer, moved: &Moved) -> Result<(), Al
     ensures { OnOk result (Adds writer.old writer.new (member_tokens (moved_members moved.now))) }
 {
     put_number_if(writer, "since", moved.since)?;
-    put_moves(alloc, writer, &moved.reroutes)
+    put_told_moves(alloc, writer, moved.counts, moved.reroutes.as_slice())
 }
 
 /// Writes what moved, and the number of the version that it leads to, behind a word.

@@ -8,6 +8,7 @@ ghost use Rattle.json_answers.specs.Values.{text_member, word_member};
 
 use crate::members::{put_code, put_number, put_text, put_word};
 use crate::moves::{put_change_list, put_moves};
+use crate::surveys::put_survey;
 use crate::told::{Told, put_list};
 use answers::{NetAnswer, clause_word};
 use json::Writer;
@@ -113,6 +114,7 @@ fn put_net_word(writer: &mut Writer, net: &NetAnswer) -> Result<(), AllocError>
             NetAnswer::Trace(_) => "trace",
             NetAnswer::WhatIf(_) => "whatif",
             NetAnswer::Reroutes(_) => "reroutes",
+            NetAnswer::Survey(_) => "survey",
             NetAnswer::Right(_) | NetAnswer::Wrong(_, _) => "audit",
             NetAnswer::Picture(_, _) | NetAnswer::Drawn(_) => "picture",
             NetAnswer::Saving(_, _) | NetAnswer::Saved(_) => "saved",
@@ -128,6 +130,7 @@ fn put_net_values(alloc: Global, writer: &mut Writer, net: &NetAnswer) -> Result
         NetAnswer::Trace(trace) => put_trace(alloc, writer, trace),
         NetAnswer::WhatIf(report) => put_report(alloc, writer, report),
         NetAnswer::Reroutes(reroutes) => put_moves(alloc, writer, reroutes),
+        NetAnswer::Survey(survey) => put_survey(alloc, writer, survey),
         NetAnswer::Right(count) => put_right(writer, *count as u64),
         NetAnswer::Wrong(dest, complaint) => put_wrong(alloc, writer, *dest, *complaint),
         NetAnswer::Picture(file, _)

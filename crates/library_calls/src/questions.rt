@@ -4,10 +4,10 @@ use crate::samples::{change, code, worked};
 use route_state::codes::PointCode;
 use route_state::desks::Version;
 use route_state::marks::{End, LinkChange};
-use route_state::nets::{Event, Listed, Whole, events_of_whole, refusal_of_whole};
+use route_state::nets::{Event, Listed, Surveyed, Whole, events_of_whole, refusal_of_whole};
 use route_state::traces::{Hop, Trace, trace};
 use route_state::what_ifs::{
-    Wanted, find_mend, report_listed, reroutes_by, reroutes_listed, reroutes_since,
+    Wanted, find_mend, report_listed, reroutes_by, reroutes_listed, reroutes_since, survey_listed,
     what_if as report_on,
 };
 use std::alloc::Global;
@@ -84,6 +84,18 @@ fn whole_fails(alloc: Global, version: &Version) -> Option<(usize, usize)> {
     Some((report.changes.as_slice().len(), reroutes.as_slice().len()))
 }
 
+/// How many failures of sets are tried alone once a set has failed, and of each that takes some pair how many it takes.
+fn surveyed(alloc: Global, version: &Version) -> Option<(usize, [usize; 2])> {
+    let entries = [Listed::Whole(Whole::Set(4, LinkChange::Fail))];
+    let survey = survey_listed(alloc, version, Surveyed::Sets, &entries)
+        .ok()?
+        .ok()?;
+    match survey.effects.as_slice() {
+        [one, other] => Some((survey.tried, [one.pairs, other.pairs])),
+        _ => None,
+    }
+}
+
 /// Whether the change of a whole point is that of each of its four links, and nothing refuses it.
 fn is_each_link(alloc: Global) -> Option<bool> {
     let net = worked(alloc)?;
@@ -106,8 +118,9 @@ fn asks(alloc: Global, version: &Version) -> Option<bool> {
     Some(quiet && reports == [(1, false), (0, false)] && moves(alloc, version)? == (2, true))
 }
 
-/// What events would change and move, what moved, and what would mend a point.
+/// What events would change and move, what moved, what would mend a point, and what single failures would take.
 pub(crate) fn what_ifs(alloc: Global) -> Option<bool> {
     let version = version(alloc)?;
-    Some(asks(alloc, &version)? && whole_fails(alloc, &version)? == (1, 2) && is_each_link(alloc)?)
+    let wholes = whole_fails(alloc, &version)? == (1, 2) && is_each_link(alloc)?;
+    Some(asks(alloc, &version)? && wholes && surveyed(alloc, &version)? == (4, [3, 1]))
 }

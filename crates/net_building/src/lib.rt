@@ -7,6 +7,7 @@
 //! 3. The events of a set are made here, and events are applied one after the other, up to the first refusal.
 //! 4. The change of a whole set or point means the change of each link of the set, or of all sets that end at the point; of a point
 //!    the first end is its own. It is refused 17 NoSet or 10 NoPoint if there is none; none of its events is refused.
+//! 5. What of a network can be surveyed, one after the other: its sets, its transfer points, and its sets that are down.
 //!
 //! Stands on `net_data`. A change here also changes specs/ (Building, Wholes), proofs/, must-fail/ and wrong-bodies/.
 #![tactic(auto)]
@@ -14,9 +15,11 @@
 mod applying;
 pub mod laws;
 mod sets;
+mod surveyed;
 mod wholes;
 
 pub use applying::{apply_each, apply_events};
 pub use laws::rebuilt_law;
 pub use sets::events_of_set;
+pub use surveyed::Surveyed;
 pub use wholes::{Listed, Whole, events_of_listed, events_of_whole, refusal_of_whole};

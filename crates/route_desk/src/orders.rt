@@ -104,13 +104,18 @@ fn explain_nothing(rt: &HostRuntime, word: &str) -> io::Result<ExitCode> {
     Ok(ExitCode::from(2))
 }
 
-/// The form of a script's word, and an example, on a line.
+/// The form of a script's word, an example and what it does, on a line.
 fn write_form(alloc: Global, form: &Form) -> Result<String, AllocError> {
-    let (form, example) = (form.form, form.example);
-    format!(in alloc; "{form}, as {example}\n")
+    let Form {
+        form,
+        example,
+        meaning,
+        ..
+    } = form;
+    format!(in alloc; "{form}, as {example}: {meaning}\n")
 }
 
-/// The form of a script's word, and an example, as an object of JSON on a line.
+/// The form of a script's word, an example and what it does, as an object of JSON on a line.
 fn form_object(alloc: Global, form: &Form) -> Result<Vec<u8>, AllocError> {
     write_texts(
         Vec::new(alloc),
@@ -119,11 +124,12 @@ fn form_object(alloc: Global, form: &Form) -> Result<Vec<u8>, AllocError> {
             ("title", form.word),
             ("form", form.form),
             ("example", form.example),
+            ("meaning", form.meaning),
         ],
     )
 }
 
-/// Writes the form of a script's word.
+/// Writes the form of a script's word, and what it does.
 fn explain_form(rt: &HostRuntime, word: &str, json: bool) -> io::Result<ExitCode> {
     let alloc = rt.alloc();
     match form_of(word.as_bytes()) {

@@ -227,7 +227,9 @@ fn asked_in(command: &Command) -> Option<(PointCode, PointCode)> {
 /// The events that a command tries on a copy of the network.
 fn tried_in(command: &Command) -> Option<&Events> {
     match command {
-        Command::WhatIf(events) | Command::Reroutes(events) => Some(events),
+        Command::WhatIf(events) | Command::Reroutes(events) | Command::Survey(_, events) => Some(
+            events,
+        ),
         _ => None,
     }
 }

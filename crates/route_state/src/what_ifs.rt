@@ -1,6 +1,7 @@
-//! What events would change and move, what moved between versions, and what would mend a point.
+//! What events would change and move, what moved between versions, what would mend a point, and what single failures would take.
 
 pub use what_if::{
-    Change, Changes, Mend, Refused, Report, Reroute, RerouteCounts, Reroutes, SetLink, Wanted,
-    find_mend, report_listed, reroutes_by, reroutes_listed, reroutes_since, what_if,
+    Change, Changes, Effect, Effects, Mend, Refused, Report, Reroute, RerouteCounts, Reroutes,
+    SetLink, Single, Survey, Wanted, find_mend, report_listed, reroutes_by, reroutes_listed,
+    reroutes_since, survey_listed, what_if,
 };

@@ -4,12 +4,16 @@ use Rattle.std.specs.List.{slice_split}
 use Rattle.std.specs.Option.{option_map_or}
 use Rattle.std.specs.Str.{bytes_eq, is_utf8}
 use Rattle.point_codes.specs.Codes.{code_of}
+use Rattle.net_building.specs.declared.surveyed.Surveyed.{Surveyed}
+use Rattle.net_building.specs.declared.surveyed.Surveyed.TheVariants as surveyed
 use Rattle.net_building.specs.declared.wholes.Listed.{Listed}
 use Rattle.net_building.specs.declared.wholes.Listed.TheVariants as listed
 use Rattle.tokens.specs.Numbers.{id_of}
 use Rattle.tokens.specs.Pieces.{all_of}
 use Rattle.script_words.specs.Events.{event_of}
 use Rattle.script_words.specs.Wholes.{listed_of}
+use Rattle.script_words.specs.declared.moves.Moves.{Moves}
+use Rattle.script_words.specs.declared.moves.Moves.TheVariants as moves
 use Rattle.script_words.specs.declared.questions.Question.{Question}
 use Rattle.script_words.specs.declared.questions.Question.TheVariants.{Status, Links, Messages, Octets, Why, Mend, MendAllowed, Remedy, RemedyAllowed}
 use Rattle.script_words.specs.declared.shows.Show.{Show}
@@ -39,11 +43,25 @@ abbrev pub collector_alone : List (List ℕ) → Option ℕ
 collector_alone (c ∷ []) = collector_of c
 collector_alone _ = None
 
--- nothing, or `N`: the number of a version
-abbrev pub version_asked : List (List ℕ) → Option (Option ℕ)
-version_asked [] = Some None
-version_asked (n ∷ []) = option_map (λ n. Some n) (sequence_of n)
-version_asked _ = None
+-- `lost`, `regained` or `moved`
+abbrev pub moves_of : List ℕ → Option Moves
+moves_of word =
+    if bytes_eq word (codes "lost") then Some moves.Lost
+    else if bytes_eq word (codes "regained") then Some moves.Regained
+    else if bytes_eq word (codes "moved") then Some moves.Moved
+    else None
+
+-- one of these, or `N`: the number of a version
+abbrev pub changes_by : List ℕ → Option Command
+changes_by word =
+    option_map_or (λ which. Some (Command.Changes None which)) (moves_of word) (option_map (λ n. Command.Changes (Some n) moves.All) (sequence_of word))
+
+-- nothing, one of these, or `N` and one of the three
+abbrev pub changes_of : List (List ℕ) → Option Command
+changes_of [] = Some (Command.Changes None moves.All)
+changes_of (word ∷ []) = changes_by word
+changes_of (n ∷ kind ∷ []) = option_and_then (λ n. option_map (λ which. Command.Changes (Some n) which) (moves_of kind)) (sequence_of n)
+changes_of _ = None
 
 -- something of the row of a point in the table of a destination, if both are there
 abbrev pub about : Question → Option ℕ → Option ℕ → Option Command
@@ -122,11 +140,30 @@ pieces_at words = slice_split (λ w. bytes_eq w (codes ";")) words
 abbrev pub events_of : List (List ℕ) → Option (List Listed)
 events_of words = all_of listed_of (pieces_at words)
 
+-- `sets`, `points` or `down`
+abbrev pub surveyed_of : List ℕ → Option Surveyed
+surveyed_of word =
+    if bytes_eq word (codes "sets") then Some surveyed.Sets
+    else if bytes_eq word (codes "points") then Some surveyed.Points
+    else if bytes_eq word (codes "down") then Some surveyed.Down
+    else None
+
+-- nothing, or `EVENT ; EVENT ..`
+abbrev pub events_if : List (List ℕ) → Option (List Listed)
+events_if [] = Some []
+events_if (word ∷ rest) = events_of (word ∷ rest)
+
+-- one of the three words, alone or with events after it
+abbrev pub survey_of : List (List ℕ) → Option Command
+survey_of (what ∷ rest) = option_and_then (λ what. option_map (λ events. Command.Survey what events) (events_if rest)) (surveyed_of what)
+survey_of [] = None
+
 -- the first word of a command about the published network, or what moved it
 abbrev pub net_word_of : List ℕ → Option CommandWord
 net_word_of text =
     if bytes_eq text (codes "whatif") then Some word.WhatIf
     else if bytes_eq text (codes "reroutes") then Some word.Reroutes
+    else if bytes_eq text (codes "survey") then Some word.Survey
     else if bytes_eq text (codes "show") then Some word.Show
     else if bytes_eq text (codes "statuses") then Some word.Statuses
     else if bytes_eq text (codes "audit") then Some word.Audit
@@ -192,6 +229,8 @@ command_by word.Sync rest = alone Command.Sync rest
 command_by word.WhatIf rest = option_map (λ events. Command.WhatIf events) (events_of rest)
 -- `reroutes EVENT ; EVENT ..`
 command_by word.Reroutes rest = option_map (λ events. Command.Reroutes events) (events_of rest)
+-- `survey sets`, `survey points` and `survey down`, and events after them
+command_by word.Survey rest = survey_of rest
 -- `post C SEQ EVENT`
 command_by word.Post rest = post_of rest
 -- `open`
@@ -212,8 +251,8 @@ command_by word.Last rest = option_map (λ c. Command.Last c) (collector_alone r
 command_by word.Who rest = alone Command.Who rest
 -- `audit`
 command_by word.Audit rest = alone Command.Audit rest
--- `changes` and `changes N`
-command_by word.Changes rest = option_map (λ since. Command.Changes since) (version_asked rest)
+-- `changes` and `changes N`, and these with `lost`, `regained` or `moved` after them
+command_by word.Changes rest = changes_of rest
 -- `watch on` and `watch off`
 command_by word.Watch rest = option_map (λ is_on. Command.Watch is_on) (switch_of rest)
 -- `picture FILE` and `picture FILE X`

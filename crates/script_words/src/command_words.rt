@@ -30,6 +30,8 @@ pub enum CommandWord {
     WhatIf,
     /// `reroutes`.
     Reroutes,
+    /// `survey`.
+    Survey,
     /// `post`.
     Post,
     /// `open`.
@@ -71,6 +73,7 @@ fn read_net_word(word: &[u8]) -> Option<CommandWord>
     match word {
         _ if is_word(word, "whatif") => Some(CommandWord::WhatIf),
         _ if is_word(word, "reroutes") => Some(CommandWord::Reroutes),
+        _ if is_word(word, "survey") => Some(CommandWord::Survey),
         _ if is_word(word, "show") => Some(CommandWord::Show),
         _ if is_word(word, "statuses") => Some(CommandWord::Statuses),
         _ if is_word(word, "audit") => Some(CommandWord::Audit),

@@ -2,9 +2,10 @@
 
 ghost use Rattle.std.specs.Prelude.{◌≡◌, string_bytes};
 
+use crate::moves::Moves;
 use crate::questions::Question;
 use crate::shows::Show;
-use net_building::{Listed, Whole};
+use net_building::{Listed, Surveyed, Whole};
 use net_data::Event;
 use point_codes::PointCode;
 use std::marker::Model;
@@ -109,12 +110,14 @@ pub enum Command {
     WhatIf(Events),
     /// What events would move is asked.
     Reroutes(Events),
+    /// What single failures would take, or single repairs bring back, after events is asked.
+    Survey(Surveyed, Events),
     /// A check of all tables is asked.
     Audit,
     /// Something of the published network is to be shown.
     Show(Show),
-    /// What moved since the version before, or since the one of this number, is asked.
-    Changes(Option<u64>),
+    /// What moved since the version before, or since the one of this number, is asked: all of it, or what is of a kind.
+    Changes(Option<u64>, Moves),
     /// A collector's last sequence number is asked.
     Last(u8),
     /// How many events were accepted through each seat is asked.

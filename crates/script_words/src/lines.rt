@@ -2,18 +2,20 @@
 
 ghost use Rattle.std.specs.Prelude.{◌≡◌, ◌≢◌, ◌<◌, map, option_map, IfOk, IfSome};
 ghost use Rattle.tokens.specs.Words.{words_of};
-ghost use Rattle.script_words.specs.Commands.{IsWithin, alone, collector_alone, command_listed, slot_alone, switch_of, post_of, command_by, command_of, version_asked};
+ghost use Rattle.script_words.specs.Commands.{IsWithin, alone, collector_alone, command_listed, slot_alone, switch_of, post_of, command_by, command_of};
 ghost use Rattle.script_words.specs.Wholes.{listed_by};
 
 use crate::command_words::{CommandWord, read_command_word};
 use crate::commands::Command;
 use crate::events::read_event_by;
+use crate::moves::read_changes;
 use crate::numbers::{read_collector, read_sequence, read_slot};
 use crate::pictures::{read_picture, read_save};
 use crate::queries::{read_about, read_either, read_octets, read_trace};
 use crate::questions::Question;
 use crate::read_event;
 use crate::shows::{read_show, read_statuses};
+use crate::surveys::read_survey;
 use crate::verbs::{Verb, read_verb};
 use crate::what_ifs::read_events;
 use crate::wholes::read_whole_by;
@@ -52,17 +54,6 @@ fn read_only_collector(words: &[&[u8]]) -> Option<u8>
     match words {
         [collector] => read_collector(*collector),
         [] => None,
-        [_, _, ..] => None,
-    }
-}
-
-/// No word, or `N`. `None` if it is neither.
-fn read_version(words: &[&[u8]]) -> Option<Option<u64>>
-    ensures { result ≡ version_asked (map (λ w. w.now) words.now) }
-{
-    match words {
-        [] => Some(None),
-        [number] => read_sequence(*number).map(Some),
         [_, _, ..] => None,
     }
 }
@@ -107,7 +98,7 @@ fn read_post(alloc: Global, words: &[&[u8]]) -> Result<Option<Command>, AllocErr
 
 /// The command of a first word that neither an event nor a file follows, and the words after it.
 fn read_plain(word: CommandWord, rest: &[&[u8]]) -> Option<Command>
-    requires events { (word ≢ CommandWord.WhatIf) × (word ≢ CommandWord.Reroutes) × (word ≢ CommandWord.Post) }
+    requires events { (word ≢ CommandWord.WhatIf) × (word ≢ CommandWord.Reroutes) × (word ≢ CommandWord.Survey) × (word ≢ CommandWord.Post) }
     requires files { (word ≢ CommandWord.Picture) × (word ≢ CommandWord.Save) }
     ensures value { result ≡ command_by word (map (λ w. w.now) rest.now) }
     ensures within { IfSome result IsWithin }
@@ -133,10 +124,11 @@ fn read_plain(word: CommandWord, rest: &[&[u8]]) -> Option<Command>
         CommandWord::Last => read_only_collector(rest).map(Command::Last),
         CommandWord::Who => only(Command::Who, rest),
         CommandWord::Audit => only(Command::Audit, rest),
-        CommandWord::Changes => read_version(rest).map(Command::Changes),
+        CommandWord::Changes => read_changes(rest),
         CommandWord::Watch => read_switch(rest).map(Command::Watch),
         CommandWord::WhatIf
         | CommandWord::Reroutes
+        | CommandWord::Survey
         | CommandWord::Post
         | CommandWord::Picture
         | CommandWord::Save => unreachable!(),
@@ -151,6 +143,7 @@ fn read_by(alloc: Global, word: CommandWord, rest: &[&[u8]]) -> Result<Option<Co
     match word {
         CommandWord::WhatIf => Ok(read_events(alloc, rest)?.map(Command::WhatIf)),
         CommandWord::Reroutes => Ok(read_events(alloc, rest)?.map(Command::Reroutes)),
+        CommandWord::Survey => read_survey(alloc, rest),
         CommandWord::Post => read_post(alloc, rest),
         CommandWord::Picture => read_picture(alloc, rest),
         CommandWord::Save => read_save(alloc, rest),

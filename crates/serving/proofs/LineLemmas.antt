@@ -373,10 +373,11 @@ module _ (start : Network) (seats : ℕ) (b : BesideValue) (line : List ℕ) (to
   obeyed a is_told rules other (Some (command.Trace y x s)) here is = looks (rw here refl) is.1.seat is.1.seen
   obeyed a is_told rules other (Some (command.WhatIf events)) here is = looks (rw here refl) is.1.seat is.1.seen
   obeyed a is_told rules other (Some (command.Reroutes events)) here is = looks (rw here refl) is.1.seat is.1.seen
+  obeyed a is_told rules other (Some (command.Survey what events)) here is = looks (rw here refl) is.1.seat is.1.seen
   obeyed a is_told rules other (Some command.Audit) here is = looks (rw here refl) is.1.seat is.1.seen
   obeyed a is_told rules other (Some (command.Picture file about)) here is = looks (rw here refl) is.1.seat is.1.seen
   obeyed a is_told rules other (Some (command.Show what)) here is = looks (rw here refl) is.1.seat is.1.seen
-  obeyed a is_told rules other (Some (command.Changes since)) here is = posts_none (rw here refl) is.1
+  obeyed a is_told rules other (Some (command.Changes since which)) here is = posts_none (rw here refl) is.1
   obeyed a is_told rules other (Some (command.Watch is_on)) here is =
       looks (rw here refl) (ap (λ (x : BesideValue). x.seat) is.1) (versions_same b.seen new.seen (ap (λ (x : BesideValue). x.seen) is.1))
 

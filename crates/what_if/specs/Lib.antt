@@ -2,3 +2,4 @@ pub mod Reports
 pub mod Reroutes
 pub mod Mending
 pub mod Listed
+pub mod Survey

@@ -82,7 +82,7 @@ pub(crate) fn is_usable(status: Option<Far>) -> bool
 }
 
 /// Whether a status is prohibited.
-fn is_prohibited(status: Option<Far>) -> bool
+pub(crate) fn is_prohibited(status: Option<Far>) -> bool
     ensures { result ≡ prohibited status }
 {
     match status {
@@ -92,7 +92,7 @@ fn is_prohibited(status: Option<Far>) -> bool
 }
 
 /// Whether a change goes from allowed or restricted to prohibited.
-fn is_loss(change: &Change) -> bool
+pub(crate) fn is_loss(change: &Change) -> bool
     ensures { result ≡ loses change.now }
 {
     is_usable(change.before) && is_prohibited(change.after)

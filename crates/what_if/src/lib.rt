@@ -15,8 +15,11 @@
 //!    the first link of those that take least. Or it is told that no restoring does it.
 //! 7. In a list of events the change of a whole set or point may stand too: it means its events, in the network that those before
 //!    it make.
+//! 8. A survey tries each set with an available link, or each transfer point, that fails alone, or each set without an available link
+//!    that is restored alone, and tells how many pairs of a point and a destination each takes or brings back: as a what-if of it
+//!    tells. Those of a point that fails itself aren't counted.
 //!
-//! Stands on `net_versions`, `net_building`. A change here also changes specs/ (Listed, Mending, Reports, Reroutes), proofs/,
+//! Stands on `net_versions`, `net_building`. A change here also changes specs/ (Listed, Mending, Reports, Reroutes, Survey), proofs/,
 //! must-fail/ and wrong-bodies/.
 #![tactic(auto)]
 
@@ -30,6 +33,7 @@ pub mod mending;
 pub mod moving;
 pub mod reports;
 pub mod reroutes;
+pub mod survey;
 pub mod versions;
 pub mod wanted;
 
@@ -38,6 +42,7 @@ pub use listed::{report_listed, reroutes_listed};
 pub use mending::{Mend, SetLink, find_mend, mate_row};
 pub use moving::reroutes_by;
 pub use reports::{Refused, Report, what_if};
-pub use reroutes::{Reroute, RerouteCounts, Reroutes};
+pub use reroutes::{Reroute, RerouteCounts, Reroutes, is_lost, is_only_moved, is_regained};
+pub use survey::{Effect, Effects, Single, Survey, survey_listed};
 pub use versions::reroutes_since;
 pub use wanted::Wanted;

@@ -59,7 +59,7 @@ fn make_listed(
 }
 
 /// The network that a list makes of a version's, and the events that it means; or the first entry that is refused.
-fn network_listed(
+pub(crate) fn network_listed(
     alloc: Global,
     version: &Version,
     entries: &[Listed],

@@ -101,21 +101,21 @@ fn has_route(choice: Option<Choice>) -> bool
 }
 
 /// Whether the point loses the destination.
-fn is_lost(reroute: &Reroute) -> bool
+pub fn is_lost(reroute: &Reroute) -> bool
     ensures { result ≡ the_lost reroute.now }
 {
     has_route(reroute.before) && !has_route(reroute.after)
 }
 
 /// Whether the point regains the destination.
-fn is_regained(reroute: &Reroute) -> bool
+pub fn is_regained(reroute: &Reroute) -> bool
     ensures { result ≡ the_regained reroute.now }
 {
     !has_route(reroute.before) && has_route(reroute.after)
 }
 
-/// Whether it does neither.
-fn is_only_moved(reroute: &Reroute) -> bool
+/// Whether the point neither loses nor regains the destination: it uses something else.
+pub fn is_only_moved(reroute: &Reroute) -> bool
     ensures { result ≡ only_moved reroute.now }
 {
     !is_lost(reroute) && !is_regained(reroute)
