@@ -40,7 +40,9 @@ def singles_of(text):
 
 
 def count_in(answer, name, counts):
-    """How many changes of a what-if count; those of a point that fails itself don't."""
+    """How many changes of a what-if count; those of a point that fails itself don't. None may be refused, which no survey tells."""
+    if not answer.startswith("whatif "):
+        return answer
     changes = re.findall(r" (\S+)/(\S+) (\w+)>(\w+)", answer)
     return sum(counts(before, after) for point, dest, before, after in changes if name not in (point, dest))
 
