@@ -18,6 +18,7 @@ HERE = os.path.join(os.path.dirname(os.path.abspath(__file__)), "..", "examples"
 NETWORK = os.path.abspath(os.path.join(HERE, "small.toml"))
 WRITE = "route_desk: 64 Write\n"
 NOBODY = 65534
+TABLES = ["points.csv", "sets.csv", "routes.csv"]
 PROGRAM = ""
 
 
@@ -212,8 +213,9 @@ def a_picture_has_the_ending_of_one(folder):
 def endings_are_read_in_either_case(folder):
     got = run(["run", NETWORK], "picture one.SVG\npicture two.Dot\npicture three.gv\n", cwd=folder)
     want(got == ("picture one.SVG\npicture two.Dot\npicture three.gv\n", "", 0), f"the run: {got}")
-    want(read(folder, "one.SVG") == run(["picture", NETWORK, "--svg"])[0], "an SVG document")
-    want(read(folder, "two.Dot") == read(folder, "three.gv") == run(["picture", NETWORK])[0], "a DOT text")
+    drawn, text = (run(["picture", NETWORK, *words])[0].replace(" link sets", " link sets, version 0: after 0 accepted events") for words in (["--svg"], []))
+    want(read(folder, "one.SVG") == drawn, "an SVG document")
+    want(read(folder, "two.Dot") == read(folder, "three.gv") == text, "a DOT text")
 
 
 KEPT = "this run reads it, or writes it itself"
@@ -322,6 +324,78 @@ def a_table_goes_to_no_pipe(folder):
     os.mkfifo(os.path.join(folder, "sets.csv"))
     got = run(["export", NETWORK, folder, "--explain"])
     want(got == ("", f"{folder}/sets.csv: a pipe isn't written\n" + WRITE, 1), f"the run: {got}")
+
+
+def three_tables(folder, place="."):
+    """Makes the three files of a network's tables, each with a text of its own; their nodes."""
+    for name in TABLES:
+        write(folder, os.path.join(place, name), f"{name} before\n")
+    return [os.stat(os.path.join(folder, place, name)).st_ino for name in TABLES]
+
+
+def want_as_they_were(folder, nodes, place="."):
+    """Wants that the tables are those that were made, and that nothing else is there."""
+    for name, node in zip(TABLES, nodes):
+        path = os.path.join(place, name)
+        want(read(folder, path) == f"{name} before\n" and os.stat(os.path.join(folder, path)).st_ino == node, f"{name}")
+    want(sorted(os.listdir(os.path.join(folder, place))) == sorted(TABLES), f"the files: {os.listdir(os.path.join(folder, place))}")
+
+
+def tables_take_their_places_together(folder):
+    nodes = three_tables(folder)
+    want(run(["export", NETWORK, folder]) == ("", "", 0), "the run")
+    for name, node in zip(TABLES, nodes):
+        want("before" not in read(folder, name) and os.stat(os.path.join(folder, name)).st_ino != node, name)
+    want(sorted(os.listdir(folder)) == sorted(TABLES), "nothing else")
+
+
+def tables_stay_where_one_of_them_is_a_folder(folder):
+    write(folder, "points.csv", "points.csv before\n")
+    os.mkdir(os.path.join(folder, "sets.csv"))
+    got = run(["export", NETWORK, folder, "--explain"])
+    want(got == ("", f"{folder}/sets.csv: a folder isn't written\n" + WRITE, 1), f"the run: {got}")
+    want(read(folder, "points.csv") == "points.csv before\n" and sorted(os.listdir(folder)) == ["points.csv", "sets.csv"], "the files")
+
+
+def tables_stay_where_the_disk_is_full(folder):
+    # there is room for the first two, and not for the third
+    nodes = three_tables(folder)
+    got = run(["export", NETWORK, folder], preexec_fn=lambda: resource.setrlimit(resource.RLIMIT_FSIZE, (60, 60)), restore_signals=False)
+    want(got == ("", WRITE, 1), f"the run: {got}")
+    want_as_they_were(folder, nodes)
+
+
+def new_tables_go_where_one_of_them_cant_be_made(folder):
+    os.symlink("nowhere/routes.csv", os.path.join(folder, "routes.csv"))
+    want(run(["export", NETWORK, folder]) == ("", WRITE, 1), "the run")
+    want(os.listdir(folder) == ["routes.csv"], f"the files: {os.listdir(folder)}")
+
+
+def export_as_nobody(folder, place):
+    program, network = open_to_nobody(folder)
+    ran = subprocess.run([program, "export", network, place], capture_output=True, text=True, timeout=60, cwd=folder, user=NOBODY, group=NOBODY, extra_groups=[])
+    return ran.stdout, ran.stderr, ran.returncode
+
+
+def tables_get_their_places_back_where_a_later_one_cant_take_its_own(folder):
+    # in a folder like /tmp the last table is another's: all three are written, two take their places, and the third can't
+    as_root()
+    os.mkdir(os.path.join(folder, "sticky"))
+    nodes = three_tables(folder, "sticky")
+    os.chmod(os.path.join(folder, "sticky"), 0o1777)
+    for name in TABLES[:2]:
+        os.chown(os.path.join(folder, "sticky", name), NOBODY, NOBODY)
+    want(export_as_nobody(folder, "sticky") == ("", WRITE, 1), "the run")
+    want_as_they_were(folder, nodes, "sticky")
+
+
+def new_tables_go_where_a_later_one_cant_take_its_place(folder):
+    as_root()
+    os.mkdir(os.path.join(folder, "sticky"))
+    write(folder, "sticky/routes.csv", "routes.csv before\n", mode=0o666)
+    os.chmod(os.path.join(folder, "sticky"), 0o1777)
+    want(export_as_nobody(folder, "sticky") == ("", WRITE, 1), "the run")
+    want(os.listdir(os.path.join(folder, "sticky")) == ["routes.csv"] and read(folder, "sticky/routes.csv") == "routes.csv before\n", "the files")
 
 
 def a_picture_and_tables_keep_modes(folder):

@@ -2,7 +2,7 @@
 # gate.sh PROGRAM: the gate. Every crate and its tests are proved from nothing, the wrong bodies of must-fail/ tried, the
 # tests and the stored run compared; the other wrong bodies are looked at; then the program that was just built runs the
 # transcripts of the pages, explains what the tables of SCRIPT.md do, runs the worked examples, 500 questions of what to
-# restore, surveys against the what-ifs asked one by one, and a session at a terminal, writes files beside others' files, answers many sessions at one desk, is packed and
+# restore, surveys against the what-ifs asked one by one, warnings against the network texts, reports against the words of a script, and a session at a terminal, writes files beside others' files, answers many sessions at one desk, is packed and
 # installed, and is deprived of memory, input and output. The line before the last tells the processor time of all this, and
 # with MEASURE=1 also how many times that of a first check of net_items at one job it is. Such checks are made before, one for
 # each processor, and aren't counted. The last line is 'N passed, M failed', which stands in crates/route_desk/out/gate too if
@@ -90,6 +90,10 @@ add scripts/worked.py "$1"
 add scripts/terminal.py "$1"
 add scripts/mending.py "$1"
 add scripts/surveying.py "$1"
+add scripts/warning.py "$1"
+add scripts/reporting.py "$1"
+add scripts/drawing.py "$1"
+add scripts/tables.py "$1"
 add scripts/files.py "$1"
 add scripts/serving.py "$1"
 add scripts/packed.sh "$1"

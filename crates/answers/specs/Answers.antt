@@ -15,6 +15,7 @@ use Rattle.answers.specs.Status.{status_text}
 use Rattle.answers.specs.Surveys.{survey_text}
 use Rattle.answers.specs.Traces.{trace_text}
 use Rattle.answers.specs.Refusals.{refusal_name, refusal_values}
+use Rattle.answers.specs.Warnings.{warnings_text}
 use Rattle.answers.specs.WhatIfs.{report_text}
 use Rattle.answers.specs.Who.{who_text}
 use Rattle.answers.specs.Why.{why_text}
@@ -101,6 +102,7 @@ net_text (net.Trace trace) = trace_text trace
 net_text (net.WhatIf report) = report_text report
 net_text (net.Reroutes list) = codes "reroutes" ++ reroutes_text list
 net_text (net.Survey survey) = survey_text survey
+net_text (net.Warned warnings) = warnings_text warnings
 net_text (net.Right count) = audit_right count
 net_text (net.Wrong dest complaint) = audit_wrong dest complaint
 net_text (net.Picture file picture) = codes "picture " ++ file

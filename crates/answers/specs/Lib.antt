@@ -19,5 +19,6 @@ pub mod Replies
 pub mod Help
 pub mod Shown
 pub mod Who
+pub mod Warnings
 pub mod Answers
 pub mod Filed

@@ -11,7 +11,7 @@ use point_codes::PointCode;
 use profile::{Messages, RowLinks, Trace};
 use route_choice::{Choice, Far};
 use transfer_state::Complaint;
-use what_if::{Mend, Refused, Report, RerouteCounts, Reroutes, Survey};
+use what_if::{Mend, Refused, Report, RerouteCounts, Reroutes, Survey, Warnings};
 use work_units::{Opened, Refusal};
 
 /// Why a line is refused.
@@ -110,6 +110,8 @@ pub enum NetAnswer {
     Reroutes(Reroutes),
     /// What single failures would take, or single repairs bring back.
     Survey(Survey),
+    /// What a planner is warned of.
+    Warned(Warnings),
     /// So many tables, each right.
     Right(usize),
     /// A wrong table: its destination, and the first complaint about it.

@@ -25,7 +25,7 @@
 //!     version before, and refused 53 NotKept if the version isn't kept. What events would move: `reroutes lost ..`, told so too. `watch
 //!     on` and `watch off` are answered so. What single failures would take, and single repairs bring back: `survey sets N`, `survey
 //!     points N` or `survey down N` for N of them, and `ID:PAIRS` or `CODE:PAIRS` for each that takes or brings back some pair of a point
-//!     and a destination.
+//!     and a destination. What a planner is warned of: `warn N`, and `NAME:VALUES` for each of N warnings.
 //! 11. A check of every table by the local rule: `audit ok P` for P tables, or `audit bad X Y c` for the first wrong
 //!    one: its destination, and the point and the letter of the first complaint.
 //! 12. What is shown of the published network: `show points N sets N links N down N plans N tfr on`; `show down` and `ID:MARKED` for each
@@ -47,7 +47,7 @@
 //!
 //! Stands on `work_units`, `path_trace`, `what_if`, `tokens`, `script_words`, `itoa`. A change here also changes specs/ (Answers, Audits,
 //! Changes, DeskRefusals, Ends, Filed, Help, Links, Mend, Messages, Refusals, Remedies, Replies, Reroutes, Rows, Shown, Status, Surveys,
-//! Traces, Ways, WhatIfs, Who, Why), proofs/, must-fail/ and wrong-bodies/.
+//! Traces, Warnings, Ways, WhatIfs, Who, Why), proofs/, must-fail/ and wrong-bodies/.
 #![tactic(auto)]
 
 pub mod answer;
@@ -77,6 +77,7 @@ pub mod taken;
 pub mod telling;
 pub mod text;
 pub mod traces;
+pub mod warnings;
 pub mod ways;
 pub mod what_ifs;
 pub mod who;
@@ -105,6 +106,7 @@ pub use taken::{AllTaken, TakenEvents};
 pub use telling::{Asked, Telling};
 pub use text::Text;
 pub use traces::answer_trace;
+pub use warnings::{answer_warn, name_of_warning, put_warning, put_warning_lines};
 pub use ways::{Offer, Way, Ways};
 pub use what_ifs::answer_what_if;
 pub use who::{SeatCount, SeatCounts, SeatNames, answer_who};

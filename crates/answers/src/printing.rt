@@ -20,6 +20,7 @@ use crate::surveys::put_survey;
 use crate::taken::put_all_taken;
 use crate::text::Text;
 use crate::traces::put_trace;
+use crate::warnings::put_warnings;
 use crate::what_ifs::{put_refused_values, put_report};
 use crate::who::put_who;
 use crate::why::put_why;
@@ -96,6 +97,7 @@ fn put_net(alloc: Global, text: &mut String, net: &NetAnswer) -> Result<(), Allo
             put_reroutes(text, reroutes)
         }
         NetAnswer::Survey(survey) => put_survey(text, survey),
+        NetAnswer::Warned(warnings) => put_warnings(text, warnings),
         NetAnswer::Right(count) => put_right(text, *count),
         NetAnswer::Wrong(dest, complaint) => put_wrong(alloc, text, *dest, *complaint),
         NetAnswer::Picture(file, _) | NetAnswer::Drawn(file) => put_file(text, "picture ", file),

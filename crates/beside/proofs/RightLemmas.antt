@@ -156,6 +156,7 @@ module _ (line : List ℕ) (old : BesideValue) (a : Answer) (new : BesideValue) 
   obeyed (Some (command.WhatIf events)) e is = looks is.0 (none_taken (Some (command.WhatIf events)) e refl) is.1
   obeyed (Some (command.Reroutes events)) e is = looks is.0 (none_taken (Some (command.Reroutes events)) e refl) is.1
   obeyed (Some (command.Survey what events)) e is = looks is.0 (none_taken (Some (command.Survey what events)) e refl) is.1
+  obeyed (Some command.Warn) e is = looks is.0 (none_taken (Some command.Warn) e refl) is.1
   obeyed (Some command.Audit) e is = looks is.0 (none_taken (Some command.Audit) e refl) is.1
   obeyed (Some (command.Picture file about)) e is = looks is.0 (none_taken (Some (command.Picture file about)) e refl) is.1
   obeyed (Some (command.Show what)) e is = looks is.0 (none_taken (Some (command.Show what)) e refl) is.1

@@ -15,6 +15,7 @@ use Rattle.script_words.specs.declared.moves.Moves.{Moves}
 use Rattle.script_words.specs.declared.commands.Command.TheVariants as command
 use Rattle.what_if.specs.Listed.{report_listed, reroutes_listed}
 use Rattle.what_if.specs.Survey.{survey_listed}
+use Rattle.what_if.specs.Warnings.{warnings_of}
 use Rattle.desk_core.specs.declared.posts.Last.{Last}
 use Rattle.desk_core.specs.Desk.{DeskValue, accepted, net_now, new_desk}
 use Rattle.desk_core.specs.Steps.{Posts, last_of}
@@ -24,6 +25,7 @@ use Rattle.answers.specs.Audits.{audit_answer}
 use Rattle.answers.specs.Replies.{posted_answer}
 use Rattle.answers.specs.Reroutes.{reroutes_answer}
 use Rattle.answers.specs.Surveys.{survey_answer}
+use Rattle.answers.specs.Warnings.{warn_answer}
 use Rattle.answers.specs.Rows.{answer_about}
 use Rattle.answers.specs.Traces.{trace_answer}
 use Rattle.answers.specs.WhatIfs.{what_if_answer}
@@ -344,6 +346,18 @@ module _ (start : DeskValue) (steady : IsSteadyDesk start) (es more : List Event
           subst (Same n new) (sym other) (looked_same start steady es n b c same keeps n version new c looks kept same.less same.aim (omega arith) (shown_still b new c c same.shown told refl refl)),
         )
 
+    -- `picture FILE` and `picture FILE X`, where the version's number shows too
+    pictures_same : (file : List ℕ) (about : Option ℕ) (version : VersionValue) → n ≡ 0 → Looks b version new → x ≡ picture_told file version.network about version.number
+        → y ≡ picture_told file c.desk.published.network about c.desk.published.number → end ≡ c → KeepsSynced b new → (x ≡ y) × Same n new end
+    pictures_same file about version now looks is at other told =
+        let low : same.last.number ≤ version.number = look_rises start steady es n b c same keeps version new looks in
+        let high : version.number ≤ accepted b.left.desk = look_within start steady es n b c same keeps version new looks later in
+        let near = same.near in
+        let less = same.less in
+        let count = same.count in
+        let number : c.desk.published.number ≡ version.number = omega arith in
+        asks_same (λ net. picture_told file net about version.number) version now looks is (at ∙ ap (picture_told file c.desk.published.network about) number) other told
+
     -- the change of a whole set or point
     wholes_same : (w : Whole) → n ≡ 0 → PostsWholeBeside 1 0 w b x new → PostsWhole 0 w c y end → (x ≡ y) × Same 65536 new end
     wholes_same w now is at = go (whole_against is.0.desk 0 w) (whole_events (net_now is.0.desk) w) refl refl is.1
@@ -406,8 +420,9 @@ module _ (start : DeskValue) (steady : IsSteadyDesk start) (es more : List Event
     obeys_same other (Some (command.WhatIf events)) may is at = asks_same (λ net. what_if_answer (report_listed net events)) is.0 may is.1 is.2 at.0 at.1 is.3
     obeys_same other (Some (command.Reroutes events)) may is at = asks_same (λ net. reroutes_answer (reroutes_listed net events)) is.0 may is.1 is.2 at.0 at.1 is.3
     obeys_same other (Some (command.Survey what events)) may is at = asks_same (λ net. survey_answer (survey_listed what net events)) is.0 may is.1 is.2 at.0 at.1 is.3
+    obeys_same other (Some command.Warn) may is at = asks_same (λ net. warn_answer (warnings_of net)) is.0 may is.1 is.2 at.0 at.1 is.3
     obeys_same other (Some command.Audit) may is at = asks_same (λ net. audit_answer (length net.plans)) is.0 may is.1 is.2 at.0 at.1 is.3
-    obeys_same other (Some (command.Picture file about)) may is at = asks_same (λ net. picture_told file net about) is.0 may is.1 is.2 at.0 at.1 is.3
+    obeys_same other (Some (command.Picture file about)) may is at = pictures_same file about is.0 may is.1 is.2 at.0 at.1 is.3
     obeys_same other (Some (command.Show what)) may is at = asks_same (shown_answer what) is.0 may is.1 is.2 at.0 at.1 is.3
     obeys_same other (Some (command.Changes since which)) may is at = changes_same which since is at
     obeys_same other (Some (command.Watch is_on)) may is at = watches_same is_on is at

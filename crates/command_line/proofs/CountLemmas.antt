@@ -8,7 +8,7 @@ use Rattle.std.proofs.lemmas.Result.{OkIff-at_ok}
 use Rattle.std.proofs.lemmas.Str.Parse.{IsNumeralModel, numerals_by_value, parse_plain, parse_plus, tells_digits}
 use Rattle.clap.specs.Words.{Row, Text}
 use Rattle.command_line.specs.declared.words.Order.{Order}
-use Rattle.command_line.specs.declared.words.Order.TheVariants.{Run, Play, Serve, Check, Picture, Import, Export, Explain}
+use Rattle.command_line.specs.declared.words.Order.TheVariants.{Run, Play, Serve, Check, Survey, Picture, Report, Import, Export, Explain}
 use Rattle.command_line.specs.Words.{IsOrder, IsPadded, IsWithin, IsWorkers}
 
 own : IsNumeralModel (AllDigits 10) (digits_value 10)
@@ -56,8 +56,10 @@ pub order_within : (order : Order) (found : Option (Text × List Row)) → IsOrd
 order_within (Run net workers save explained json strict no_files) found is = count_within 0 _ workers (omega arith) is.3
 order_within (Play net steps save explained json strict no_files) found is = tt
 order_within (Serve net seats workers save explained json no_files) found is = count_within 1 _ workers (omega arith) is.4
-order_within (Check net explained json) found is = tt
+order_within (Check net warned explained json) found is = tt
+order_within (Survey net points explained json) found is = tt
 order_within (Picture net about svg explained) found is = tt
+order_within (Report net about explained) found is = tt
 order_within (Import dir explained) found is = tt
 order_within (Export net dir explained) found is = tt
 order_within (Explain what json) found is = tt

@@ -12,7 +12,7 @@ use Rattle.clap.specs.Takes.{is_given}
 use Rattle.clap.specs.Faults.{built_fault, check_fault, entered_fault, fault_of, level_fault, other_fault, step_fault, turn_fault, walk_fault, word_fault}
 use Rattle.clap.specs.declared.error.Error.{Error}
 use Rattle.clap.specs.declared.error.kind.ErrorKind.TheVariants.{DisplayHelp, InvalidSubcommand, MissingSubcommand}
-use Rattle.command_line.specs.Words.{required_rule, valued_rule, flag_rule, check_app, desk_app, explain_app, export_app, import_app, picture_app, play_app, run_app, serve_app, is_whole, IsWordFault}
+use Rattle.command_line.specs.Words.{required_rule, valued_rule, flag_rule, check_app, desk_app, explain_app, export_app, import_app, picture_app, play_app, report_app, run_app, serve_app, survey_app, is_whole, IsWordFault}
 use Rattle.command_line.specs.declared.words.WordFault.TheVariants.{Clap}
 use Rattle.command_line.proofs.RowLemmas.{AllFill, Fills, none_of_both, set_fills, set_true_fills, help_fills, level_filled, given_value}
 
@@ -123,8 +123,14 @@ serve_built = built_leaf (inherited desk_app.top serve_app.top)
 abbrev check_built : Shape
 check_built = built_leaf (inherited desk_app.top check_app.top)
 
+abbrev survey_built : Shape
+survey_built = built_leaf (inherited desk_app.top survey_app.top)
+
 abbrev picture_built : Shape
 picture_built = built_leaf (inherited desk_app.top picture_app.top)
+
+abbrev report_built : Shape
+report_built = built_leaf (inherited desk_app.top report_app.top)
 
 abbrev import_built : Shape
 import_built = built_leaf (inherited desk_app.top import_app.top)
@@ -164,10 +170,16 @@ serve_fills : AllFill serve_built.rules
 serve_fills = (required_fills 1 (codes "net"), (required_fills 2 (codes "seats"), (valued_fills (codes "workers"), (valued_fills (codes "save"), (flag_fills (codes "explain"), (flag_fills (codes "json"), (flag_fills (codes "no-files"), (asks_fills, tt))))))))
 
 check_fills : AllFill check_built.rules
-check_fills = (required_fills 1 (codes "net"), (flag_fills (codes "explain"), (flag_fills (codes "json"), (asks_fills, tt))))
+check_fills = (required_fills 1 (codes "net"), (flag_fills (codes "warn"), (flag_fills (codes "explain"), (flag_fills (codes "json"), (asks_fills, tt)))))
+
+survey_fills : AllFill survey_built.rules
+survey_fills = (required_fills 1 (codes "net"), (flag_fills (codes "points"), (flag_fills (codes "explain"), (flag_fills (codes "json"), (asks_fills, tt)))))
 
 picture_fills : AllFill picture_built.rules
 picture_fills = (required_fills 1 (codes "net"), (valued_fills (codes "about"), (flag_fills (codes "svg"), (flag_fills (codes "explain"), (asks_fills, tt)))))
+
+report_fills : AllFill report_built.rules
+report_fills = (required_fills 1 (codes "net"), (valued_fills (codes "about"), (flag_fills (codes "explain"), (asks_fills, tt))))
 
 import_fills : AllFill import_built.rules
 import_fills = (required_fills 1 (codes "dir"), (flag_fills (codes "explain"), (asks_fills, tt)))
@@ -212,6 +224,12 @@ run_whole words e = let net = one_value run_built words run_fills e (codes "net"
 check_whole : (words : List Text) → HasNoFault check_built words → is_whole (rows_at check_built words) ≡ true
 check_whole words e = let net = one_value check_built words check_fills e (codes "net") refl in rw net refl
 
+survey_whole : (words : List Text) → HasNoFault survey_built words → is_whole (rows_at survey_built words) ≡ true
+survey_whole words e = let net = one_value survey_built words survey_fills e (codes "net") refl in rw net refl
+
+report_whole : (words : List Text) → HasNoFault report_built words → is_whole (rows_at report_built words) ≡ true
+report_whole words e = let net = one_value report_built words report_fills e (codes "net") refl in rw net refl
+
 picture_whole : (words : List Text) → HasNoFault picture_built words → is_whole (rows_at picture_built words) ≡ true
 picture_whole words e = let net = one_value picture_built words picture_fills e (codes "net") refl in rw net refl
 
@@ -231,7 +249,7 @@ entered_whole : (p : Text × List Text) (found : Text × List Row) → IsNotHelp
     → entered (built desk_app) (Some p) ≡ Some found → is_whole found ≡ true
 entered_whole p found right e is =
     go (answers_to p.0 (label_of run_built)) (answers_to p.0 (label_of play_built)) (answers_to p.0 (label_of serve_built))
-    (answers_to p.0 (label_of check_built)) (answers_to p.0 (label_of picture_built)) (answers_to p.0 (label_of import_built)) (answers_to p.0 (label_of export_built))
+    (answers_to p.0 (label_of check_built)) (answers_to p.0 (label_of survey_built)) (answers_to p.0 (label_of picture_built)) (answers_to p.0 (label_of report_built)) (answers_to p.0 (label_of import_built)) (answers_to p.0 (label_of export_built))
     (answers_to p.0 (label_of explain_built)) (bytes_eq (codes "help") p.0) not_help e is
   where
     not_help : bytes_eq (codes "help") p.0 ≡ true → ⊥
@@ -242,34 +260,36 @@ entered_whole p found right e is =
     is_found : (s : Shape) → is_whole (rows_at s p.1) ≡ true → Some (rows_at s p.1) ≡ Some found → is_whole found ≡ true
     is_found s whole is = let same : rows_at s p.1 ≡ found = cc in subst (λ x. is_whole x ≡ true) same whole
 
-    last : (picture import export explain help : Bool) → Option Shape
-    last picture import export explain help =
-        cond picture (Some picture_built) (cond import (Some import_built) (cond export (Some export_built)
-        (cond explain (Some explain_built) (cond (help || false) (Some help_built) None))))
+    last : (survey picture report import export explain help : Bool) → Option Shape
+    last survey picture report import export explain help =
+        cond survey (Some survey_built) (cond picture (Some picture_built) (cond report (Some report_built) (cond import (Some import_built) (cond export (Some export_built)
+        (cond explain (Some explain_built) (cond (help || false) (Some help_built) None))))))
 
-    first : (run play serve check picture import export explain help : Bool) → Option Shape
-    first run play serve check picture import export explain help =
+    first : (run play serve check survey picture report import export explain help : Bool) → Option Shape
+    first run play serve check survey picture report import export explain help =
         cond run (Some run_built) (cond play (Some play_built) (cond serve (Some serve_built)
-        (cond check (Some check_built) (last picture import export explain help))))
+        (cond check (Some check_built) (last survey picture report import export explain help))))
 
     IsFit : Option Shape → Type 0
     IsFit shape = option_map_or (λ s. level_fault s [] nothing_held p.1 false []) shape [] ≡ [] → option_map (λ s. rows_at s p.1) shape ≡ Some found
         → is_whole found ≡ true
 
-    go_on : (picture import export explain help : Bool) → (help ≡ true → ⊥) → IsFit (last picture import export explain help)
-    go_on true import export explain help not e is = is_found picture_built (picture_whole p.1 e) is
-    go_on false true export explain help not e is = is_found import_built (import_whole p.1 e) is
-    go_on false false true explain help not e is = is_found export_built (export_whole p.1 e) is
-    go_on false false false true help not e is = is_found explain_built refl is
-    go_on false false false false true not e is = absurd (not refl)
-    go_on false false false false false not e is = cc
+    go_on : (survey picture report import export explain help : Bool) → (help ≡ true → ⊥) → IsFit (last survey picture report import export explain help)
+    go_on true picture report import export explain help not e is = is_found survey_built (survey_whole p.1 e) is
+    go_on false true report import export explain help not e is = is_found picture_built (picture_whole p.1 e) is
+    go_on false false true import export explain help not e is = is_found report_built (report_whole p.1 e) is
+    go_on false false false true export explain help not e is = is_found import_built (import_whole p.1 e) is
+    go_on false false false false true explain help not e is = is_found export_built (export_whole p.1 e) is
+    go_on false false false false false true help not e is = is_found explain_built refl is
+    go_on false false false false false false true not e is = absurd (not refl)
+    go_on false false false false false false false not e is = cc
 
-    go : (run play serve check picture import export explain help : Bool) → (help ≡ true → ⊥) → IsFit (first run play serve check picture import export explain help)
-    go true play serve check picture import export explain help not e is = is_found run_built (run_whole p.1 e) is
-    go false true serve check picture import export explain help not e is = is_found play_built (play_whole p.1 e) is
-    go false false true check picture import export explain help not e is = is_found serve_built (serve_whole p.1 e) is
-    go false false false true picture import export explain help not e is = is_found check_built (check_whole p.1 e) is
-    go false false false false picture import export explain help not e is = go_on picture import export explain help not e is
+    go : (run play serve check survey picture report import export explain help : Bool) → (help ≡ true → ⊥) → IsFit (first run play serve check survey picture report import export explain help)
+    go true play serve check survey picture report import export explain help not e is = is_found run_built (run_whole p.1 e) is
+    go false true serve check survey picture report import export explain help not e is = is_found play_built (play_whole p.1 e) is
+    go false false true check survey picture report import export explain help not e is = is_found serve_built (serve_whole p.1 e) is
+    go false false false true survey picture report import export explain help not e is = is_found check_built (check_whole p.1 e) is
+    go false false false false survey picture report import export explain help not e is = go_on survey picture report import export explain help not e is
 
 whole_found : (words : List Text) (found : Text × List Row) → fault_of desk_app words ≡ [] → subcommand_of desk_app words ≡ Some found → is_whole found ≡ true
 whole_found words found e is =

@@ -10,7 +10,7 @@ use Rattle.command_line.specs.declared.commands.Argument.{Argument}
 use Rattle.command_line.specs.declared.commands.Argument.TheVariants.{Required, Optional, Valued, Flag}
 use Rattle.command_line.specs.declared.commands.Subcommand.{Subcommand}
 use Rattle.command_line.specs.declared.words.Order.{Order}
-use Rattle.command_line.specs.declared.words.Order.TheVariants.{Run, Play, Serve, Check, Picture, Import, Export, Explain}
+use Rattle.command_line.specs.declared.words.Order.TheVariants.{Run, Play, Serve, Check, Survey, Picture, Report, Import, Export, Explain}
 use Rattle.command_line.specs.declared.words.WordFault.{WordFault}
 use Rattle.command_line.specs.declared.words.WordFault.TheVariants.{Clap, Workers}
 
@@ -66,13 +66,21 @@ serve_app =
     (required_rule (codes "net") ∷ required_rule (codes "seats") ∷ valued_rule (codes "workers") ∷ valued_rule (codes "save") ∷ flag_rule (codes "explain") ∷ flag_rule (codes "json")
     ∷ flag_rule (codes "no-files") ∷ [])
 
--- `check NET --explain --json`
+-- `check NET --warn --explain --json`
 abbrev pub check_app : App
-check_app = app_with (codes "check") (required_rule (codes "net") ∷ flag_rule (codes "explain") ∷ flag_rule (codes "json") ∷ [])
+check_app = app_with (codes "check") (required_rule (codes "net") ∷ flag_rule (codes "warn") ∷ flag_rule (codes "explain") ∷ flag_rule (codes "json") ∷ [])
+
+-- `survey NET --points --explain --json`
+abbrev pub survey_app : App
+survey_app = app_with (codes "survey") (required_rule (codes "net") ∷ flag_rule (codes "points") ∷ flag_rule (codes "explain") ∷ flag_rule (codes "json") ∷ [])
 
 -- `picture NET --about X --svg --explain`
 abbrev pub picture_app : App
 picture_app = app_with (codes "picture") (required_rule (codes "net") ∷ valued_rule (codes "about") ∷ flag_rule (codes "svg") ∷ flag_rule (codes "explain") ∷ [])
+
+-- `report NET --about X --explain`
+abbrev pub report_app : App
+report_app = app_with (codes "report") (required_rule (codes "net") ∷ valued_rule (codes "about") ∷ flag_rule (codes "explain") ∷ [])
 
 -- `import DIR --explain`
 abbrev pub import_app : App
@@ -92,7 +100,7 @@ bare_app = on_top (λ s. record s { has_version = true }) (new_app (codes "route
 
 -- the commands of the table
 abbrev pub apps : List App
-apps = run_app ∷ play_app ∷ serve_app ∷ check_app ∷ picture_app ∷ import_app ∷ export_app ∷ explain_app ∷ []
+apps = run_app ∷ play_app ∷ serve_app ∷ check_app ∷ survey_app ∷ picture_app ∷ report_app ∷ import_app ∷ export_app ∷ explain_app ∷ []
 
 -- a command with one more subcommand
 abbrev pub with_app : App → App → App
@@ -128,13 +136,19 @@ IsOrder (Serve net seats workers save explained json no_files) found =
     × (first_of (codes "seats") rows ≡ Some seats.now) × IsWorkers 1 (first_of (codes "workers") rows) workers
     × (first_of (codes "save") rows ≡ option_map (λ s. s.now) save) × (IsTrue explained ↔ HasFlag (codes "explain") rows)
     × (IsTrue json ↔ HasFlag (codes "json") rows) × (IsTrue no_files ↔ HasFlag (codes "no-files") rows)
-IsOrder (Check net explained json) found =
+IsOrder (Check net warned explained json) found =
     (rows : List Row) × (found ≡ Some (codes "check", rows)) × (first_of (codes "net") rows ≡ Some net.now)
-    × (IsTrue explained ↔ HasFlag (codes "explain") rows) × (IsTrue json ↔ HasFlag (codes "json") rows)
+    × (IsTrue warned ↔ HasFlag (codes "warn") rows) × (IsTrue explained ↔ HasFlag (codes "explain") rows) × (IsTrue json ↔ HasFlag (codes "json") rows)
+IsOrder (Survey net points explained json) found =
+    (rows : List Row) × (found ≡ Some (codes "survey", rows)) × (first_of (codes "net") rows ≡ Some net.now)
+    × (IsTrue points ↔ HasFlag (codes "points") rows) × (IsTrue explained ↔ HasFlag (codes "explain") rows) × (IsTrue json ↔ HasFlag (codes "json") rows)
 IsOrder (Picture net about svg explained) found =
     (rows : List Row) × (found ≡ Some (codes "picture", rows)) × (first_of (codes "net") rows ≡ Some net.now)
     × (first_of (codes "about") rows ≡ option_map (λ s. s.now) about)
     × (IsTrue svg ↔ HasFlag (codes "svg") rows) × (IsTrue explained ↔ HasFlag (codes "explain") rows)
+IsOrder (Report net about explained) found =
+    (rows : List Row) × (found ≡ Some (codes "report", rows)) × (first_of (codes "net") rows ≡ Some net.now)
+    × (first_of (codes "about") rows ≡ option_map (λ s. s.now) about) × (IsTrue explained ↔ HasFlag (codes "explain") rows)
 IsOrder (Import dir explained) found =
     (rows : List Row) × (found ≡ Some (codes "import", rows)) × (first_of (codes "dir") rows ≡ Some dir.now)
     × (IsTrue explained ↔ HasFlag (codes "explain") rows)
@@ -150,8 +164,10 @@ abbrev pub IsWithin : Order → Type 0
 IsWithin (Run net workers save explained json strict no_files) = workers ≤ 32
 IsWithin (Play net steps save explained json strict no_files) = Unit {0}
 IsWithin (Serve net seats workers save explained json no_files) = workers ≤ 32
-IsWithin (Check net explained json) = Unit {0}
+IsWithin (Check net warned explained json) = Unit {0}
+IsWithin (Survey net points explained json) = Unit {0}
 IsWithin (Picture net about svg explained) = Unit {0}
+IsWithin (Report net about explained) = Unit {0}
 IsWithin (Import dir explained) = Unit {0}
 IsWithin (Export net dir explained) = Unit {0}
 IsWithin (Explain what json) = Unit {0}
@@ -163,7 +179,7 @@ has_value id rows = is_some (first_of id rows)
 -- whether the subcommand is one of the desk's, with each file or folder that it needs
 abbrev pub is_whole : Text × List Row → Bool
 is_whole (name, rows) =
-    ((bytes_eq name (codes "run") || (bytes_eq name (codes "check") || bytes_eq name (codes "picture"))) && has_value (codes "net") rows)
+    ((bytes_eq name (codes "run") || (bytes_eq name (codes "check") || (bytes_eq name (codes "survey") || (bytes_eq name (codes "picture") || bytes_eq name (codes "report"))))) && has_value (codes "net") rows)
     || (bytes_eq name (codes "play") && (has_value (codes "net") rows && has_value (codes "steps") rows))
     || (bytes_eq name (codes "serve") && (has_value (codes "net") rows && has_value (codes "seats") rows))
     || (bytes_eq name (codes "import") && has_value (codes "dir") rows)

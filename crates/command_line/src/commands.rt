@@ -132,7 +132,28 @@ const SUBCOMMANDS: &[Subcommand] = &[
     Subcommand {
         name: "check",
         about: "Work out the tables of all destinations, and check each by the local rule",
-        arguments: &[NET, EXPLAIN, JSON],
+        arguments: &[
+            NET,
+            Argument::Flag(
+                "warn",
+                "Warn of rows and plans that are missing, of points and sets that no plan uses, and of single failures",
+            ),
+            EXPLAIN,
+            JSON,
+        ],
+    },
+    Subcommand {
+        name: "survey",
+        about: "Tell how many pairs of a point and a destination the failure of each link set alone would take",
+        arguments: &[
+            NET,
+            Argument::Flag(
+                "points",
+                "Fail each transfer point in the place of each link set",
+            ),
+            EXPLAIN,
+            JSON,
+        ],
     },
     Subcommand {
         name: "picture",
@@ -145,6 +166,19 @@ const SUBCOMMANDS: &[Subcommand] = &[
                 "Show how each point leads its traffic to this destination",
             ),
             Argument::Flag("svg", "Draw an SVG text, which needs no Graphviz"),
+            EXPLAIN,
+        ],
+    },
+    Subcommand {
+        name: "report",
+        about: "Write a report of the network as one page of HTML, for a planner to hand on",
+        arguments: &[
+            NET,
+            Argument::Valued(
+                "about",
+                "X",
+                "Show in its first picture how each point leads its traffic to this destination",
+            ),
             EXPLAIN,
         ],
     },

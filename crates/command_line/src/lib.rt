@@ -6,18 +6,21 @@
 //! 2. `route_desk play NET STEPS` answers the script of the file STEPS; `--save FILE` as above.
 //! 3. `route_desk serve NET SEATS` answers many sessions at one desk over the network NET, as the file SEATS says them;
 //!    `--save FILE` and `--workers N` as above, but that N is 1 if it isn't given.
-//! 4. `route_desk check NET` works out and checks the tables of all destinations of the network NET.
-//! 5. `route_desk picture NET` draws the network NET: as an SVG text with the flag `--svg`, else as a Graphviz DOT text.
+//! 4. `route_desk check NET` works out and checks the tables of all destinations of the network NET; with the flag `--warn` it tells
+//!    what a planner should look at, too.
+//! 5. `route_desk survey NET` surveys the failures of single link sets of the network NET, with the flag `--points` those of transfer
+//!    points.
+//! 6. `route_desk picture NET` draws the network NET: as an SVG text with the flag `--svg`, else as a Graphviz DOT text.
 //!    `--about X` says for which destination X the way of the traffic is drawn; X is any word here.
-//! 6. `route_desk import DIR` makes a network text from the three tables of the folder DIR.
-//! 7. `route_desk export NET DIR` writes the network NET as three tables in the folder DIR.
-//! 8. `route_desk explain WHAT` tells what the number or name WHAT means; WHAT may be left out, and is any word here.
-//! 9. With the flag `--explain` the commands run, play, serve, check, picture, import and export say on standard error what is
-//!    wrong.
-//! 10. With the flag `--json` the commands run, play, serve, check and explain write JSON objects.
-//! 11. With the flag `--strict` the commands run and play save nothing, and end with status 1, if a line was refused.
-//! 12. With the flag `--no-files` the commands run, play and serve refuse what would write a file for a script.
-//! 13. NET is a file, or in `run` alone `-` for standard input. An N that is no such number is refused by a fault of its own,
+//!    `route_desk report NET` writes a report of the network NET with such a picture; it has `--about X` too.
+//! 7. `route_desk import DIR` makes a network text from the three tables of the folder DIR.
+//! 8. `route_desk export NET DIR` writes the network NET as three tables in the folder DIR.
+//! 9. `route_desk explain WHAT` tells what the number or name WHAT means; WHAT may be left out, and is any word here.
+//! 10. With the flag `--explain` all commands but explain say on standard error what is wrong.
+//! 11. With the flag `--json` the commands run, play, serve, check, survey and explain write JSON objects.
+//! 12. With the flag `--strict` the commands run and play save nothing, and end with status 1, if a line was refused.
+//! 13. With the flag `--no-files` the commands run, play and serve refuse what would write a file for a script.
+//! 14. NET is a file, or in `run` alone `-` for standard input. An N that is no such number is refused by a fault of its own,
 //!     whose `explained` is true exactly if the flag `--explain` is given. Any other words are told by `clap`, as are `--help`
 //!     and `--version`.
 //!

@@ -151,10 +151,29 @@ fn check_order<'a>(matches: &ArgMatches<'a>) -> Option<Order<'a>>
     ensures none { result ≡ None → is_whole (codes "check", rows_of (found_of matches.now)) ≡ false }
 {
     let net = value_at(matches, "net")?;
+    let warned = flag_at(matches, "warn");
     let explained = flag_at(matches, "explain");
     let json = flag_at(matches, "json");
     Some(Order::Check {
         net,
+        warned,
+        explained,
+        json,
+    })
+}
+
+/// What the matches of `survey` order.
+fn survey_order<'a>(matches: &ArgMatches<'a>) -> Option<Order<'a>>
+    ensures some { IfSome result (λ order. IsOrder order (Some (codes "survey", rows_of (found_of matches.now)))) }
+    ensures none { result ≡ None → is_whole (codes "survey", rows_of (found_of matches.now)) ≡ false }
+{
+    let net = value_at(matches, "net")?;
+    let points = flag_at(matches, "points");
+    let explained = flag_at(matches, "explain");
+    let json = flag_at(matches, "json");
+    Some(Order::Survey {
+        net,
+        points,
         explained,
         json,
     })
@@ -174,6 +193,19 @@ fn picture_order<'a>(matches: &ArgMatches<'a>) -> Option<Order<'a>>
         about,
         svg,
         explained,
+    })
+}
+
+/// What the matches of `report` order.
+fn report_order<'a>(matches: &ArgMatches<'a>) -> Option<Order<'a>>
+    ensures some { IfSome result (λ order. IsOrder order (Some (codes "report", rows_of (found_of matches.now)))) }
+    ensures none { result ≡ None → is_whole (codes "report", rows_of (found_of matches.now)) ≡ false }
+{
+    let net = value_at(matches, "net")?;
+    Some(Order::Report {
+        net,
+        about: value_at(matches, "about"),
+        explained: flag_at(matches, "explain"),
     })
 }
 
@@ -225,7 +257,9 @@ pub(crate) fn order_of<'a>(matches: &ArgMatches<'a>) -> Result<Order<'a>, NoOrde
         "play" => play_order(inner).ok_or(NoOrder::NotWhole),
         "serve" => serve_order(inner),
         "check" => check_order(inner).ok_or(NoOrder::NotWhole),
+        "survey" => survey_order(inner).ok_or(NoOrder::NotWhole),
         "picture" => picture_order(inner).ok_or(NoOrder::NotWhole),
+        "report" => report_order(inner).ok_or(NoOrder::NotWhole),
         "import" => import_order(inner).ok_or(NoOrder::NotWhole),
         "export" => export_order(inner).ok_or(NoOrder::NotWhole),
         "explain" => Ok(explain_order(inner)),

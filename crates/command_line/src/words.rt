@@ -51,10 +51,19 @@ pub enum Order<'a> {
         json: bool,
         no_files: bool,
     },
-    /// To check the settled tables of the network of a file, to explain a fault, if that is wanted, and to tell what was found
-    /// as a JSON object, if that is wanted.
+    /// To check the settled tables of the network of a file, to warn of what a planner should look at, if that is wanted, to explain a
+    /// fault, if that is wanted, and to tell what was found as JSON objects, if that is wanted.
     Check {
         net: &'a str,
+        warned: bool,
+        explained: bool,
+        json: bool,
+    },
+    /// To survey the single failures of the network of a file, of its link sets or else of its transfer points, if that is wanted, to
+    /// explain a fault, if that is wanted, and to tell what was found as a JSON object, if that is wanted.
+    Survey {
+        net: &'a str,
+        points: bool,
         explained: bool,
         json: bool,
     },
@@ -64,6 +73,13 @@ pub enum Order<'a> {
         net: &'a str,
         about: Option<&'a str>,
         svg: bool,
+        explained: bool,
+    },
+    /// To write a report of the network of a file, with a picture of the traffic to this destination if one is named, and to explain a
+    /// fault, if that is wanted.
+    Report {
+        net: &'a str,
+        about: Option<&'a str>,
         explained: bool,
     },
     /// To make a network text from the three tables of a folder, and to explain a fault, if that is wanted.

@@ -10,8 +10,10 @@
 //! 4. The check of a network works out the settled tables of all planned destinations, checks each by the local rule,
 //!    and answers `ok P` for P plans or `bad X Y c`: the destination of the first wrong table, and point and letter of
 //!    the first complaint about it.
+//! 5. A network's single failures are surveyed by as many threads as there are processors, and a planner is warned by these surveys;
+//!    what comes of it is as from one thread.
 //!
-//! Stands on `all_tables`, `desk_console`, `sessions`. A change here also changes specs/ (Checking, Headline, InLine),
+//! Stands on `all_tables`, `what_if`, `desk_console`, `sessions`, `rayon`. A change here also changes specs/ (Checking, Headline, InLine),
 //! proofs/ and must-fail/.
 #![tactic(auto)]
 
@@ -19,8 +21,10 @@ pub mod checking;
 mod in_line;
 pub mod input;
 pub mod script;
+pub mod surveying;
 
 pub use checking::{CheckEnd, check_given, check_net};
 pub use input::run_input;
 pub use script::run_script;
 pub use sessions::{Fault, ScriptEnd, input_parts_law, read_net, write_fault};
+pub use surveying::{Unwatched, Watch, survey_by, warn_by};

@@ -66,12 +66,13 @@ taken_is event line (Ok (Again number)) posts = refl
 taken_is event line (Err refusal) posts = refl
 
 -- a question that is answered is done
-pub asked_does : (done : Command) (c : ConsoleValue) (a : Answer) → is_asked done ≡ true → a ≡ asked_answer done c.desk.published.network → Does done c a c
+pub asked_does : (done : Command) (c : ConsoleValue) (a : Answer) → is_asked done ≡ true → a ≡ asked_answer done c.desk.published → Does done c a c
 asked_does (command.About asked y x) c a is said = (said, refl)
 asked_does (command.Trace y x s) c a is said = (said, refl)
 asked_does (command.WhatIf events) c a is said = (said, refl)
 asked_does (command.Reroutes events) c a is said = (said, refl)
 asked_does (command.Survey what events) c a is said = (said, refl)
+asked_does command.Warn c a is said = (said, refl)
 asked_does command.Audit c a is said = (said, refl)
 asked_does (command.Picture file about) c a is said = (said, refl)
 asked_does (command.Show what) c a is said = (said, refl)
@@ -151,6 +152,7 @@ module _ (line : List ℕ) (c : ConsoleValue) (a : Answer) (new : ConsoleValue) 
   command_runs (command.WhatIf events) here is = told (rw here refl) is.1
   command_runs (command.Reroutes events) here is = told (rw here refl) is.1
   command_runs (command.Survey what events) here is = told (rw here refl) is.1
+  command_runs command.Warn here is = told (rw here refl) is.1
   command_runs command.Audit here is = told (rw here refl) is.1
   command_runs (command.Picture file about) here is = told (rw here refl) is.1
   command_runs (command.Show what) here is = told (rw here refl) is.1

@@ -172,7 +172,7 @@ Watches is_on c a new = (a ≡ answer.Reply (reply.Watch is_on)) × (new ≡ rec
 
 -- what is asked is answered from the published version
 abbrev pub Asks : Command → ConsoleValue → Answer → ConsoleValue → Type 0
-Asks asked c = Tells (asked_answer asked c.desk.published.network) c
+Asks asked c = Tells (asked_answer asked c.desk.published) c
 
 -- ---- all commands
 
@@ -211,6 +211,7 @@ Does (command.WhatIf events) c = Asks (command.WhatIf events) c
 Does (command.Reroutes events) c = Asks (command.Reroutes events) c
 -- `survey sets`, `survey points` and `survey down`, and events after them
 Does (command.Survey what events) c = Asks (command.Survey what events) c
+Does command.Warn c = Asks command.Warn c
 Does command.Audit c = Asks command.Audit c
 Does (command.Picture file about) c = Asks (command.Picture file about) c
 Does (command.Show what) c = Asks (command.Show what) c

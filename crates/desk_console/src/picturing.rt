@@ -6,7 +6,6 @@ ghost use Rattle.desk_console.specs.Does.{save_told};
 ghost use Rattle.desk_console.specs.Pictures.{is_svg as ends_in_svg, picture_for, picture_told};
 
 use answers::{Answer, NetAnswer, NetBox, Reason, Text};
-use excerpts::Frozen;
 use net_data::Net;
 use net_versions::Version;
 use pictures::{PictureFault, write_dot, write_svg};
@@ -24,21 +23,21 @@ fn is_svg(file: &str) -> bool
     }
 }
 
-/// The picture for a file: an SVG document if its name ends in `.svg`, in either case, else a DOT text.
+/// The picture of a version for a file: an SVG document if its name ends in `.svg`, in either case, else a DOT text.
 fn draw(
     alloc: Global,
     file: &str,
-    net: &Frozen,
+    version: &Version,
     about: Option<PointCode>,
 ) -> Result<String, PictureFault>
-    ensures text { IfOk result (λ text. string_bytes text ≡ picture_for file.now net.now about) }
-    ensures planned { IfOk result (λ _. lacks_plan net.now about ≡ false) }
-    ensures fault { IfErr result (λ fault. fault ≡ picture_fault net.now about) }
+    ensures text { IfOk result (λ text. string_bytes text ≡ picture_for file.now version.now.network about version.now.number) }
+    ensures planned { IfOk result (λ _. lacks_plan version.now.network about ≡ false) }
+    ensures fault { IfErr result (λ fault. fault ≡ picture_fault version.now.network about) }
 {
     if is_svg(file) {
-        return write_svg(alloc, net, about);
+        return write_svg(alloc, version.net(), about, Some(version.number()));
     }
-    write_dot(alloc, net, about)
+    write_dot(alloc, version.net(), about, Some(version.number()))
 }
 
 /// The picture for a file, as an answer.
@@ -49,7 +48,7 @@ fn told(alloc: Global, file: &str, picture: String) -> Result<Answer, AllocError
     Ok(Answer::Net(NetAnswer::Picture(file, Text::from_string(picture))))
 }
 
-/// The answer to `picture FILE` and `picture FILE X`: a picture of a version's network, about a destination if one is named, for that
+/// The answer to `picture FILE` and `picture FILE X`: a picture of a version, about a destination if one is named, for that
 /// file. It is refused 26 NoPlan if the destination has no plan, and fails if memory is refused.
 pub fn answer_picture(
     alloc: Global,
@@ -57,9 +56,9 @@ pub fn answer_picture(
     file: &str,
     about: Option<PointCode>,
 ) -> Result<Answer, AllocError>
-    ensures { IfOk result (λ answer. answer ≡ picture_told file.now version.now.network about) }
+    ensures { IfOk result (λ answer. answer ≡ picture_told file.now version.now.network about version.now.number) }
 {
-    match draw(alloc, file, version.net(), about) {
+    match draw(alloc, file, version, about) {
         Ok(picture) => told(alloc, file, picture),
         Err(PictureFault::NoPlan) => Ok(Answer::Refused(Reason::NoPlan)),
         Err(PictureFault::OutOfMemory) => Err(AllocError),

@@ -4,7 +4,7 @@ use Rattle.std.specs.Option.{option_map_or}
 use Rattle.std.specs.List.{after_first, before_first, list_any}
 use Rattle.std.specs.Str.{bytes_eq}
 
--- all titles, in the order of the tables of docs/SCRIPT.md
+-- all titles but those of warnings, in the order of the tables of docs/SCRIPT.md
 abbrev pub titles : List (List ℕ)
 titles =
     codes "41 Old" ∷ codes "42 Clash" ∷ codes "40 Gap" ∷ codes "51 EndOfNumbers" ∷ codes "43 BacklogFull" ∷
@@ -19,7 +19,15 @@ titles =
     codes "1 OutOfMemory" ∷ codes "60 NotToml" ∷ codes "61 BadKey" ∷ codes "63 Read" ∷ codes "64 Write" ∷
     codes "50 NoPlace" ∷ codes "2 BadCode" ∷ codes "limits" ∷ []
 
--- whether a title is one of them
+-- the titles of warnings, in the order of their table
+abbrev pub warning_titles : List (List ℕ)
+warning_titles = codes "MissingRow" ∷ codes "MissingPlan" ∷ codes "Unreached" ∷ codes "Unnamed" ∷ codes "Unused" ∷ codes "SingleFailure" ∷ []
+
+-- whether a title is one of these
+abbrev pub is_warned : List ℕ → Bool
+is_warned title = list_any (bytes_eq title) warning_titles
+
+-- whether a title is one of the others
 abbrev pub is_listed : List ℕ → Bool
 is_listed title = list_any (bytes_eq title) titles
 
@@ -51,6 +59,10 @@ is_called_by word title =
 -- the first title whose explanation a word calls
 abbrev pub title_found : List ℕ → Option (List ℕ)
 title_found word = find (is_called_by word) titles
+
+-- the first title of a warning whose explanation a word calls
+abbrev pub warning_found : List ℕ → Option (List ℕ)
+warning_found word = find (is_called_by word) warning_titles
 
 -- whether a word finds that title
 abbrev pub is_found_by : List ℕ → List ℕ → Bool

@@ -5,7 +5,7 @@ ghost use Rattle.explanations.specs.Written.{gap_before as the_gap, end_after as
 
 use std::alloc::{AllocError, Global};
 
-/// What a refusal, a fault, a cause or a complaint means, and what to do.
+/// What a refusal, a fault, a cause, a complaint or a warning means, and what to do.
 #[derive(Clone, Copy)]
 pub struct Explanation {
     /// What is printed of it: its number and its name, or its letter and its name, or a name alone.

@@ -1,7 +1,7 @@
 //! All explanations, and the one that a word calls.
 
 ghost use Rattle.std.specs.Prelude.{◌≡◌, option_map, map, find as first_that};
-ghost use Rattle.explanations.specs.Titles.{titles, title_found, is_called_by};
+ghost use Rattle.explanations.specs.Titles.{titles, title_found, is_called_by, warning_found, warning_titles};
 
 use crate::causes::{
     BAD_MATE, IS_DEST, NO_ROUTE, NOT_JOINED, NOT_LOWER, TWICE, VIA_MATE, VIA_TWICE,
@@ -19,8 +19,9 @@ use crate::edits::{
 use crate::explanation::Explanation;
 use crate::faults::{BAD_KEY, NO_PLACE, NOT_TOML, OUT_OF_MEMORY, READ, WRITE};
 use crate::lines::{BAD_CODE, BAD_LINE, LIMITS, NO_ROW, NOT_KEPT};
+use crate::warned::{MISSING_PLAN, MISSING_ROW, SINGLE_FAILURE, UNNAMED, UNREACHED, UNUSED};
 
-/// All explanations, in the order of the tables of docs/SCRIPT.md.
+/// All explanations but those of warnings, in the order of the tables of docs/SCRIPT.md.
 const EXPLANATIONS: &[Explanation] = &[
     OLD,
     CLASH,
@@ -79,11 +80,29 @@ const EXPLANATIONS: &[Explanation] = &[
     LIMITS,
 ];
 
-/// All explanations, each number once: of refusals of the desk, of an event and of a line, causes, complaints, faults, and others.
+/// All explanations but those of warnings, each number once: of refusals of the desk, of an event and of a line, causes, complaints, faults,
+/// and others.
 pub fn explanations() -> &'static [Explanation]
     ensures { map (λ e. e.title.now) result.now ≡ titles }
 {
     EXPLANATIONS
+}
+
+/// The explanations of warnings, in the order of their table in docs/SCRIPT.md.
+const WARNINGS: &[Explanation] = &[
+    MISSING_ROW,
+    MISSING_PLAN,
+    UNREACHED,
+    UNNAMED,
+    UNUSED,
+    SINGLE_FAILURE,
+];
+
+/// The explanations of warnings.
+pub fn warnings() -> &'static [Explanation]
+    ensures { map (λ e. e.title.now) result.now ≡ warning_titles }
+{
+    WARNINGS
 }
 
 /// Whether a word calls the explanation of that title: it is the title, or the number, the letter or the name in it.
@@ -119,4 +138,11 @@ pub fn find(word: &str) -> Option<&'static Explanation>
     ensures { option_map (λ e. e.now.title.now) result ≡ title_found word.now }
 {
     find_among(explanations(), word)
+}
+
+/// The explanation of a warning that a word calls: by its name.
+pub fn find_warning(word: &str) -> Option<&'static Explanation>
+    ensures { option_map (λ e. e.now.title.now) result ≡ warning_found word.now }
+{
+    find_among(warnings(), word)
 }

@@ -17,6 +17,8 @@ use Rattle.what_if.specs.declared.reroutes.RerouteCounts.{RerouteCounts}
 use Rattle.what_if.specs.declared.survey.Effect.{Effect}
 use Rattle.what_if.specs.declared.survey.Single.{Single}
 use Rattle.what_if.specs.declared.survey.Single.TheVariants as single
+use Rattle.what_if.specs.declared.warnings.Warning.{Warning}
+use Rattle.what_if.specs.declared.warnings.Warning.TheVariants as warning
 use Rattle.what_if.specs.Reroutes.{reroute_counts}
 use Rattle.what_if.specs.declared.mending.SetLink.{SetLink}
 use Rattle.answers.specs.declared.answer.Answer.{Answer}
@@ -47,7 +49,7 @@ use Rattle.net_items.specs.declared.items.LinkSet.{LinkSet}
 use Rattle.net_items.specs.declared.items.Point.{Point}
 use Rattle.json_answers.specs.Shown.{code_if, id_value, point_members, point_status_members, set_members, shown_members}
 use Rattle.json_answers.specs.Refusals.{desk_members, edit_values, number_if, value_members}
-use Rattle.json_answers.specs.Objects.{action_members, answer_members, answer_object, change_members, choice_members, choice_value, effect_members, hop_members, link_items, link_members, links_value, mend_member, message_members, net_values, octet_value, octets_value, offer_members, publication_members, remedy_member, reply_members, reroute_members, row_values, seat_members, single_member, status_value, told_members, trace_members, unused_members, used_members, via_items, way_members}
+use Rattle.json_answers.specs.Objects.{action_members, answer_members, answer_object, change_members, choice_members, choice_value, effect_members, hop_members, link_items, link_members, links_value, mend_member, message_members, net_values, octet_value, octets_value, offer_members, publication_members, remedy_member, reply_members, reroute_members, row_values, seat_members, single_member, status_value, told_members, trace_members, unused_members, used_members, via_items, warned_values, warning_members, way_members}
 use Rattle.json_answers.specs.Marked.{marked_value, mend_members}
 
 -- no value of these members is deeper than this
@@ -135,6 +137,18 @@ single_shallow (single.SetRestored id) = flat 2
 
 effect_shallow : (effect : Effect) → AreShallow 2 (effect_members effect)
 effect_shallow effect = (single_shallow effect.single, (flat 2, tt))
+
+warned_shallow : (w : Warning) → AreShallow 2 (warned_values w)
+warned_shallow (warning.MissingRow y x) = (flat 2, (flat 2, tt))
+warned_shallow (warning.MissingPlan m x) = (flat 2, (flat 2, tt))
+warned_shallow (warning.Unreached p) = (flat 2, tt)
+warned_shallow (warning.Unnamed p) = (flat 2, tt)
+warned_shallow (warning.Unused id) = (flat 2, tt)
+warned_shallow (warning.SetFails id pairs) = (flat 2, (flat 2, tt))
+warned_shallow (warning.PointFails code pairs) = (flat 2, (flat 2, tt))
+
+warning_shallow : (w : Warning) → AreShallow 2 (warning_members w)
+warning_shallow w = (flat 2, warned_shallow w)
 
 changes_shallow : (changes : List Change) → depth (list_member (codes "changes") change_members changes).1 ≤ 4
 changes_shallow changes = listed change_members change_shallow changes
@@ -225,6 +239,7 @@ net_shallow (net.Picture file picture) = (flat 4, tt)
 net_shallow (net.Drawn file) = (flat 4, tt)
 net_shallow (net.Reroutes list) = moves_shallow (reroute_counts list) list
 net_shallow (net.Survey survey) = (flat 4, (flat 4, (listed effect_members effect_shallow survey.effects, tt)))
+net_shallow (net.Warned warnings) = (flat 4, (listed warning_members warning_shallow warnings, tt))
 net_shallow (net.Saving file network) = (flat 4, tt)
 net_shallow (net.Saved file) = (flat 4, tt)
 

@@ -1,5 +1,5 @@
 -- An answer as an object of JSON (own), by its values. docs/JSON.md has an example of each.
-use Rattle.std.specs.Prelude.{ℕ, ◌==◌, ◌/◌, ◌%◌, true, if◌then◌else◌, List, [], ◌∷◌, ◌++◌, Option, Some, None, map, codes}
+use Rattle.std.specs.Prelude.{ℕ, ◌==◌, ◌/◌, ◌%◌, true, if◌then◌else◌, List, [], ◌∷◌, ◌++◌, Option, Some, None, length, map, codes}
 use Rattle.std.specs.List.{after_first, flat_map}
 use Rattle.std.specs.Fmt.{digit_glyph}
 use Rattle.json.specs.Json.{Json, null, boolean, string, array}
@@ -24,11 +24,14 @@ use Rattle.what_if.specs.declared.survey.Effect.{Effect}
 use Rattle.what_if.specs.declared.survey.Single.{Single}
 use Rattle.what_if.specs.declared.survey.Single.TheVariants as single
 use Rattle.what_if.specs.declared.survey.Survey.{Survey}
+use Rattle.what_if.specs.declared.warnings.Warning.{Warning}
+use Rattle.what_if.specs.declared.warnings.Warning.TheVariants as warning
 use Rattle.answers.specs.Audits.{clause_letter}
 use Rattle.answers.specs.Messages.{message_kind_text}
 use Rattle.answers.specs.Remedies.{command_text}
 use Rattle.answers.specs.Status.{far_text}
 use Rattle.answers.specs.Surveys.{surveyed_text}
+use Rattle.answers.specs.Warnings.{warning_name}
 use Rattle.answers.specs.declared.answer.Answer.{Answer}
 use Rattle.answers.specs.declared.answer.Answer.TheVariants as answer
 use Rattle.answers.specs.declared.answer.Moved.{Moved}
@@ -268,6 +271,28 @@ abbrev pub survey_members : Survey → List Member
 survey_members survey =
     text_member (codes "surveyed") (surveyed_text survey.surveyed) ∷ number_member (codes "tried") survey.tried ∷ list_member (codes "effects") effect_members survey.effects ∷ []
 
+-- a point and a destination
+abbrev pub towards_members : ℕ → ℕ → List Member
+towards_members y x = code_member (codes "point") y ∷ code_member (codes "destination") x ∷ []
+
+-- what a warning is about
+abbrev pub warned_values : Warning → List Member
+warned_values (warning.MissingRow y x) = towards_members y x
+warned_values (warning.MissingPlan m x) = towards_members m x
+warned_values (warning.Unreached p) = code_member (codes "point") p ∷ []
+warned_values (warning.Unnamed p) = code_member (codes "point") p ∷ []
+warned_values (warning.Unused id) = number_member (codes "set") id ∷ []
+warned_values (warning.SetFails id pairs) = number_member (codes "set") id ∷ number_member (codes "pairs") pairs ∷ []
+warned_values (warning.PointFails code pairs) = code_member (codes "point") code ∷ number_member (codes "pairs") pairs ∷ []
+
+-- a warning: its kind, and what it is about
+abbrev pub warning_members : Warning → List Member
+warning_members w = text_member (codes "kind") (warning_name w) ∷ warned_values w
+
+-- how many warnings there are, and each
+abbrev pub warnings_members : List Warning → List Member
+warnings_members warnings = number_member (codes "count") (length warnings) ∷ list_member (codes "warnings") warning_members warnings ∷ []
+
 -- a wrong table: its destination, and the point and the letter of the first complaint
 abbrev pub complaint_members : ℕ → Complaint → List Member
 complaint_members dest complaint =
@@ -279,6 +304,7 @@ net_word (net.Trace trace) = codes "trace"
 net_word (net.WhatIf report) = codes "whatif"
 net_word (net.Reroutes list) = codes "reroutes"
 net_word (net.Survey survey) = codes "survey"
+net_word (net.Warned warnings) = codes "warn"
 net_word (net.Right count) = codes "audit"
 net_word (net.Wrong dest complaint) = codes "audit"
 net_word (net.Picture file picture) = codes "picture"
@@ -292,6 +318,7 @@ net_values (net.Trace trace) = trace_members trace
 net_values (net.WhatIf report) = report_members report
 net_values (net.Reroutes list) = move_members list
 net_values (net.Survey survey) = survey_members survey
+net_values (net.Warned warnings) = warnings_members warnings
 net_values (net.Right count) = text_member (codes "result") (codes "ok") ∷ number_member (codes "plans") count ∷ []
 net_values (net.Wrong dest complaint) = text_member (codes "result") (codes "bad") ∷ complaint_members dest complaint
 net_values (net.Picture file picture) = text_member (codes "file") file ∷ []

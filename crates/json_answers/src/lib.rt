@@ -30,6 +30,7 @@ mod shown;
 mod surveys;
 pub mod texts;
 mod told;
+mod warnings;
 mod ways;
 mod who;
 

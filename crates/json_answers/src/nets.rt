@@ -10,6 +10,7 @@ use crate::members::{put_code, put_number, put_text, put_word};
 use crate::moves::{put_change_list, put_moves};
 use crate::surveys::put_survey;
 use crate::told::{Told, put_list};
+use crate::warnings::put_warnings;
 use answers::{NetAnswer, clause_word};
 use json::Writer;
 use point_codes::PointCode;
@@ -115,6 +116,7 @@ fn put_net_word(writer: &mut Writer, net: &NetAnswer) -> Result<(), AllocError>
             NetAnswer::WhatIf(_) => "whatif",
             NetAnswer::Reroutes(_) => "reroutes",
             NetAnswer::Survey(_) => "survey",
+            NetAnswer::Warned(_) => "warn",
             NetAnswer::Right(_) | NetAnswer::Wrong(_, _) => "audit",
             NetAnswer::Picture(_, _) | NetAnswer::Drawn(_) => "picture",
             NetAnswer::Saving(_, _) | NetAnswer::Saved(_) => "saved",
@@ -131,6 +133,7 @@ fn put_net_values(alloc: Global, writer: &mut Writer, net: &NetAnswer) -> Result
         NetAnswer::WhatIf(report) => put_report(alloc, writer, report),
         NetAnswer::Reroutes(reroutes) => put_moves(alloc, writer, reroutes),
         NetAnswer::Survey(survey) => put_survey(alloc, writer, survey),
+        NetAnswer::Warned(warnings) => put_warnings(alloc, writer, warnings),
         NetAnswer::Right(count) => put_right(writer, *count as u64),
         NetAnswer::Wrong(dest, complaint) => put_wrong(alloc, writer, *dest, *complaint),
         NetAnswer::Picture(file, _)

@@ -11,19 +11,21 @@ use Rattle.net_data.specs.declared.events.Refusal.TheVariants as no
 use Rattle.net_data.specs.Network.{Network}
 use Rattle.net_data.specs.Edits.{refusal_of, apply_all, unless_refused}
 use Rattle.net_building.specs.Building.{point_event, plan_event}
-use Rattle.net_sheets.specs.declared.faults.LineFault.{LineFault}
+use Rattle.net_sheets.specs.declared.faults.SpotFault.{SpotFault}
+use Rattle.net_sheets.specs.declared.faults.Flaw.{Flaw}
+use Rattle.net_sheets.specs.declared.faults.Flaw.TheVariants as flaw
 use Rattle.net_sheets.specs.declared.faults.Reason.{Reason}
-use Rattle.net_sheets.specs.declared.faults.Reason.TheVariants.{Csv, Columns, Field, Order, Refused, Loop, TooDeep, OutOfMemory}
+use Rattle.net_sheets.specs.declared.faults.Reason.TheVariants.{Csv, Columns, Field, FifthClass, SplitDestination, Refused, MateLoop, Loop, TooDeep, OutOfMemory}
 use Rattle.net_sheets.specs.declared.routes.Route.{Route}
 use Rattle.net_sheets.specs.Ranks.{IsLeast, with_ranks}
 use Rattle.net_sheets.specs.Tables.{Fields, points_header, routes_header, row_routes}
 use Rattle.net_sheets.specs.Values.{Read, point_of, route_of, Holds}
 use Rattle.net_sheets.specs.Events.{pair_events_after, AddsPlans}
-use Rattle.net_sheets.specs.Faults.{IsFieldFault, IsRefusal, IsUnranked, IsPlanFault, StopsAt, IsRoutesFault, IsTextFault, IsPointsFault, IsRoutesTextFault, Refuses}
+use Rattle.net_sheets.specs.Faults.{reason_of, IsFieldFault, IsRowsFault, IsRefusal, IsUnranked, IsPlanFault, StopsAt, IsRoutesFault, IsTextFault, IsPointsFault, IsRoutesTextFault, Refuses}
 use Rattle.net_building.proofs.StepLemmas.{apply_append}
 use Rattle.net_sheets.proofs.BuildingLemmas.{stop_append}
 
-pub where_err : {A : Type 0} (r : Result A LineFault) (P Q : Reason → Type 0) → ((reason : Reason) → P reason → Q reason) → IfErr r (λ fault. P fault.reason) → IfErr r (λ fault. Q fault.reason)
+pub where_err : {A : Type 0} (r : Result A SpotFault) (P Q : Reason → Type 0) → ((reason : Reason) → P reason → Q reason) → IfErr r (λ fault. P fault.reason) → IfErr r (λ fault. Q fault.reason)
 where_err (Ok x) P Q f h = tt
 where_err (Err fault) P Q f h = f fault.reason h
 
@@ -31,60 +33,50 @@ where_err (Err fault) P Q f h = f fault.reason h
 
 pub field_told : {A : Type 0} (of : Fields → Read A) (header : Fields) (fault : List A → Reason → Type 0) (text : List ℕ) (answer : Read (List A)) (reason : Reason) → Holds of header text answer → IsFieldFault answer reason → IsTextFault of header fault text reason
 field_told of header fault text answer (Field n) told h = subst (Holds of header text) h told
+field_told of header fault text answer FifthClass told h = subst (Holds of header text) h told
 field_told of header fault text answer OutOfMemory told h = tt
 field_told of header fault text answer Csv told h = tt
 field_told of header fault text answer Columns told h = tt
-field_told of header fault text answer Order told h = absurd h
-field_told of header fault text answer (Refused r) told h = absurd h
-field_told of header fault text answer (Loop codes) told h = absurd h
-field_told of header fault text answer TooDeep told h = absurd h
+field_told of header fault text answer _ told h = absurd h
 
-pub values_fault : {A : Type 0} (of : Fields → Read A) (header : Fields) (fault : List A → Reason → Type 0) (text : List ℕ) (values : List A) (reason : Reason) → ((n : ℕ) → fault values (Field n) → ⊥) → Holds of header text (Ok values) → fault values reason
+pub values_fault : {A : Type 0} (of : Fields → Read A) (header : Fields) (fault : List A → Reason → Type 0) (text : List ℕ) (values : List A) (reason : Reason) → ((f : Flaw) → fault values (reason_of f) → ⊥) → Holds of header text (Ok values) → fault values reason
     → IsTextFault of header fault text reason
-values_fault of header fault text values (Field n) none told h = absurd (none n h)
+values_fault of header fault text values (Field n) none told h = absurd (none (flaw.Column n) h)
+values_fault of header fault text values FifthClass none told h = absurd (none flaw.FifthClass h)
 values_fault of header fault text values OutOfMemory none told h = tt
 values_fault of header fault text values Csv none told h = tt
 values_fault of header fault text values Columns none told h = tt
-values_fault of header fault text values Order none told h = (values, told, h)
-values_fault of header fault text values (Refused r) none told h = (values, told, h)
-values_fault of header fault text values (Loop codes) none told h = (values, told, h)
-values_fault of header fault text values TooDeep none told h = (values, told, h)
+values_fault of header fault text values _ none told h = (values, told, h)
 
 -- ---- points
 
 refused_early : (old : Network) (es fs : List Event) (reason : Reason) → IsRefusal (apply_all old es) reason → IsRefusal (apply_all old (es ++ fs)) reason
 refused_early old es fs (Refused r) h = stop_append old es fs r h
 refused_early old es fs OutOfMemory h = tt
-refused_early old es fs Csv h = absurd h
-refused_early old es fs Columns h = absurd h
-refused_early old es fs (Field n) h = absurd h
-refused_early old es fs Order h = absurd h
-refused_early old es fs (Loop codes) h = absurd h
-refused_early old es fs TooDeep h = absurd h
+refused_early old es fs _ h = absurd h
+
+-- a refusal is no flaw of a record
+no_flaw : (applied : Result Network Refusal) (f : Flaw) → IsRefusal applied (reason_of f) → ⊥
+no_flaw applied (flaw.Column n) h = h
+no_flaw applied flaw.FifthClass h = h
 
 pub points_refused : (old : Network) (text : List ℕ) (points added : List Point) → Holds point_of points_header text (Ok points) → added ≡ points → (reason : Reason) → IsRefusal (apply_all old (map point_event added)) reason → IsPointsFault old text reason
 points_refused old text points added told e reason h =
-    values_fault point_of points_header (λ ps. IsRefusal (apply_all old (map point_event ps ++ pair_events_after [] ps))) text points reason (λ n x. x) told
+    values_fault point_of points_header (λ ps. IsRefusal (apply_all old (map point_event ps ++ pair_events_after [] ps))) text points reason (no_flaw _) told
     (refused_early old (map point_event points) (pair_events_after [] points) reason (subst (λ ps. IsRefusal (apply_all old (map point_event ps)) reason) e h))
 
 pub pairs_refused : (old mid : Network) (text : List ℕ) (points added paired : List Point) → Holds point_of points_header text (Ok points) → added ≡ points → paired ≡ points → apply_all old (map point_event added) ≡ Ok mid
     → (reason : Reason) → IsRefusal (apply_all mid (pair_events_after [] paired)) reason → IsPointsFault old text reason
 pairs_refused old mid text points added paired told e1 e2 first reason h =
     let same : apply_all old (map point_event points ++ pair_events_after [] points) ≡ apply_all mid (pair_events_after [] points) = apply_append old mid (map point_event points) (pair_events_after [] points) (ap (λ ps. apply_all old (map point_event ps)) (sym e1) ∙ first) in
-    values_fault point_of points_header (λ ps. IsRefusal (apply_all old (map point_event ps ++ pair_events_after [] ps))) text points reason (λ n x. x) told
+    values_fault point_of points_header (λ ps. IsRefusal (apply_all old (map point_event ps ++ pair_events_after [] ps))) text points reason (no_flaw _) told
     (subst (λ r. IsRefusal r reason) (sym same) (subst (λ ps. IsRefusal (apply_all mid (pair_events_after [] ps)) reason) e2 h))
 
 -- ---- routes
 
 pub plan_unranked : (net : Network) (dest : ℕ) (rows : List Row) (reason : Reason) → IsUnranked net.points dest rows reason → IsPlanFault net dest rows reason
 plan_unranked net dest rows (Refused r) h = absurd h
-plan_unranked net dest rows (Loop codes) h = h
-plan_unranked net dest rows TooDeep h = h
-plan_unranked net dest rows OutOfMemory h = h
-plan_unranked net dest rows Csv h = h
-plan_unranked net dest rows Columns h = h
-plan_unranked net dest rows (Field n) h = h
-plan_unranked net dest rows Order h = h
+plan_unranked net dest rows _ h = h
 
 refused_once : (o : Option Refusal) (net : Network) (r : Refusal) → unless_refused o (Ok net) ≡ Err r → o ≡ Some r
 refused_once (Some q) net r h = let same : ◌≡◌ {A = Result Network Refusal} (Err q) (Err r) = h in cc
@@ -94,12 +86,7 @@ plan_refused : (net : Network) (dest : ℕ) (rows : List Row) (ranks : List ℕ)
     → IsRefusal (unless_refused (refusal_of net (plan_event (record { dest = dest; rows = with_ranks rows ranks }))) (Ok net)) reason → IsPlanFault net dest rows reason
 plan_refused net dest rows ranks least (Refused r) h = (ranks, least, record { first = refused_once (refusal_of net (plan_event (record { dest = dest; rows = with_ranks rows ranks }))) net r h })
 plan_refused net dest rows ranks least OutOfMemory h = tt
-plan_refused net dest rows ranks least (Loop codes) h = absurd h
-plan_refused net dest rows ranks least TooDeep h = absurd h
-plan_refused net dest rows ranks least Csv h = absurd h
-plan_refused net dest rows ranks least Columns h = absurd h
-plan_refused net dest rows ranks least (Field n) h = absurd h
-plan_refused net dest rows ranks least Order h = absurd h
+plan_refused net dest rows ranks least _ h = absurd h
 
 pub plan_told : (net : Network) (dest : ℕ) (rows : List Row) (ranks : List ℕ) (event : Event) (e : Refusal) (reason : Reason) → IsLeast net.points dest rows ranks → event ≡ plan_event (record { dest = dest; rows = with_ranks rows ranks })
     → (e ≢ no.OutOfMemory → Refuses net event e) → ((applied : Result Network Refusal) → (e ≢ no.OutOfMemory → applied ≡ Err e) → IsRefusal applied reason) → IsPlanFault net dest rows reason
@@ -120,13 +107,25 @@ stops_at old mid routes dest at end rows reason before told fault = go reason fa
 
     go : (r : Reason) → IsPlanFault mid dest rows r → IsRoutesFault old routes r
     go (Refused q) f = stop (Refused q) f
+    go (MateLoop y z) f = stop (MateLoop y z) f
     go (Loop codes) f = stop (Loop codes) f
     go TooDeep f = stop TooDeep f
     go OutOfMemory f = tt
-    go Csv f = absurd f
-    go Columns f = absurd f
-    go (Field n) f = absurd f
-    go Order f = absurd f
+    go _ f = absurd f
+
+-- a fault of the rows of a plan is one of the routes
+pub rows_fault : (old : Network) (routes : List Route) (reason : Reason) → IsRowsFault routes reason → IsRoutesFault old routes reason
+rows_fault old routes SplitDestination h = absurd h
+rows_fault old routes (Refused r) h = absurd h
+rows_fault old routes (MateLoop y z) h = absurd h
+rows_fault old routes (Loop codes) h = absurd h
+rows_fault old routes TooDeep h = absurd h
+rows_fault old routes _ h = h
+
+-- a fault of routes is no flaw of a record
+no_flaw_of_routes : (old : Network) (routes : List Route) (f : Flaw) → IsRoutesFault old routes (reason_of f) → ⊥
+no_flaw_of_routes old routes (flaw.Column n) h = h
+no_flaw_of_routes old routes flaw.FifthClass h = h
 
 pub routes_fault : (old : Network) (text : List ℕ) (routes told : List Route) → Holds route_of routes_header text (Ok routes) → told ≡ routes → (reason : Reason) → IsRoutesFault old told reason → IsRoutesTextFault old text reason
-routes_fault old text routes told holds e reason h = values_fault route_of routes_header (IsRoutesFault old) text routes reason (λ n x. x) holds (subst (λ rs. IsRoutesFault old rs reason) e h)
+routes_fault old text routes told holds e reason h = values_fault route_of routes_header (IsRoutesFault old) text routes reason (no_flaw_of_routes old routes) holds (subst (λ rs. IsRoutesFault old rs reason) e h)

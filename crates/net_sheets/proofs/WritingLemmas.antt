@@ -1,5 +1,5 @@
 -- Texts made of a first part and of others.
-use Rattle.std.proofs.Common.{take, drop, length, get_or, ◌+◌, ◌-◌, ◌<◌, arith, ◌≡◌, ℕ, ◌≤◌, List, [], ◌∷◌, ◌++◌, map, ap, refl, sym, ◌∙◌, append-nil, append_assoc, add-one, drop-cons}
+use Rattle.std.proofs.Common.{take, drop, length, get_or, ◌+◌, ◌-◌, ◌<◌, arith, ◌≡◌, ℕ, ◌≤◌, List, [], ◌∷◌, ◌++◌, map, ap, sym, ◌∙◌, append_assoc, add-one, drop-cons}
 use Rattle.std.specs.List.{flat_map, join_with_byte}
 use Rattle.std.proofs.lemmas.Grind.{flat_map-append}
 use Rattle.std.proofs.lemmas.List.Folds.{flat_map-map}

@@ -1,16 +1,21 @@
 -- What a fault of three tables tells.
-use Rattle.std.specs.Prelude.{◌≡◌, ℕ, true, List, [], ◌++◌, map, Some, Result, Ok, Err}
+use Rattle.std.specs.Prelude.{◌≡◌, ℕ, ◌-◌, ◌==◌, ◌&&◌, nat_le, Bool, true, false, List, [], ◌∷◌, ◌++◌, map, slice_get, Some, Result, Ok, Err}
 use Rattle.std.specs.List.{flat_map}
+use Rattle.std.specs.Option.{option_map_or}
 use Rattle.net_items.specs.declared.items.Point.{Point}
 use Rattle.net_items.specs.declared.lists.Row.{Row}
 use Rattle.net_data.specs.declared.events.Refusal.{Refusal}
 use Rattle.net_data.specs.declared.events.Event.{Event}
 use Rattle.net_data.specs.Network.{Network}
 use Rattle.net_data.specs.Edits.{refusal_of, apply_all}
+use Rattle.plan_rows.specs.Rows.{is_mate}
 use Rattle.net_building.specs.Building.{point_event, set_events, plan_event}
 use Rattle.net_sheets.specs.declared.routes.Route.{Route}
+use Rattle.net_sheets.specs.declared.routes.Route.TheVariants.{Via, Mate}
+use Rattle.net_sheets.specs.declared.faults.Flaw.{Flaw}
+use Rattle.net_sheets.specs.declared.faults.Flaw.TheVariants as flaw
 use Rattle.net_sheets.specs.declared.faults.Reason.{Reason}
-use Rattle.net_sheets.specs.declared.faults.Reason.TheVariants.{Csv, Columns, Field, Order, Refused, Loop, TooDeep, OutOfMemory}
+use Rattle.net_sheets.specs.declared.faults.Reason.TheVariants.{Csv, Columns, Field, FifthClass, ThirdVia, SplitDestination, SplitPoint, ClassOrder, Refused, MateLoop, Loop, TooDeep, OutOfMemory}
 use Rattle.net_sheets.specs.declared.faults.Sheet.{Sheet}
 use Rattle.net_sheets.specs.declared.faults.Sheet.TheVariants.{Points, Sets, Routes}
 use Rattle.net_sheets.specs.Ranks.{HasNoRanks, IsLeast, with_ranks}
@@ -19,9 +24,15 @@ use Rattle.net_sheets.specs.Tables.{Fields, points_header, sets_header, routes_h
 use Rattle.net_sheets.specs.Values.{Read, point_of, set_of, route_of, Holds}
 use Rattle.net_sheets.specs.Events.{pair_events_after, empty_net, AddsPoints, AddsSets, AddsPlans}
 
--- a column is the one that is wrong in the first record that has no value
+-- what is told of a record that says nothing
+abbrev pub reason_of : Flaw → Reason
+reason_of (flaw.Column n) = Field n
+reason_of flaw.FifthClass = FifthClass
+
+-- what is told is the flaw of the first record that has no value
 abbrev pub IsFieldFault : {A : Type 0} → Read (List A) → Reason → Type 0
-IsFieldFault answer (Field n) = answer ≡ Err n
+IsFieldFault answer (Field n) = answer ≡ Err (flaw.Column n)
+IsFieldFault answer FifthClass = answer ≡ Err flaw.FifthClass
 IsFieldFault answer OutOfMemory = Unit {0}
 IsFieldFault answer _ = ⊥
 
@@ -35,15 +46,40 @@ IsRefusal applied _ = ⊥
 pub record Refuses (net : Network) (event : Event) (refusal : Refusal) : Type 0 where
   pub first : refusal_of net event ≡ Some refusal
 
--- routes that are out of order
-abbrev pub IsOrderFault : Reason → Type 0
-IsOrderFault Order = Unit {0}
-IsOrderFault OutOfMemory = Unit {0}
-IsOrderFault _ = ⊥
+-- a way is a via of this class of this row
+abbrev pub is_via_of : ℕ → ℕ → ℕ → Route → Bool
+is_via_of dest y class (Via to from k z) = to == dest && from == y && k == class
+is_via_of dest y class (Mate to from) = false
+
+-- the way at a place is one
+abbrev pub is_via_at : List Route → ℕ → ℕ → ℕ → ℕ → Bool
+is_via_at routes place dest y class = option_map_or (is_via_of dest y class) (slice_get routes place) false
+
+-- the two ways before a place are
+abbrev pub are_two_before : List Route → ℕ → ℕ → ℕ → ℕ → Bool
+are_two_before routes place dest y class = nat_le 2 place && is_via_at routes (place - 2) dest y class && is_via_at routes (place - 1) dest y class
+
+-- a way at a place is a via, and the two before it are of the same class of the same row
+abbrev pub is_third_way : List Route → ℕ → Route → Bool
+is_third_way routes place (Via dest y class z) = are_two_before routes place dest y class
+is_third_way routes place (Mate dest y) = false
+
+-- at a place stands a third via of a class
+abbrev pub is_third : List Route → ℕ → Bool
+is_third routes place = option_map_or (is_third_way routes place) (slice_get routes place) false
+
+-- routes that are out of order, or a third via of a class
+abbrev pub IsRowsFault : List Route → Reason → Type 0
+IsRowsFault routes SplitPoint = Unit {0}
+IsRowsFault routes ClassOrder = Unit {0}
+IsRowsFault routes ThirdVia = (place : ℕ) × (is_third routes place ≡ true)
+IsRowsFault routes OutOfMemory = Unit {0}
+IsRowsFault routes _ = ⊥
 
 -- rows have no ranks, and a loop is told if one was found
 abbrev pub IsUnranked : List Point → ℕ → List Row → Reason → Type 0
 IsUnranked points dest rows (Loop codes) = HasNoRanks points dest rows × (is_loop points dest rows codes.items ≡ true)
+IsUnranked points dest rows (MateLoop y z) = HasNoRanks points dest rows × (is_loop points dest rows (y ∷ z ∷ []) ≡ true) × (is_mate points y z ≡ true)
 IsUnranked points dest rows TooDeep = HasNoRanks points dest rows
 IsUnranked points dest rows OutOfMemory = Unit {0}
 IsUnranked points dest rows _ = ⊥
@@ -67,12 +103,12 @@ pub record StopsAt (old : Network) (routes : List Route) (reason : Reason) : Typ
 
 -- routes are out of order, or a plan of them has a fault
 abbrev pub IsRoutesFault : Network → List Route → Reason → Type 0
-IsRoutesFault old routes Order = Unit {0}
-IsRoutesFault old routes OutOfMemory = Unit {0}
+IsRoutesFault old routes SplitDestination = Unit {0}
 IsRoutesFault old routes (Refused refusal) = StopsAt old routes (Refused refusal)
+IsRoutesFault old routes (MateLoop y z) = StopsAt old routes (MateLoop y z)
 IsRoutesFault old routes (Loop codes) = StopsAt old routes (Loop codes)
 IsRoutesFault old routes TooDeep = StopsAt old routes TooDeep
-IsRoutesFault old routes _ = ⊥
+IsRoutesFault old routes reason = IsRowsFault routes reason
 
 -- a fault before any record is read: no CSV, or another header
 abbrev pub IsTableFault : Reason → Type 0
@@ -86,7 +122,8 @@ abbrev pub IsTextFault : {A : Type 0} → (Fields → Read A) → Fields → (Li
 IsTextFault of header fault text Csv = Unit {0}
 IsTextFault of header fault text Columns = Unit {0}
 IsTextFault of header fault text OutOfMemory = Unit {0}
-IsTextFault of header fault text (Field n) = Holds of header text (Err n)
+IsTextFault of header fault text (Field n) = Holds of header text (Err (flaw.Column n))
+IsTextFault of header fault text FifthClass = Holds of header text (Err flaw.FifthClass)
 IsTextFault {A} of header fault text reason = (values : List A) × Holds of header text (Ok values) × fault values reason
 
 -- a fault of the table of points, of the table of sets, and of the table of routes, each with what is there before

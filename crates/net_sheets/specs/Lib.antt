@@ -1,3 +1,4 @@
+pub mod Places
 pub mod Ranks
 pub mod Loops
 pub mod Tables

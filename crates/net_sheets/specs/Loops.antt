@@ -7,7 +7,7 @@ use Rattle.plan_rows.specs.Rows.{is_mate}
 use Rattle.plan_rows.specs.Uses.{row_uses, is_flagged}
 use Rattle.net_sheets.specs.Ranks.{HasNoRanks}
 use Rattle.net_sheets.specs.declared.faults.RankFault.{RankFault}
-use Rattle.net_sheets.specs.declared.faults.RankFault.TheVariants.{OutOfMemory, Loop, TooDeep}
+use Rattle.net_sheets.specs.declared.faults.RankFault.TheVariants.{OutOfMemory, MateLoop, Loop, TooDeep}
 
 -- a row of y has z as a via, and that isn't the destination
 abbrev pub leads : ℕ → List Row → ℕ → ℕ → Bool
@@ -39,5 +39,6 @@ is_loop points dest rows (y ∷ ys) = is_chain (is_next points dest rows) y y ys
 -- what is told where rows have no ranks
 abbrev pub IsRankFault : List Point → ℕ → List Row → RankFault → Type 0
 IsRankFault points dest rows OutOfMemory = Unit {0}
+IsRankFault points dest rows (MateLoop y z) = HasNoRanks points dest rows × (is_loop points dest rows (y ∷ z ∷ []) ≡ true) × (is_mate points y z ≡ true)
 IsRankFault points dest rows (Loop codes) = HasNoRanks points dest rows × (is_loop points dest rows codes.items ≡ true)
 IsRankFault points dest rows TooDeep = HasNoRanks points dest rows

@@ -1,5 +1,5 @@
 -- What the records of the tables say.
-use Rattle.std.specs.Prelude.{◌≡◌, ℕ, if◌then◌else◌, List, [], ◌∷◌, Option, Some, None, option_map, Result, Ok, Err, codes}
+use Rattle.std.specs.Prelude.{◌≡◌, ℕ, ◌==◌, if◌then◌else◌, List, [], ◌∷◌, Option, Some, None, option_map, Result, Ok, Err, codes}
 use Rattle.std.specs.Str.{bytes_eq}
 use Rattle.net_items.specs.declared.items.Point.{Point}
 use Rattle.net_items.specs.declared.items.LinkSet.{LinkSet}
@@ -10,18 +10,20 @@ use Rattle.tokens.specs.Numbers.{id_of}
 use Rattle.tokens.specs.Marked.{marked_of}
 use Rattle.tokens.specs.Pieces.{pieces_of}
 use Rattle.tokens.specs.declared.marked.Format.TheVariants.{Two}
+use Rattle.net_sheets.specs.declared.faults.Flaw.{Flaw}
+use Rattle.net_sheets.specs.declared.faults.Flaw.TheVariants.{Column, FifthClass}
 use Rattle.net_sheets.specs.declared.routes.Route.{Route}
 use Rattle.net_sheets.specs.declared.routes.Route.TheVariants.{Via, Mate}
 use Rattle.net_sheets.specs.Tables.{Fields}
 use Rattle.net_sheets.specs.Records.{IsTable, field}
 
--- a value, or the number of the first column whose text isn't of its kind
+-- a value, or the first thing that is wrong with a record
 abbrev pub Read : Type 0 → Type 0
-Read A = Result A ℕ
+Read A = Result A Flaw
 
 -- the value of the text in a column, and then the rest
 abbrev pub column : {A B : Type 0} → ℕ → Option A → (A → Read B) → Read B
-column n None next = Err n
+column n None next = Err (Column n)
 column n (Some x) next = next x
 
 -- a code, or nothing
@@ -47,13 +49,24 @@ set_of fields =
 -- nothing after the word `mate`
 abbrev pub mate_route : ℕ → ℕ → List ℕ → Read Route
 mate_route dest y [] = Ok (Mate dest y)
-mate_route dest y (b ∷ bs) = Err 4
+mate_route dest y (b ∷ bs) = Err (Column 4)
 
--- a class in decimal digits, and CODE; or the word `mate`, and nothing
+-- a class from 1 to 4; class 5, which answers write for the mate's, is wrong in its own way
+abbrev pub class_in : List ℕ → Read ℕ
+class_in text =
+    if bytes_eq text (codes "5") then Err FifthClass
+    else column 3 (number_of 4 text) (λ k. if k == 0 then Err (Column 3) else Ok k)
+
+-- what comes after a value, if there is one
+abbrev pub and_then : {A B : Type 0} → Read A → (A → Read B) → Read B
+and_then (Err flaw) next = Err flaw
+and_then (Ok x) next = next x
+
+-- a class, and CODE; or the word `mate`, and nothing
 abbrev pub way_of : ℕ → ℕ → List ℕ → List ℕ → Read Route
 way_of dest y class via =
     if bytes_eq class (codes "mate") then mate_route dest y via
-    else column 3 (number_of 255 class) (λ k. column 4 (code_of via) (λ z. Ok (Via dest y k z)))
+    else and_then (class_in class) (λ k. column 4 (code_of via) (λ z. Ok (Via dest y k z)))
 
 -- CODE, CODE, a class and a via
 abbrev pub route_of : Fields → Read Route
@@ -63,8 +76,8 @@ route_of fields =
 
 -- a first value and others, or what is wrong with the first of them
 abbrev pub with_first : {A : Type 0} → Read A → Read (List A) → Read (List A)
-with_first (Err n) rest = Err n
-with_first (Ok x) (Err n) = Err n
+with_first (Err flaw) rest = Err flaw
+with_first (Ok x) (Err flaw) = Err flaw
 with_first (Ok x) (Ok xs) = Ok (x ∷ xs)
 
 -- the values of all records, or what is wrong with the first that has none
@@ -72,7 +85,7 @@ abbrev pub all_read : {A : Type 0} → (Fields → Read A) → List Fields → R
 all_read of [] = Ok []
 all_read of (r ∷ rs) = with_first (of r) (all_read of rs)
 
--- the text is, as CSV, this header and records; those are these values, or the first that has none has this column wrong
+-- the text is, as CSV, this header and records; those are these values, or the first that has none has this flaw
 pub record Holds {A : Type 0} (of : Fields → Read A) (header : Fields) (text : List ℕ) (answer : Read (List A)) : Type 0 where
   pub records : List Fields
   pub table : IsTable header text records

@@ -9,24 +9,34 @@ ghost use Rattle.net_sheets.specs.Faults.{IsRefusal};
 ghost use Rattle.net_building.specs.Building.{point_event, set_events};
 ghost use Rattle.net_sheets.specs.Events.{is_named as named, pair_events_after};
 
-use crate::faults::{LineFault, Reason};
-use crate::records::line_of;
+use crate::faults::{Reason, SpotFault};
+use crate::records::spot_of;
 use csv::ByteRecord;
 use net_building::{apply_events, events_of_set};
 use net_data::{Event, Net, Refusal};
+use net_items::lookups::is_point;
 use net_items::{LinkSet, Point};
 use point_codes::PointCode;
 use std::alloc::Global;
 
-/// The fault of a record whose event is refused.
-pub(crate) fn refused(line: u64, refusal: Refusal) -> LineFault
-    ensures { (applied : Result Network Refusal) → (refusal ≢ Refusal.OutOfMemory → applied ≡ Err refusal) → IsRefusal applied result.reason }
+/// What is told of a record whose event is refused.
+pub(crate) fn refused(refusal: Refusal) -> Reason
+    ensures { (applied : Result Network Refusal) → (refusal ≢ Refusal.OutOfMemory → applied ≡ Err refusal) → IsRefusal applied result }
 {
-    let reason = match refusal {
+    match refusal {
         Refusal::OutOfMemory => Reason::OutOfMemory,
         refusal => Reason::Refused(refusal),
-    };
-    LineFault { line, reason }
+    }
+}
+
+/// The fault of the record at a place, or of one of its fields, whose event is refused.
+fn refused_at(table: &[ByteRecord], place: usize, field: u8, refusal: Refusal) -> SpotFault
+    ensures { (applied : Result Network Refusal) → (refusal ≢ Refusal.OutOfMemory → applied ≡ Err refusal) → IsRefusal applied result.reason }
+{
+    SpotFault {
+        spot: spot_of(table, place, field),
+        reason: refused(refusal),
+    }
 }
 
 /// Adds the points of records.
@@ -35,14 +45,14 @@ pub(crate) fn add_points(
     net: &mut Net,
     table: &[ByteRecord],
     points: &[Point],
-) -> Result<(), LineFault>
+) -> Result<(), SpotFault>
     ensures ok { OnOk result (apply_all net.old (map point_event points.now) ≡ Ok net.new) }
     ensures err { IfErr result (λ fault. IsRefusal (apply_all net.old (map point_event points.now)) fault.reason) }
 {
     for (i, point) in points.iter().enumerate() {
         let event = Event::AddPoint(point.code, point.kind);
         if let Err(refusal) = net.apply(alloc, &event) {
-            return Err(refused(line_of(table, i), refusal));
+            return Err(refused_at(table, i, 0, refusal));
         }
     }
     Ok(())
@@ -63,7 +73,7 @@ pub(crate) fn pair_points(
     net: &mut Net,
     table: &[ByteRecord],
     points: &[Point],
-) -> Result<(), LineFault>
+) -> Result<(), SpotFault>
     ensures ok { OnOk result (apply_all net.old (pair_events_after [] points.now) ≡ Ok net.new) }
     ensures err { IfErr result (λ fault. IsRefusal (apply_all net.old (pair_events_after [] points.now)) fault.reason) }
 {
@@ -74,7 +84,7 @@ pub(crate) fn pair_points(
             }
             let event = Event::Pair(point.code, mate);
             if let Err(refusal) = net.apply(alloc, &event) {
-                return Err(refused(line_of(table, i), refusal));
+                return Err(refused_at(table, i, 3, refusal));
             }
         }
     }
@@ -92,19 +102,36 @@ fn add_set(alloc: Global, net: &mut Net, set: &LinkSet) -> Result<(), Refusal>
     }
 }
 
+/// The field of a set's record that a refusal is about, or 0 for the whole record.
+fn field_of(net: &Net, set: &LinkSet, refusal: &Refusal) -> u8 {
+    // The proof reads from this that the points stand in rising code.
+    net.validity();
+    match refusal {
+        Refusal::NoPoint => {
+            if is_point(net.points(), set.a) {
+                return 3;
+            }
+            2
+        }
+        Refusal::BadLinks => 4,
+        _ => 0,
+    }
+}
+
 /// Adds the sets of records.
 pub(crate) fn add_sets(
     alloc: Global,
     net: &mut Net,
     table: &[ByteRecord],
     sets: &[LinkSet],
-) -> Result<(), LineFault>
+) -> Result<(), SpotFault>
     ensures ok { OnOk result (apply_all net.old (flat_map set_events sets.now) ≡ Ok net.new) }
     ensures err { IfErr result (λ fault. IsRefusal (apply_all net.old (flat_map set_events sets.now)) fault.reason) }
 {
     for (i, set) in sets.iter().enumerate() {
         if let Err(refusal) = add_set(alloc, net, set) {
-            return Err(refused(line_of(table, i), refusal));
+            let field = field_of(net, set, &refusal);
+            return Err(refused_at(table, i, field, refusal));
         }
     }
     Ok(())

@@ -7,15 +7,18 @@
 //! 3. A record of sets is an id, the codes of two points, and links with their marks between single spaces; the crate
 //!    `tokens` has the tokens (own).
 //! 4. A record of routes is one via of one class of one row; the normal route is class 1 (Q.704 clause 4). For a row with the
-//!    mate flag one more record has the class `mate` and no via. The records of a row stand together, its classes from 1 on
-//!    and the mate last, and the rows of a destination stand together (own).
+//!    mate flag one more record has the class `mate` and no via. The records of a row stand together, its classes from 1 to at
+//!    most 4 with one or two vias each and the mate last, and the rows of a destination stand together (own).
 //! 5. Ranks aren't written. Each row gets the least rank by which each via's row is lower and the rows of mates, where one
 //!    may use the other, are equal (own).
 //! 6. The network is what these events make of the empty one: AddPoint for each point; Pair for each mated pair; for each
 //!    set AddSet and the changes that its links need; SetPlan for each destination. What the network's rules refuse is
 //!    refused here.
 //!
-//! Stands on `net_building`, `tokens`, `csv`. A change here also changes specs/ (Events, Faults, Loops, Ranks, Records,
+//! 7. The first thing that is wrong is told with the table, the line and the column, as an editor counts them: a line feed ends
+//!    a line, and a column is a character (own).
+//!
+//! Stands on `net_building`, `tokens`, `csv`. A change here also changes specs/ (Events, Faults, Loops, Places, Ranks, Records,
 //! Tables, Values), proofs/ and must-fail/.
 #![tactic(auto)]
 
@@ -25,6 +28,7 @@ pub mod laws;
 mod lists;
 mod loops;
 mod needs;
+mod places;
 mod plans;
 mod ranks;
 mod reading;

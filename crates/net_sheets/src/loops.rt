@@ -1,6 +1,7 @@
 //! Rows of a plan that need each other.
 
-ghost use Rattle.std.specs.Prelude.{◌≡◌, IfOk};
+ghost use Rattle.std.specs.Prelude.{◌≡◌, true, IfOk};
+ghost use Rattle.std.specs.Option.{IfSome};
 ghost use Rattle.std.specs.List.{list_any};
 ghost use Rattle.net_items.specs.Keyed.{IsRising};
 ghost use Rattle.plan_rows.specs.Rows.{is_mate as mates};
@@ -37,15 +38,23 @@ fn has_flag(rows: &[Row], point: PointCode) -> bool
     rows.iter().any(|row| row.point == point && row.mate)
 }
 
+/// Whether a point has another as its mate.
+fn is_mate(points: &[Point], point: PointCode, other: PointCode) -> bool
+    requires { IsRising (λ p. p.code) points.now }
+    ensures { result ≡ mates points.now point other }
+{
+    match mate_of(points, point) {
+        Some(mate) => mate == other,
+        None => false,
+    }
+}
+
 /// Whether a point may use another as its mate.
 fn may_use(points: &[Point], rows: &[Row], point: PointCode, other: PointCode) -> bool
     requires { IsRising (λ p. p.code) points.now }
     ensures { result ≡ may_be_used points.now rows.now point other }
 {
-    match mate_of(points, point) {
-        Some(mate) => mate == other && has_flag(rows, point),
-        None => false,
-    }
+    is_mate(points, point, other) && has_flag(rows, point)
 }
 
 /// Whether a point has another as a via, or one of them may use the other as its mate.
@@ -179,8 +188,40 @@ fn codes_of(alloc: Global, rows: &[Row], path: &[usize]) -> Result<Vec<PointCode
     Ok(codes)
 }
 
+/// Two mates that the points of a loop are.
+fn mates_of(points: &[Point], codes: &[PointCode]) -> Option<(PointCode, PointCode)>
+    requires { IsRising (λ p. p.code) points.now }
+    ensures { IfSome result (λ p. mates points.now p.0 p.1 ≡ true) }
+{
+    match codes {
+        [one, other] => {
+            if is_mate(points, *one, *other) {
+                return Some((*one, *other));
+            }
+            None
+        }
+        _ => None,
+    }
+}
+
+/// What is told of a loop that was found. It is looked at first.
+fn loop_fault(points: &[Point], dest: PointCode, rows: &[Row], codes: Vec<PointCode>) -> RankFault
+    requires rising { IsRising (λ p. p.code) points.now }
+    requires none { HasNoRanks points.now dest rows.now }
+    ensures { IsRankFault points.now dest rows.now result }
+{
+    if let Some((one, other)) = mates_of(points, codes.as_slice()) {
+        if is_loop(points, dest, rows, &[one, other]) {
+            return RankFault::MateLoop(one, other);
+        }
+    }
+    if is_loop(points, dest, rows, codes.as_slice()) {
+        return RankFault::Loop(codes);
+    }
+    RankFault::TooDeep
+}
+
 /// Why rows have no ranks: a loop that is met where each row leads on to what it needs most, from the row at a place on.
-/// What is found is looked at before it is told.
 pub(crate) fn rank_fault(
     alloc: Global,
     points: &[Point],
@@ -196,8 +237,5 @@ pub(crate) fn rank_fault(
 {
     let path = walk(alloc, needs, ranks, start)?;
     let codes = codes_of(alloc, rows, path.as_slice())?;
-    if is_loop(points, dest, rows, codes.as_slice()) {
-        return Ok(RankFault::Loop(codes));
-    }
-    Ok(RankFault::TooDeep)
+    Ok(loop_fault(points, dest, rows, codes))
 }

@@ -9,14 +9,16 @@ ghost use Rattle.net_sheets.specs.Ranks.{with_ranks};
 ghost use Rattle.net_sheets.specs.Events.{Leads, AddsPlan, AddsPlans};
 
 use crate::building::refused;
-use crate::faults::{LineFault, RankFault, Reason};
+use crate::faults::{RankFault, Reason, SpotFault};
 use crate::lists::push;
+use crate::places::Spot;
 use crate::ranks::least_ranks;
-use crate::records::line_of;
+use crate::records::spot_of;
 use crate::routes::Route;
-use crate::rows::{dest_of, read_rows};
+use crate::rows::{dest_of, point_of, read_rows};
 use csv::ByteRecord;
 use net_data::{Event, Net, Refusal};
+use net_items::lookups::is_point;
 use net_items::{GivenPlan, Plan, Row, Rows};
 use plan_rows::uses::is_in;
 use point_codes::PointCode;
@@ -49,64 +51,111 @@ fn apply_one(alloc: Global, net: &mut Net, event: Event) -> Result<(), Refusal>
     net.apply_owned(alloc, event)
 }
 
-/// The fault at a line of a plan whose rows have no ranks.
-fn unranked(line: u64, fault: RankFault) -> LineFault
-    ensures { (points : List Point) (dest : ℕ) (rows : List Row) → IsRankFault points dest rows fault → IsUnranked points dest rows result.reason }
+/// What is told of a plan whose rows have no ranks.
+fn unranked(fault: RankFault) -> Reason
+    ensures { (points : List Point) (dest : ℕ) (rows : List Row) → IsRankFault points dest rows fault → IsUnranked points dest rows result }
 {
-    let reason = match fault {
+    match fault {
         RankFault::OutOfMemory => Reason::OutOfMemory,
+        RankFault::MateLoop(one, other) => Reason::MateLoop(one, other),
         RankFault::Loop(points) => Reason::Loop(points),
         RankFault::TooDeep => Reason::TooDeep,
-    };
-    LineFault { line, reason }
+    }
 }
 
 /// Adds a plan of rows, with the least ranks.
-fn add_plan(
-    alloc: Global,
-    net: &mut Net,
-    line: u64,
-    dest: PointCode,
-    mut rows: Vec<Row>,
-) -> Result<(), LineFault>
+fn add_plan(alloc: Global, net: &mut Net, dest: PointCode, mut rows: Vec<Row>) -> Result<(), Reason>
     ensures ok { OnOk result (AddsPlan net.old dest rows.items net.new) }
-    ensures err { IfErr result (λ fault. IsPlanFault net.old dest rows.items fault.reason) }
+    ensures err { IfErr result (λ reason. IsPlanFault net.old dest rows.items reason) }
 {
     let ranks = match least_ranks(alloc, net, dest, rows.as_slice()) {
         Ok(ranks) => ranks,
-        Err(fault) => return Err(unranked(line, fault)),
+        Err(fault) => return Err(unranked(fault)),
     };
     set_ranks(&mut rows, ranks.as_slice());
     let event = plan_event(alloc, dest, rows)?;
     match apply_one(alloc, net, event) {
         Ok(()) => Ok(()),
-        Err(refusal) => Err(refused(line, refusal)),
+        Err(refusal) => Err(refused(refusal)),
     }
 }
 
-/// Adds the plans of ways, with the least ranks. The error is `Order` where the ways of one destination don't stand together.
+/// The spot of the first way from a place on that is of a point, or of the way at the place.
+fn spot_of_row(table: &[ByteRecord], routes: &[Route], start: usize, point: PointCode) -> Spot {
+    for place in start..routes.len() {
+        if point_of(&routes[place]) == point {
+            return spot_of(table, place, 0);
+        }
+    }
+    spot_of(table, start, 0)
+}
+
+/// The spot of the first point from a place on that the network doesn't have, or of the way at the place.
+fn spot_of_missing(table: &[ByteRecord], net: &Net, routes: &[Route], start: usize) -> Spot {
+    // The proof reads from this that the points stand in rising code.
+    net.validity();
+    for place in start..routes.len() {
+        if !is_point(net.points(), dest_of(&routes[place])) {
+            return spot_of(table, place, 1);
+        }
+        if !is_point(net.points(), point_of(&routes[place])) {
+            return spot_of(table, place, 2);
+        }
+    }
+    spot_of(table, start, 0)
+}
+
+/// The point whose row what is wrong with a plan is of.
+fn point_in(reason: &Reason) -> Option<PointCode> {
+    match reason {
+        Reason::Refused(Refusal::BadRow(point, _)) => Some(*point),
+        Reason::MateLoop(point, _) => Some(*point),
+        Reason::Loop(points) => points.as_slice().first().copied(),
+        _ => None,
+    }
+}
+
+/// The spot of what is wrong with the plan whose ways begin at a place.
+fn spot_in_plan(
+    table: &[ByteRecord],
+    net: &Net,
+    routes: &[Route],
+    start: usize,
+    reason: &Reason,
+) -> Spot {
+    match point_in(reason) {
+        Some(point) => spot_of_row(table, routes, start, point),
+        None => match reason {
+            Reason::Refused(Refusal::NoPoint) => spot_of_missing(table, net, routes, start),
+            _ => spot_of(table, start, 0),
+        },
+    }
+}
+
+/// Adds the plans of ways, with the least ranks.
 pub(crate) fn add_plans(
     alloc: Global,
     net: &mut Net,
     table: &[ByteRecord],
     routes: &[Route],
-) -> Result<(), LineFault>
+) -> Result<(), SpotFault>
     ensures ok { OnOk result (AddsPlans net.old routes.now net.new) }
     ensures err { IfErr result (λ fault. IsRoutesFault net.old routes.now fault.reason) }
 {
     let mut dests = Vec::new(alloc);
     let mut at = 0;
     while at < routes.len() {
-        let line = line_of(table, at);
         let dest = dest_of(&routes[at]);
         if is_in(dests.as_slice(), dest) {
-            return Err(LineFault {
-                line,
-                reason: Reason::Order,
-            });
+            let spot = spot_of(table, at, 0);
+            let reason = Reason::SplitDestination;
+            return Err(SpotFault { spot, reason });
         }
         let (rows, end) = read_rows(alloc, table, routes, dest, at)?;
-        add_plan(alloc, net, line, dest, rows)?;
+        if let Err(reason) = add_plan(alloc, net, dest, rows) {
+            let spot = spot_in_plan(table, net, routes, at, &reason);
+            return Err(SpotFault { spot, reason });
+        }
         push(&mut dests, dest)?;
         at = end;
     }

@@ -5,7 +5,8 @@ ghost use Rattle.net_sheets.specs.Events.{AddsPoints, AddsSets, AddsRoutes, Says
 ghost use Rattle.net_sheets.specs.Faults.{IsPointsFault, IsSetsFault, IsRoutesTextFault, IsFaultOf};
 
 use crate::building::{add_points, add_sets, pair_points};
-use crate::faults::{LineFault, Sheet, SheetFault};
+use crate::faults::{Sheet, SheetFault, SpotFault};
+use crate::places::place_of;
 use crate::plans::add_plans;
 use crate::records::read_table;
 use crate::values::{read_points, read_routes, read_sets};
@@ -13,7 +14,7 @@ use net_data::Net;
 use std::alloc::Global;
 
 /// Adds the points of a table and their mated pairs.
-fn add_points_of(alloc: Global, net: &mut Net, text: &[u8]) -> Result<(), LineFault>
+fn add_points_of(alloc: Global, net: &mut Net, text: &[u8]) -> Result<(), SpotFault>
     ensures ok { OnOk result (AddsPoints net.old text.now net.new) }
     ensures err { IfErr result (λ fault. IsPointsFault net.old text.now fault.reason) }
 {
@@ -26,7 +27,7 @@ fn add_points_of(alloc: Global, net: &mut Net, text: &[u8]) -> Result<(), LineFa
 }
 
 /// Adds the sets of a table.
-fn add_sets_of(alloc: Global, net: &mut Net, text: &[u8]) -> Result<(), LineFault>
+fn add_sets_of(alloc: Global, net: &mut Net, text: &[u8]) -> Result<(), SpotFault>
     ensures ok { OnOk result (AddsSets net.old text.now net.new) }
     ensures err { IfErr result (λ fault. IsSetsFault net.old text.now fault.reason) }
 {
@@ -43,7 +44,7 @@ fn add_sets_of(alloc: Global, net: &mut Net, text: &[u8]) -> Result<(), LineFaul
 }
 
 /// Adds the plans of a table of routes.
-fn add_routes_of(alloc: Global, net: &mut Net, text: &[u8]) -> Result<(), LineFault>
+fn add_routes_of(alloc: Global, net: &mut Net, text: &[u8]) -> Result<(), SpotFault>
     ensures ok { OnOk result (AddsRoutes net.old text.now net.new) }
     ensures err { IfErr result (λ fault. IsRoutesTextFault net.old text.now fault.reason) }
 {
@@ -59,14 +60,16 @@ fn add_routes_of(alloc: Global, net: &mut Net, text: &[u8]) -> Result<(), LineFa
     add_plans(alloc, net, records, routes.as_slice())
 }
 
-/// A fault of a table.
-fn on_sheet(sheet: Sheet, fault: LineFault) -> SheetFault
+/// A fault of a table with this text.
+fn on_sheet(sheet: Sheet, text: &[u8], fault: SpotFault) -> SheetFault
     ensures sheet { result.sheet ≡ sheet }
     ensures reason { result.reason ≡ fault.reason }
 {
+    let place = place_of(text, fault.spot);
     SheetFault {
         sheet,
-        line: fault.line,
+        line: place.line,
+        column: place.column,
         reason: fault.reason,
     }
 }
@@ -86,13 +89,13 @@ pub fn read_sheets(
 {
     let mut net = Net::empty(alloc, ni);
     if let Err(fault) = add_points_of(alloc, &mut net, points) {
-        return Err(on_sheet(Sheet::Points, fault));
+        return Err(on_sheet(Sheet::Points, points, fault));
     }
     if let Err(fault) = add_sets_of(alloc, &mut net, sets) {
-        return Err(on_sheet(Sheet::Sets, fault));
+        return Err(on_sheet(Sheet::Sets, sets, fault));
     }
     if let Err(fault) = add_routes_of(alloc, &mut net, routes) {
-        return Err(on_sheet(Sheet::Routes, fault));
+        return Err(on_sheet(Sheet::Routes, routes, fault));
     }
     Ok(net)
 }

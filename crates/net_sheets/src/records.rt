@@ -9,8 +9,9 @@ ghost use Rattle.csv.specs.declared.parser.State.TheVariants as st;
 ghost use Rattle.net_sheets.specs.Records.{IsTable, field as the_field};
 ghost use Rattle.net_sheets.specs.Faults.{IsTableFault};
 
-use crate::faults::{LineFault, Reason};
+use crate::faults::{Reason, SpotFault};
 use crate::lists::push;
+use crate::places::{Spot, start_of_text};
 use csv::{ByteRecord, ByteRecordsIntoIter, Error, ErrorKind, Position, Reader, ReaderBuilder};
 use std::alloc::Global;
 
@@ -41,19 +42,25 @@ fn records_of(alloc: Global, text: &[u8]) -> ByteRecordsIntoIter<&[u8]>
     reader_of(alloc, text).into_byte_records()
 }
 
-/// The line of a position, or the first.
-fn line_at(position: Option<Position>) -> u64 {
+/// The spot of the record at a position, or the start of the text.
+fn spot_at(position: Option<Position>) -> Spot {
     match position {
-        Some(position) => position.line(),
-        None => 1,
+        Some(position) => Spot {
+            byte: position.byte() as usize,
+            field: 0,
+        },
+        None => start_of_text(),
     }
 }
 
-/// The line of the record at a place.
-pub(crate) fn line_of(table: &[ByteRecord], place: usize) -> u64 {
+/// The spot of the record at a place, or of one of its fields, by its number from 1.
+pub(crate) fn spot_of(table: &[ByteRecord], place: usize, field: u8) -> Spot {
     match table.get(place) {
-        Some(record) => line_at(record.position()),
-        None => 1,
+        Some(record) => {
+            let byte = spot_at(record.position()).byte;
+            Spot { byte, field }
+        }
+        None => start_of_text(),
     }
 }
 
@@ -98,30 +105,30 @@ fn begins_with(alloc: Global, text: &[u8], header: &[&[u8]]) -> bool {
 enum Misread {
     /// Memory was refused.
     Memory,
-    /// At this line it is no CSV.
-    Line(u64),
+    /// At this spot it is no CSV.
+    At(Spot),
 }
 
 /// What an error of reading CSV says.
 fn cause_of(error: &Error) -> Misread {
     match error.kind() {
         ErrorKind::OutOfMemory => Misread::Memory,
-        ErrorKind::UnequalLengths { pos, .. } => Misread::Line(line_at(*pos)),
-        _ => Misread::Line(1),
+        ErrorKind::UnequalLengths { pos, .. } => Misread::At(spot_at(*pos)),
+        _ => Misread::At(start_of_text()),
     }
 }
 
 /// The fault of a text that isn't read as CSV.
-fn fault_of(misread: Misread) -> LineFault
+fn fault_of(misread: Misread) -> SpotFault
     ensures { IsTableFault result.reason }
 {
     match misread {
-        Misread::Memory => LineFault {
-            line: 1,
+        Misread::Memory => SpotFault {
+            spot: start_of_text(),
             reason: Reason::OutOfMemory,
         },
-        Misread::Line(line) => LineFault {
-            line,
+        Misread::At(spot) => SpotFault {
+            spot,
             reason: Reason::Csv,
         },
     }
@@ -155,7 +162,7 @@ fn read_all(alloc: Global, text: &[u8], rows: &mut Vec<ByteRecord>) -> Result<()
 }
 
 /// The records of a text, the header among them. The error is `Csv` or `OutOfMemory`.
-fn all_records(alloc: Global, text: &[u8]) -> Result<Vec<ByteRecord>, LineFault>
+fn all_records(alloc: Global, text: &[u8]) -> Result<Vec<ByteRecord>, SpotFault>
     ensures err { IfErr result (λ fault. IsTableFault fault.reason) }
     ensures ok { IfOk result (λ v. AreRecords default_config st.StartRecord (strip_bom text.now) (map fields_of v.items)) }
 {
@@ -166,20 +173,20 @@ fn all_records(alloc: Global, text: &[u8]) -> Result<Vec<ByteRecord>, LineFault>
     }
 }
 
-/// The line of the first record that doesn't have so many fields.
-fn misfit(records: &[ByteRecord], width: usize) -> Option<u64>
+/// The spot of the first record that doesn't have so many fields.
+fn misfit(records: &[ByteRecord], width: usize) -> Option<Spot>
     ensures { result ≡ None → All (λ fields. length (fields_of fields) ≡ width) records.now }
 {
     for record in records {
         if record.len() != width {
-            return Some(line_at(record.position()));
+            return Some(spot_at(record.position()));
         }
     }
     None
 }
 
 /// What is wrong with the header or with the width of a record.
-fn table_fault(table: &[ByteRecord], header: &[&[u8]]) -> Option<LineFault>
+fn table_fault(table: &[ByteRecord], header: &[&[u8]]) -> Option<SpotFault>
     ensures some { result ≡ None → 1 ≤ length table.now }
     ensures header { result ≡ None → map fields_of table.now ≡ map (λ name. name.now) header.now ∷ map fields_of (drop 1 table.now) }
     ensures fault { IfSome result (λ fault. IsTableFault fault.reason) }
@@ -188,21 +195,21 @@ fn table_fault(table: &[ByteRecord], header: &[&[u8]]) -> Option<LineFault>
     match table {
         [first, others @ ..] => {
             if !is_header(first, header) {
-                return Some(LineFault {
-                    line: line_at(first.position()),
+                return Some(SpotFault {
+                    spot: spot_at(first.position()),
                     reason: Reason::Columns,
                 });
             }
             match misfit(others, header.len()) {
-                Some(line) => Some(LineFault {
-                    line,
+                Some(spot) => Some(SpotFault {
+                    spot,
                     reason: Reason::Csv,
                 }),
                 None => None,
             }
         }
-        [] => Some(LineFault {
-            line: 1,
+        [] => Some(SpotFault {
+            spot: start_of_text(),
             reason: Reason::Columns,
         }),
     }
@@ -213,7 +220,7 @@ pub(crate) fn read_table(
     alloc: Global,
     text: &[u8],
     header: &[&[u8]],
-) -> Result<Vec<ByteRecord>, LineFault>
+) -> Result<Vec<ByteRecord>, SpotFault>
     ensures err { IfErr result (λ fault. IsTableFault fault.reason) }
     ensures some { IfOk result (λ table. 1 ≤ vec_len table) }
     ensures table { IfOk result (λ table. IsTable (map (λ name. name.now) header.now) text.now (map fields_of (drop 1 table.items))) }
@@ -224,8 +231,8 @@ pub(crate) fn read_table(
             if begins_with(alloc, text, header) {
                 return Err(fault);
             }
-            return Err(LineFault {
-                line: 1,
+            return Err(SpotFault {
+                spot: start_of_text(),
                 reason: Reason::Columns,
             });
         }

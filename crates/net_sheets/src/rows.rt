@@ -1,14 +1,15 @@
 //! The rows of plans, from their ways.
 
-ghost use Rattle.std.specs.Prelude.{◌≡◌, ◌<◌, ◌≤◌, ◌-◌, map, take, drop, length, true, IfOk, IfErr, [], ◌∷◌, ◌++◌, ◌+◌};
+ghost use Rattle.std.specs.Prelude.{◌≡◌, ◌<◌, ◌≤◌, ◌-◌, List, map, take, drop, length, true, IfOk, IfErr, [], ◌∷◌, ◌++◌, ◌+◌};
 ghost use Rattle.std.specs.List.{flat_map};
 ghost use Rattle.std.specs.Option.{IfSome};
+ghost use Rattle.net_sheets.specs.declared.routes.Route.{Route};
 ghost use Rattle.net_sheets.specs.Tables.{class_routes, row_routes};
-ghost use Rattle.net_sheets.specs.Faults.{IsOrderFault};
+ghost use Rattle.net_sheets.specs.Faults.{is_via_of as a_via_of, is_via_at as a_via_at, are_two_before as two_before, is_third_way as a_third_way, is_third as a_third, IsRowsFault};
 
-use crate::faults::{LineFault, Reason};
+use crate::faults::{Reason, SpotFault};
 use crate::lists::push;
-use crate::records::line_of;
+use crate::records::spot_of;
 use crate::routes::Route;
 use csv::ByteRecord;
 use net_items::{Classes, Row, Vias};
@@ -24,7 +25,7 @@ pub(crate) fn dest_of(route: &Route) -> PointCode {
 }
 
 /// The point of a way.
-fn point_of(route: &Route) -> PointCode {
+pub(crate) fn point_of(route: &Route) -> PointCode {
     match route {
         Route::Via(_, point, _, _) => *point,
         Route::Mate(_, point) => *point,
@@ -152,17 +153,136 @@ fn read_row(
     Ok((row, count))
 }
 
-/// The rows of a plan that the ways from a place on say, and the place after the plan. The error is `Order` where a row
-/// doesn't begin with its first class or its mate.
+/// Whether a way is a via of this class of this row.
+fn is_via_of(route: &Route, dest: PointCode, point: PointCode, class: usize) -> bool
+    ensures { result ≡ a_via_of dest point class route.now }
+{
+    match route {
+        Route::Via(to, from, number, _) => *to == dest && *from == point && *number == class,
+        Route::Mate(_, _) => false,
+    }
+}
+
+/// Whether the way at a place is a via of this class of this row.
+fn is_via_at(
+    routes: &[Route],
+    place: usize,
+    dest: PointCode,
+    point: PointCode,
+    class: usize,
+) -> bool
+    ensures { result ≡ a_via_at routes.now place dest point class }
+{
+    match routes.get(place) {
+        Some(route) => is_via_of(route, dest, point, class),
+        None => false,
+    }
+}
+
+/// Whether the two ways before a place are vias of this class of this row.
+fn are_two_before(
+    routes: &[Route],
+    place: usize,
+    dest: PointCode,
+    point: PointCode,
+    class: usize,
+) -> bool
+    ensures { result ≡ two_before routes.now place dest point class }
+{
+    place >= 2
+        && is_via_at(routes, place - 2, dest, point, class)
+        && is_via_at(routes, place - 1, dest, point, class)
+}
+
+/// Whether a way at a place is a third via of its class.
+fn is_third_way(routes: &[Route], place: usize, route: &Route) -> bool
+    ensures { result ≡ a_third_way routes.now place route.now }
+{
+    match route {
+        Route::Via(dest, point, class, _) => are_two_before(routes, place, *dest, *point, *class),
+        Route::Mate(_, _) => false,
+    }
+}
+
+/// Whether at a place stands a third via of its class.
+fn is_third(routes: &[Route], place: usize) -> bool
+    ensures { result ≡ a_third routes.now place }
+{
+    match routes.get(place) {
+        Some(route) => is_third_way(routes, place, route),
+        None => false,
+    }
+}
+
+/// The place of the first third via of a class, among the ways from one place to another.
+fn third_via(routes: &[Route], start: usize, end: usize) -> Option<usize>
+    ensures { IfSome result (λ place. a_third routes.now place ≡ true) }
+{
+    for place in start..end {
+        if is_third(routes, place) {
+            return Some(place);
+        }
+    }
+    None
+}
+
+/// What is wrong with one more row of a point after these, if anything: the point has one of them.
+fn order_fault(rows: &[Row], point: PointCode) -> Option<Reason>
+    ensures { (routes : List Route) → IfSome result (IsRowsFault routes) }
+{
+    if !rows.iter().any(|row| row.point == point) {
+        return None;
+    }
+    match rows.last() {
+        Some(last) if last.point == point => Some(Reason::ClassOrder),
+        _ => Some(Reason::SplitPoint),
+    }
+}
+
+/// The row after these that the ways from a place on say, and how many ways it has.
+fn next_row(
+    alloc: Global,
+    table: &[ByteRecord],
+    routes: &[Route],
+    rows: &[Row],
+    dest: PointCode,
+    at: usize,
+) -> Result<(Row, usize), SpotFault>
+    requires { at < length routes.now }
+    ensures err { IfErr result (λ fault. IsRowsFault routes.now fault.reason) }
+    ensures some { IfOk result (λ p. 0 < p.1) }
+    ensures within { IfOk result (λ p. at + p.1 ≤ length routes.now) }
+    ensures row { IfOk result (λ p. row_routes dest p.0 ≡ take p.1 (drop at routes.now)) }
+{
+    let point = point_of(&routes[at]);
+    if let Some(reason) = order_fault(rows, point) {
+        let spot = spot_of(table, at, 0);
+        return Err(SpotFault { spot, reason });
+    }
+    let (row, count) = read_row(alloc, dest, point, &routes[at..])?;
+    if count == 0 {
+        let spot = spot_of(table, at, 0);
+        let reason = Reason::ClassOrder;
+        return Err(SpotFault { spot, reason });
+    }
+    if let Some(third) = third_via(routes, at, at + count) {
+        let spot = spot_of(table, third, 0);
+        let reason = Reason::ThirdVia;
+        return Err(SpotFault { spot, reason });
+    }
+    Ok((row, count))
+}
+
+/// The rows of a plan that the ways from a place on say, and the place after the plan.
 pub(crate) fn read_rows(
     alloc: Global,
     table: &[ByteRecord],
     routes: &[Route],
     dest: PointCode,
     start: usize,
-) -> Result<(Vec<Row>, usize), LineFault>
+) -> Result<(Vec<Row>, usize), SpotFault>
     requires { start < length routes.now }
-    ensures err { IfErr result (λ fault. IsOrderFault fault.reason) }
+    ensures err { IfErr result (λ fault. IsRowsFault routes.now fault.reason) }
     ensures after { IfOk result (λ p. start < p.1) }
     ensures within { IfOk result (λ p. p.1 ≤ length routes.now) }
     ensures some { IfOk result (λ p. 0 < length p.0.items) }
@@ -171,13 +291,7 @@ pub(crate) fn read_rows(
     let mut rows = Vec::new(alloc);
     let mut at = start;
     while at < routes.len() {
-        let (row, count) = read_row(alloc, dest, point_of(&routes[at]), &routes[at..])?;
-        if count == 0 {
-            return Err(LineFault {
-                line: line_of(table, at),
-                reason: Reason::Order,
-            });
-        }
+        let (row, count) = next_row(alloc, table, routes, rows.as_slice(), dest, at)?;
         push(&mut rows, row)?;
         at += count;
         if !is_of(routes, at, dest) {

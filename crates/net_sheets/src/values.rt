@@ -6,12 +6,12 @@ ghost use Rattle.tokens.specs.Marked.{marked_of};
 ghost use Rattle.tokens.specs.Pieces.{pieces_of};
 ghost use Rattle.tokens.specs.declared.marked.Format.TheVariants.{Two};
 ghost use Rattle.net_sheets.specs.Records.{field as the_field};
-ghost use Rattle.net_sheets.specs.Values.{mate_in, point_of, set_of, way_of, route_of, all_read};
-ghost use Rattle.net_sheets.specs.Faults.{IsFieldFault};
+ghost use Rattle.net_sheets.specs.Values.{mate_in, point_of, set_of, class_in, way_of, route_of, all_read};
+ghost use Rattle.net_sheets.specs.Faults.{IsFieldFault, reason_of};
 
-use crate::faults::{LineFault, Reason};
+use crate::faults::{Flaw, Reason, SpotFault};
 use crate::lists::push;
-use crate::records::{field, line_of};
+use crate::records::{field, spot_of};
 use crate::routes::Route;
 use csv::ByteRecord;
 use net_items::{Link, LinkSet, Links, Point};
@@ -32,13 +32,13 @@ fn read_mate(text: &[u8]) -> Option<Option<PointCode>>
     }
 }
 
-/// A record of the table of points. The error is the number of the column whose text isn't of its kind.
-fn read_point(record: &ByteRecord) -> Result<Point, u8>
+/// A record of the table of points. The error is the first flaw.
+fn read_point(record: &ByteRecord) -> Result<Point, Flaw>
     ensures { result ≡ point_of (fields_of record.now) }
 {
-    let code = read_code(field(record, 0)).ok_or(1)?;
-    let kind = read_kind(field(record, 1)).ok_or(2)?;
-    let mate = read_mate(field(record, 2)).ok_or(3)?;
+    let code = read_code(field(record, 0)).ok_or(Flaw::Column(1))?;
+    let kind = read_kind(field(record, 1)).ok_or(Flaw::Column(2))?;
+    let mate = read_mate(field(record, 2)).ok_or(Flaw::Column(3))?;
     Ok(Point { code, kind, mate })
 }
 
@@ -62,54 +62,74 @@ fn read_links(alloc: Global, text: &[u8]) -> Result<Option<Vec<Link>>, AllocErro
     Ok(Some(links))
 }
 
-/// The set of a record with these links. The error is the number of the column whose text isn't of its kind.
-fn set_with(record: &ByteRecord, links: Option<Vec<Link>>) -> Result<LinkSet, u8>
+/// The set of a record with these links. The error is the first flaw.
+fn set_with(record: &ByteRecord, links: Option<Vec<Link>>) -> Result<LinkSet, Flaw>
     ensures { option_map (λ v. v.items) links ≡ pieces_of 32 (marked_of Two) (the_field (fields_of record.now) 3) → result ≡ set_of (fields_of record.now) }
 {
-    let id = read_id(field(record, 0)).ok_or(1)?;
-    let a = read_code(field(record, 1)).ok_or(2)?;
-    let b = read_code(field(record, 2)).ok_or(3)?;
-    let links = links.ok_or(4)?;
+    let id = read_id(field(record, 0)).ok_or(Flaw::Column(1))?;
+    let a = read_code(field(record, 1)).ok_or(Flaw::Column(2))?;
+    let b = read_code(field(record, 2)).ok_or(Flaw::Column(3))?;
+    let links = links.ok_or(Flaw::Column(4))?;
     let links = Links::from_vec(links);
     Ok(LinkSet { id, a, b, links })
 }
 
-/// The way that a class and a via say. The error is the number of the column whose text isn't of its kind.
-fn read_way(dest: PointCode, point: PointCode, class: &[u8], via: &[u8]) -> Result<Route, u8>
+/// A class from 1 to 4.
+fn read_class(text: &[u8]) -> Result<usize, Flaw>
+    ensures { result ≡ class_in text.now }
+{
+    if text == b"5".as_slice() {
+        return Err(Flaw::FifthClass);
+    }
+    let class = read_number(text, 4).ok_or(Flaw::Column(3))?;
+    if class == 0 {
+        return Err(Flaw::Column(3));
+    }
+    Ok(class as usize)
+}
+
+/// The way that a class and a via say. The error is the first flaw.
+fn read_way(dest: PointCode, point: PointCode, class: &[u8], via: &[u8]) -> Result<Route, Flaw>
     ensures { result ≡ way_of dest point class.now via.now }
 {
     if class == b"mate".as_slice() {
         if via.is_empty() {
             return Ok(Route::Mate(dest, point));
         }
-        return Err(4);
+        return Err(Flaw::Column(4));
     }
-    let class = read_number(class, 255).ok_or(3)?;
-    let via = read_code(via).ok_or(4)?;
-    Ok(Route::Via(dest, point, class as usize, via))
+    let class = read_class(class)?;
+    let via = read_code(via).ok_or(Flaw::Column(4))?;
+    Ok(Route::Via(dest, point, class, via))
 }
 
-/// A record of the table of routes. The error is the number of the column whose text isn't of its kind.
-fn read_route(record: &ByteRecord) -> Result<Route, u8>
+/// A record of the table of routes. The error is the first flaw.
+fn read_route(record: &ByteRecord) -> Result<Route, Flaw>
     ensures { result ≡ route_of (fields_of record.now) }
 {
-    let dest = read_code(field(record, 0)).ok_or(1)?;
-    let point = read_code(field(record, 1)).ok_or(2)?;
+    let dest = read_code(field(record, 0)).ok_or(Flaw::Column(1))?;
+    let point = read_code(field(record, 1)).ok_or(Flaw::Column(2))?;
     read_way(dest, point, field(record, 2), field(record, 3))
 }
 
-/// The fault of a column of a record.
-fn field_fault(table: &[ByteRecord], place: usize, column: u8) -> LineFault
-    ensures { result.reason ≡ Reason.Field column }
+/// The fault of the record at a place that says nothing.
+fn flaw_fault(table: &[ByteRecord], place: usize, flaw: Flaw) -> SpotFault
+    ensures { result.reason ≡ reason_of flaw }
 {
-    LineFault {
-        line: line_of(table, place),
-        reason: Reason::Field(column),
+    match flaw {
+        Flaw::Column(column) => SpotFault {
+            spot: spot_of(table, place, column),
+            reason: Reason::Field(column),
+        },
+        Flaw::FifthClass => SpotFault {
+            spot: spot_of(table, place, 3),
+            reason: Reason::FifthClass,
+        },
     }
 }
 
 /// The points of records.
-pub(crate) fn read_points(alloc: Global, table: &[ByteRecord]) -> Result<Vec<Point>, LineFault>
+pub(crate) fn read_points(alloc: Global, table: &[ByteRecord]) -> Result<Vec<Point>, SpotFault>
     ensures ok { IfOk result (λ points. all_read point_of (map fields_of table.now) ≡ Ok points.items) }
     ensures err { IfErr result (λ fault. IsFieldFault (all_read point_of (map fields_of table.now)) fault.reason) }
 {
@@ -117,14 +137,14 @@ pub(crate) fn read_points(alloc: Global, table: &[ByteRecord]) -> Result<Vec<Poi
     for (i, record) in table.iter().enumerate() {
         match read_point(record) {
             Ok(point) => push(&mut points, point)?,
-            Err(column) => return Err(field_fault(table, i, column)),
+            Err(flaw) => return Err(flaw_fault(table, i, flaw)),
         }
     }
     Ok(points)
 }
 
 /// The sets of records.
-pub(crate) fn read_sets(alloc: Global, table: &[ByteRecord]) -> Result<Vec<LinkSet>, LineFault>
+pub(crate) fn read_sets(alloc: Global, table: &[ByteRecord]) -> Result<Vec<LinkSet>, SpotFault>
     ensures ok { IfOk result (λ sets. all_read set_of (map fields_of table.now) ≡ Ok sets.items) }
     ensures err { IfErr result (λ fault. IsFieldFault (all_read set_of (map fields_of table.now)) fault.reason) }
 {
@@ -133,14 +153,14 @@ pub(crate) fn read_sets(alloc: Global, table: &[ByteRecord]) -> Result<Vec<LinkS
         let links = read_links(alloc, field(record, 3))?;
         match set_with(record, links) {
             Ok(set) => push(&mut sets, set)?,
-            Err(column) => return Err(field_fault(table, i, column)),
+            Err(flaw) => return Err(flaw_fault(table, i, flaw)),
         }
     }
     Ok(sets)
 }
 
 /// The ways of records.
-pub(crate) fn read_routes(alloc: Global, table: &[ByteRecord]) -> Result<Vec<Route>, LineFault>
+pub(crate) fn read_routes(alloc: Global, table: &[ByteRecord]) -> Result<Vec<Route>, SpotFault>
     ensures ok { IfOk result (λ routes. all_read route_of (map fields_of table.now) ≡ Ok routes.items) }
     ensures err { IfErr result (λ fault. IsFieldFault (all_read route_of (map fields_of table.now)) fault.reason) }
 {
@@ -148,7 +168,7 @@ pub(crate) fn read_routes(alloc: Global, table: &[ByteRecord]) -> Result<Vec<Rou
     for (i, record) in table.iter().enumerate() {
         match read_route(record) {
             Ok(route) => push(&mut routes, route)?,
-            Err(column) => return Err(field_fault(table, i, column)),
+            Err(flaw) => return Err(flaw_fault(table, i, flaw)),
         }
     }
     Ok(routes)

@@ -1,5 +1,5 @@
--- Where the points stand in an SVG picture (own), in pixels from its upper left corner. It is 1,200 pixels wide.
--- Mated transfer points stand side by side, in bands of two pairs. In the middle stand the pairs that no end point belongs to; above and below them those that have end points, with these on their outer side, in rows of ten. At the bottom stand the end points that no set joins to a transfer point, in rows of twenty.
+-- Where the points stand in an SVG picture (own), in pixels from its upper left corner. It is 1,200 pixels wide or more.
+-- Mated transfer points stand side by side, in bands of eight pairs. In the middle stand the pairs that no end point belongs to; above it the first half of those that have end points, and below it the others, with the end points on their outer side, fanned out in 24 columns: on one rank if no pair has more than six, else on two, or on more where the columns are full. An end point of an outer rank stands between two of the rank within, so that lines reach it. At the bottom stand the end points that no set joins to a transfer point, in rows of twelve.
 use Rattle.std.specs.Prelude.{◌≤◌, ℕ, ◌+◌, ◌-◌, ◌*◌, ◌/◌, ◌%◌, ◌==◌, ◌&&◌, nat_lt, min, max, not, Bool, true, false, List, [], ◌∷◌, Option, Some, None, is_some, if◌then◌else◌, map, find, position, length}
 use Rattle.std.specs.List.{count_by, flat_map, fold}
 use Rattle.std.specs.Option.{option_map, option_map_or, option_and_then}
@@ -10,6 +10,7 @@ use Rattle.net_data.specs.Network.{Network}
 use Rattle.link_sets.specs.Neighbours.{other_end_of}
 use Rattle.profile.specs.Local.{is_at}
 use Rattle.pictures.specs.declared.stands.Stand.{Stand}
+use Rattle.pictures.specs.declared.frame.Canvas.{Canvas}
 use Rattle.pictures.specs.declared.places.Spot.{Spot}
 use Rattle.pictures.specs.declared.places.Place.{Place}
 
@@ -71,27 +72,23 @@ heads_of stands inhabited = flat_map (head_in stands inhabited) stands
 
 -- ---- the frame that the places rest on
 
--- the pairs that have end points, those that have none, how many rows of end points a pair has at most, and how many end points belong to none
+-- the pairs that have end points, those that have none, the most end points that a pair has, and how many end points belong to none
 pub record FrameValue : Type 0 where
   pub hubs : List ℕ
   pub transits : List ℕ
-  pub rows : ℕ
+  pub most : ℕ
   pub lone : ℕ
 
--- how many rows of ten so many end points fill
-abbrev pub rows_for : ℕ → ℕ
-rows_for n = (n + 9) / 10
-
--- the most rows that the end points of one of these pairs fill
-abbrev pub most_rows : List Stand → List ℕ → ℕ
-most_rows stands hubs = fold (λ most h. max most (rows_for (end_count stands (Some h)))) 0 hubs
+-- the most end points that one of these pairs has
+abbrev pub most_ends : List Stand → List ℕ → ℕ
+most_ends stands hubs = fold (λ most h. max most (end_count stands (Some h))) 0 hubs
 
 -- the frame of a network's points
 abbrev pub frame_of : List Stand → FrameValue
 frame_of stands = record {
   hubs = heads_of stands true;
   transits = heads_of stands false;
-  rows = most_rows stands (heads_of stands true);
+  most = most_ends stands (heads_of stands true);
   lone = end_count stands None;
 }
 
@@ -99,74 +96,131 @@ frame_of stands = record {
 pub record IsFewIn (f : FrameValue) : Type 0 where
   pub hubs : length f.hubs ≤ 1024
   pub transits : length f.transits ≤ 1024
-  pub rows : f.rows ≤ 1024
+  pub most : f.most ≤ 1024
   pub lone : f.lone ≤ 1024
 
--- how many bands of two so many pairs fill
+-- ---- how high
+
+-- end points stand on more than one rank
+abbrev pub is_staggered : FrameValue → Bool
+is_staggered f = nat_lt 6 f.most
+
+-- how many ranks there are
+abbrev pub rank_count : FrameValue → ℕ
+rank_count f = if is_staggered f then 2 * ((f.most + 23) / 24) else 1
+
+-- the rank of the j-th end point of a pair, the first one nearest to the transfer points
+abbrev pub rank_of : FrameValue → ℕ → ℕ
+rank_of f j = if is_staggered f then 2 * (j / 24) + j % 2 else 0
+
+-- how many bands of eight so many pairs fill
 abbrev pub bands_for : ℕ → ℕ
-bands_for n = (n + 1) / 2
+bands_for n = (n + 7) / 8
+
+-- how many pairs with end points stand above the middle: the first half
+abbrev pub half_of : FrameValue → ℕ
+half_of f = (length f.hubs + 1) / 2
 
 -- how high a band of pairs with end points is
 abbrev pub band_height : FrameValue → ℕ
-band_height f = 280 + 44 * f.rows
+band_height f = 440 + 72 * rank_count f
 
--- how many of these bands stand above the middle: the first half
-abbrev pub bands_above : FrameValue → ℕ
-bands_above f = bands_for (bands_for (length f.hubs))
+-- where the middle begins: below the title and the legend, which take 100, and the bands above it
+abbrev pub middle_top : FrameValue → ℕ
+middle_top f = 100 + bands_for (half_of f) * band_height f
 
--- how high the middle is, where a band of pairs without end points takes 190
-abbrev pub middle_height : FrameValue → ℕ
-middle_height f = 190 * bands_for (length f.transits)
+-- where it ends: a band of pairs without end points takes 190
+abbrev pub middle_end : FrameValue → ℕ
+middle_end f = middle_top f + 190 * bands_for (length f.transits)
 
--- where a band of pairs with end points begins: below the legend, which takes 70, and below the middle if it isn't above it
-abbrev pub band_top : FrameValue → ℕ → ℕ
-band_top f band = 70 + band * band_height f + (if nat_lt band (bands_above f) then 0 else middle_height f)
-
--- how high the transfer points of such a band stand: its end points are above them if it is above the middle, and else below
-abbrev pub hub_y : FrameValue → ℕ → ℕ
-hub_y f band = band_top f band + (if nat_lt band (bands_above f) then 180 + 44 * f.rows else 100)
-
--- how high a row of its end points stands, the first one nearest to the transfer points
-abbrev pub row_y : FrameValue → ℕ → ℕ → ℕ
-row_y f band row = band_top f band + (if nat_lt band (bands_above f) then 22 + 44 * (f.rows - (row + 1)) else 302 + 44 * row)
-
--- how high the transfer points of a band in the middle stand
-abbrev pub transit_y : FrameValue → ℕ → ℕ
-transit_y f band = 70 + bands_above f * band_height f + 190 * band + 95
-
--- where all bands end
+-- where the bands below it end
 abbrev pub bands_end : FrameValue → ℕ
-bands_end f = 70 + bands_for (length f.hubs) * band_height f + middle_height f
+bands_end f = middle_end f + bands_for (length f.hubs - half_of f) * band_height f
 
 -- how high the picture is, with the rows of end points that belong to no pair
-abbrev pub picture_height : FrameValue → ℕ
-picture_height f = bands_end f + 44 * ((f.lone + 19) / 20) + 20
+abbrev pub canvas_height : FrameValue → ℕ
+canvas_height f = bands_end f + 60 * ((f.lone + 11) / 12) + 20
 
--- where the 600 pixels of the i-th of n pairs begin: two pairs share a band, and a last one alone stands in its middle
-abbrev pub pair_left : ℕ → ℕ → ℕ
-pair_left i n = if i % 2 == 0 && i + 1 == n then 300 else 600 * (i % 2)
+-- how high the bands before that of the i-th pair of its side are together
+abbrev pub bands_before : FrameValue → ℕ → ℕ
+bands_before f i = (i / 8) * band_height f
+
+-- how high the transfer points of a pair stand: the i-th one above the middle, or below it
+abbrev pub hub_y : FrameValue → Bool → ℕ → ℕ
+hub_y f above i = if above then 100 + bands_before f i + (288 + 72 * rank_count f) else middle_end f + bands_before f i + 152
+
+-- how high a rank of its end points stands
+abbrev pub rank_y : FrameValue → Bool → ℕ → ℕ → ℕ
+rank_y f above i rank =
+    if above then 100 + bands_before f i + (120 + 72 * (rank_count f - (rank + 1))) else middle_end f + bands_before f i + (392 + 72 * rank)
+
+-- how high the transfer points of the i-th pair in the middle stand
+abbrev pub transit_y : FrameValue → ℕ → ℕ
+transit_y f i = middle_top f + (190 * (i / 8) + 95)
+
+-- ---- how wide
+
+-- how wide the place of a pair with end points is
+abbrev pub cell_width : FrameValue → ℕ
+cell_width f = max (46 * min f.most 24 + 30) 450
+
+-- how wide the picture is
+abbrev pub canvas_width : FrameValue → ℕ
+canvas_width f = max (max (min (half_of f) 8 * cell_width f) (300 * min (length f.transits) 8)) 1200
+
+-- the canvas of a picture
+abbrev pub canvas_of : FrameValue → Canvas
+canvas_of f = record { width = canvas_width f; height = canvas_height f }
+
+-- where the place of the i-th of n pairs begins, each so wide: eight share a band, which is centred
+abbrev pub cell_left : FrameValue → ℕ → ℕ → ℕ → ℕ
+cell_left f wide i n = (canvas_width f - min (n - 8 * (i / 8)) 8 * wide) / 2 + (i % 8) * wide
+
+-- how far to the right of a spot a transfer point stands: by 180 if it has a mate of a lower code
+abbrev pub side_of : Point → ℕ
+side_of p = option_map_or (λ m. if nat_lt p.code m then 0 else 180) p.mate 90
+
+-- how far k columns of end points reach
+abbrev pub spread : FrameValue → ℕ → ℕ
+spread f k = if is_staggered f then 46 * k else 70 * k
 
 -- ---- the places
 
--- how far from there a transfer point stands: that of the lower code by `gap` left of the middle, its mate right of it, one without a mate in the middle
-abbrev pub side_of : ℕ → Point → ℕ
-side_of gap p = option_map_or (λ m. if nat_lt p.code m then 300 - gap else 300 + gap) p.mate 300
+-- the pair at a place in the list of those that have end points stands above the middle
+abbrev pub is_above : FrameValue → ℕ → Bool
+is_above f at = nat_lt at (half_of f)
 
--- a transfer point of the i-th pair that has end points
+-- its place among those on its side of the middle
+abbrev pub place_in : FrameValue → ℕ → ℕ
+place_in f at = if is_above f at then at else at - half_of f
+
+-- how many there are on its side
+abbrev pub side_count : FrameValue → ℕ → ℕ
+side_count f at = if is_above f at then half_of f else length f.hubs - half_of f
+
+-- the middle of its place
+abbrev pub hub_x : FrameValue → ℕ → ℕ
+hub_x f at = cell_left f (cell_width f) (place_in f at) (side_count f at) + cell_width f / 2
+
+-- a transfer point of a pair that has end points
 abbrev pub hub_spot : FrameValue → Point → ℕ → Spot
-hub_spot f p i = record { x = pair_left i (length f.hubs) + side_of 110 p; y = hub_y f (i / 2) }
+hub_spot f p at = record { x = hub_x f at + side_of p - 90; y = hub_y f (is_above f at) (place_in f at) }
 
 -- one of the i-th pair that has none
 abbrev pub transit_spot : FrameValue → Point → ℕ → Spot
-transit_spot f p i = record { x = pair_left i (length f.transits) + side_of 150 p; y = transit_y f (i / 2) }
+transit_spot f p i = record { x = cell_left f 300 i (length f.transits) + 60 + side_of p; y = transit_y f i }
 
--- the j-th of n end points of the i-th pair: the rows are centred
-abbrev pub row_spot : FrameValue → ℕ → ℕ → ℕ → Spot
-row_spot f i j n = record { x = pair_left i (length f.hubs) + 329 + 58 * (j % 10) - 29 * min 10 (n - 10 * (j / 10)); y = row_y f (i / 2) (j / 10) }
+-- how far to the right the j-th of n end points of a pair stands: they are centred
+abbrev pub rank_x : FrameValue → ℕ → ℕ → ℕ → ℕ
+rank_x f at j n = hub_x f at + spread f (j % 24) - spread f (min (n - 24 * (j / 24)) 24 - 1) / 2
+
+-- where it stands
+abbrev pub rank_spot : FrameValue → ℕ → ℕ → ℕ → Spot
+rank_spot f at j n = record { x = rank_x f at j n; y = rank_y f (is_above f at) (place_in f at) (rank_of f j) }
 
 -- the j-th end point that belongs to no pair
 abbrev pub lone_spot : FrameValue → ℕ → Spot
-lone_spot f j = record { x = 30 + 60 * (j % 20); y = bands_end f + 22 + 44 * (j / 20) }
+lone_spot f j = record { x = 60 + 90 * (j % 12); y = bands_end f + 30 + 60 * (j / 12) }
 
 -- the upper left corner
 abbrev pub corner : Spot
@@ -183,7 +237,7 @@ stp_spot f p h = option_map_or (hub_spot f p) (index_of f.hubs h) (option_map_or
 -- where an end point of a pair stands
 abbrev pub end_spot : FrameValue → List Stand → ℕ → ℕ → Spot
 end_spot f stands c h =
-    option_map_or (λ i. row_spot f i (ends_before stands (Some h) c) (end_count stands (Some h))) (index_of f.hubs h) corner
+    option_map_or (λ at. rank_spot f at (ends_before stands (Some h) c) (end_count stands (Some h))) (index_of f.hubs h) corner
 
 -- where a point of a pair stands
 abbrev pub paired_spot : FrameValue → List Stand → Point → ℕ → Spot

@@ -1,10 +1,11 @@
 -- What a picture shows (own): how link sets stand (after Q.704 clause 3.2), and how each point leads its traffic to a destination (after clauses 2.3 and 13.2 to 13.4).
-use Rattle.std.specs.Prelude.{ℕ, ◌==◌, ◌||◌, not, Bool, false, List, [], ◌++◌, Option, map, is_some, if◌then◌else◌, codes}
+use Rattle.std.specs.Prelude.{ℕ, ◌==◌, ◌||◌, not, Bool, false, List, [], ◌++◌, Option, Some, None, map, is_some, if◌then◌else◌, codes}
 use Rattle.std.specs.List.{list_all, count_by, range_with_len}
-use Rattle.std.specs.Option.{option_map_or, option_and_then}
+use Rattle.std.specs.Option.{option_map, option_map_or, option_and_then}
 use Rattle.std.specs.Fmt.{decimal}
 use Rattle.point_codes.specs.Codes.{code_text}
 use Rattle.net_items.specs.declared.items.LinkSet.{LinkSet}
+use Rattle.net_items.specs.declared.items.Point.{Point}
 use Rattle.net_items.specs.declared.lists.Row.{Row}
 use Rattle.net_data.specs.Network.{Network}
 use Rattle.link_sets.specs.Availability.{link_available, set_available}
@@ -15,6 +16,8 @@ use Rattle.profile.specs.Local.{is_at, is_member}
 use Rattle.profile.specs.Status.{Source, source_row, status, choice}
 use Rattle.profile.specs.Whole.{carrier}
 use Rattle.excerpts.specs.Excerpt.{ExcerptValue, excerpt_at, source_of}
+use Rattle.pictures.specs.declared.drawn.DrawnPoint.{DrawnPoint}
+use Rattle.pictures.specs.declared.drawn.DrawnSet.{DrawnSet}
 use Rattle.pictures.specs.declared.faults.PictureFault.{PictureFault}
 use Rattle.pictures.specs.declared.faults.PictureFault.TheVariants as fault
 use Rattle.pictures.specs.declared.styles.Style.{Style}
@@ -61,25 +64,62 @@ row_share row c z = count_by (is_at z) (map (carrier row c) (range_with_len 0 16
 abbrev pub selections_over : Source → ℕ → ℕ → ℕ
 selections_over src y z = option_map_or (λ row. row_share row (choice src row) z) (source_row src y) 0
 
--- `: CODE N/16`: y leads so many signalling link selections over z; nothing if it leads none
-abbrev pub part_text : Source → ℕ → ℕ → List ℕ
-part_text src y z = if is_member_of_choice src y z then codes ": " ++ (code_text y ++ (codes " " ++ (decimal (selections_over src y z) ++ codes "/16"))) else []
+-- how many of them y leads over z, if it leads traffic to the destination over z
+abbrev pub share_towards : Source → ℕ → ℕ → Option ℕ
+share_towards src y z = if is_member_of_choice src y z then Some (selections_over src y z) else None
 
--- how the ends of a set lead traffic over it to a destination
-abbrev pub parts_text : Source → LinkSet → List ℕ
-parts_text src set = part_text src set.a set.b ++ part_text src set.b set.a
+-- the same in a picture, which may be asked about no destination
+abbrev pub share_of : Option ExcerptValue → ℕ → ℕ → Option ℕ
+share_of about y z = option_and_then (λ x. share_towards (source_of x) y z) about
+
+-- ---- what a picture draws
+
+-- a point in its colour
+abbrev pub drawn_point : Option ExcerptValue → Point → DrawnPoint
+drawn_point about p = record { point = p; colour = colour_of about p.code }
+
+-- a set in its style, with what its first end leads over it to the second, and the second to the first
+abbrev pub drawn_set : Option ExcerptValue → LinkSet → DrawnSet
+drawn_set about set = record {
+  id = set.id;
+  a = set.a;
+  b = set.b;
+  style = style_of set;
+  there = share_of about set.a set.b;
+  back = share_of about set.b set.a;
+}
+
+-- all points, in rising code
+abbrev pub drawn_points : Option ExcerptValue → Network → List DrawnPoint
+drawn_points about net = map (drawn_point about) net.points
+
+-- all sets, in rising id
+abbrev pub drawn_sets : Option ExcerptValue → Network → List DrawnSet
+drawn_sets about net = map (drawn_set about) net.sets
+
+-- ---- how both texts print it
+
+-- `: CODE N/16`: y leads so many signalling link selections this way; nothing if it leads none
+abbrev pub part_text : ℕ → Option ℕ → List ℕ
+part_text y share = option_map_or (λ n. codes ": " ++ (code_text y ++ (codes " " ++ (decimal n ++ codes "/16")))) share []
 
 -- the label of a set: `ID`, and how its ends lead traffic over it, as `36: 2-1-1 8/16`
-abbrev pub label_text : Option ExcerptValue → LinkSet → List ℕ
-label_text about set = decimal set.id ++ option_map_or (λ x. parts_text (source_of x) set) about []
+unfoldable pub label_text : DrawnSet → List ℕ
+label_text set = decimal set.id ++ (part_text set.a set.there ++ part_text set.b set.back)
 
 -- a set is bold if an end leads traffic over it
-abbrev pub is_bold : Option ExcerptValue → LinkSet → Bool
-is_bold about set = option_map_or (λ x. is_member_of_choice (source_of x) set.a set.b || is_member_of_choice (source_of x) set.b set.a) about false
+abbrev pub is_bold : DrawnSet → Bool
+is_bold set = is_some set.there || is_some set.back
+
+-- ---- what is asked
 
 -- what a picture is asked about: the excerpt of the destination, if one is given
 abbrev pub shown_of : Network → Option ℕ → Option ExcerptValue
 shown_of net about = option_and_then (excerpt_at net) about
+
+-- the destination, if one is asked about
+abbrev pub dest_of : Option ExcerptValue → Option ℕ
+dest_of about = option_map (λ (x : ExcerptValue). x.plan.dest) about
 
 -- the picture is asked about a destination that has no plan
 abbrev pub lacks_plan : Network → Option ℕ → Bool

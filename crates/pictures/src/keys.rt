@@ -26,7 +26,7 @@ fn put_line_keys(text: &mut String) -> Result<(), AllocError>
     ensures { OnOk result (string_bytes text.new ≡ string_bytes text.old ++ svg_line_keys) }
 {
     text.push_str(
-        "<g class='key'>\n<path d='M 20 20 H 60'/><text x='68' y='24'>all links available</text>\n<path class='dashed' d='M 190 20 H 230'/><text x='238' y='24'>some available</text>\n<path class='grey' d='M 340 20 H 380'/><text x='388' y='24'>none available</text>\n",
+        "<g class='key'>\n<path d='M 20 44 H 60'/><text x='68' y='48'>all links available</text>\n<path class='dashed' d='M 190 44 H 230'/><text x='238' y='48'>some available</text>\n<path class='grey' d='M 340 44 H 380'/><text x='388' y='48'>none available</text>\n",
     )
 }
 
@@ -36,7 +36,7 @@ fn put_bold_key(text: &mut String) -> Result<(), AllocError>
     ensures { OnOk result (string_bytes text.new ≡ string_bytes text.old ++ svg_bold_key) }
 {
     text.push_str(
-        "<path class='bold' d='M 490 20 H 530'/><text x='538' y='24'>the point named leads so many of the sixteen signalling link selections this way</text>\n",
+        "<path class='bold' d='M 490 44 H 530'/><path class='head' d='M 506 38 L 518 44 L 506 50 z'/><text x='538' y='48'>the point named leads so many of the sixteen signalling link selections this way</text>\n",
     )
 }
 
@@ -45,7 +45,7 @@ fn write_swatch(alloc: Global, x: u16, colour: Colour) -> Result<String, AllocEr
     ensures { IfOk result (λ text. string_bytes text ≡ svg_swatch x colour) }
 {
     let hex = hex_word(colour);
-    let text = format!(in alloc; "<rect x='{x}' y='36' width='24' height='14' fill='{hex}'/>")?;
+    let text = format!(in alloc; "<rect x='{x}' y='60' width='24' height='14' fill='{hex}'/>")?;
     Ok(text)
 }
 
@@ -54,7 +54,7 @@ fn write_name(alloc: Global, x: u16, colour: Colour) -> Result<String, AllocErro
     ensures { IfOk result (λ text. string_bytes text ≡ svg_name x colour) }
 {
     let name = name_of(colour);
-    let text = format!(in alloc; "<text x='{x}' y='47'>{name}</text>\n")?;
+    let text = format!(in alloc; "<text x='{x}' y='71'>{name}</text>\n")?;
     Ok(text)
 }
 

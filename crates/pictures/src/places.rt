@@ -2,7 +2,7 @@
 
 ghost use Rattle.std.specs.Prelude.{◌≡◌, ◌≤◌, ◌<◌, ◌==◌, IfOk, find, length};
 ghost use Rattle.std.specs.Option.{option_copied, IfSome};
-ghost use Rattle.pictures.specs.Layout.{end_spot as spot_of_end, frame_of, hub_spot as spot_of_hub, index_of as the_index, lone_spot as spot_of_lone, pair_left as left_of_pair, paired_spot as spot_of_paired, places_of as the_places, row_spot as spot_in_row, side_of as the_side, spot_at as the_spot_at, spot_of as the_spot, stp_spot as spot_of_stp, transit_spot as spot_of_transit};
+ghost use Rattle.pictures.specs.Layout.{end_spot as spot_of_end, frame_of, hub_spot as spot_of_hub, hub_x as x_of_hub, index_of as the_index, is_above as stands_above, lone_spot as spot_of_lone, paired_spot as spot_of_paired, place_in as the_place_in, places_of as the_places, rank_spot as spot_in_rank, rank_x as x_in_rank, side_count as count_on_side, side_of as the_side, spot_at as the_spot_at, spot_of as the_spot, stp_spot as spot_of_stp, transit_spot as spot_of_transit};
 
 use crate::frame::Frame;
 use crate::stands::{Stand, end_count, ends_before, is_transfer};
@@ -22,7 +22,7 @@ pub(crate) struct Spot {
 
 impl fmt::Display for Spot {
     ghost use Rattle.std.specs.Prelude.{Some};
-    ghost use Rattle.pictures.specs.Svg.{spot_text};
+    ghost use Rattle.pictures.specs.Curves.{spot_text};
 
     ghost output = { λ s. Some (spot_text s) };
 
@@ -53,68 +53,105 @@ fn index_of(pairs: &[PointCode], head: PointCode) -> Option<usize>
     pairs.iter().position(|pair| *pair == head)
 }
 
-/// Where the 600 pixels of one of so many pairs begin.
-fn pair_left(index: usize, count: usize) -> usize
-    requires { index ≤ 1024 }
-    ensures value { result ≡ left_of_pair index count }
-    ensures within { result ≤ 600 }
+/// How far to the right a transfer point stands of where its pair begins.
+fn side_of(point: &Point) -> usize
+    ensures value { result ≡ the_side point.now }
+    ensures within { result ≤ 180 }
 {
-    if index % 2 == 0 && index + 1 == count {
-        300
-    } else {
-        600 * (index % 2)
+    match point.mate {
+        Some(mate) if point.code.number() < mate.number() => 0,
+        Some(_) => 180,
+        None => 90,
     }
 }
 
-/// How far from there a transfer point stands, that far from the middle if it has a mate.
-fn side_of(gap: usize, point: &Point) -> usize
-    requires { gap ≤ 300 }
-    ensures value { result ≡ the_side gap point.now }
-    ensures within { result ≤ 600 }
+/// Whether a pair stands above the middle.
+fn is_above(frame: &Frame, at: usize) -> bool
+    ensures { result ≡ stands_above frame.now at }
 {
-    match point.mate {
-        Some(mate) if point.code.number() < mate.number() => 300 - gap,
-        Some(_) => 300 + gap,
-        None => 300,
+    at < frame.half()
+}
+
+/// The place of a pair among those on its side of the middle.
+fn place_in(frame: &Frame, at: usize) -> usize
+    requires { at ≤ 1024 }
+    ensures value { result ≡ the_place_in frame.now at }
+    ensures few { result ≤ 1024 }
+{
+    if at < frame.half() {
+        at
+    } else {
+        at - frame.half()
     }
+}
+
+/// How many pairs stand on its side of the middle.
+fn side_count(frame: &Frame, at: usize) -> usize
+    ensures value { result ≡ count_on_side frame.now at }
+    ensures few { result ≤ 1024 }
+{
+    if at < frame.half() {
+        frame.half()
+    } else {
+        frame.rest()
+    }
+}
+
+/// The middle of the place of a pair with end points.
+fn hub_x(frame: &Frame, at: usize) -> usize
+    requires { at ≤ 1024 }
+    ensures value { result ≡ x_of_hub frame.now at }
+    ensures low { result ≤ 40000 }
+    ensures inside { 225 ≤ result }
+{
+    let wide = frame.cell_width();
+    frame.cell_left(wide, place_in(frame, at), side_count(frame, at)) + wide / 2
 }
 
 /// Where a transfer point of a pair that has end points stands.
-fn hub_spot(frame: &Frame, point: &Point, index: usize) -> Spot
-    requires { index ≤ 1024 }
-    ensures { result ≡ spot_of_hub frame.now point.now index }
+fn hub_spot(frame: &Frame, point: &Point, at: usize) -> Spot
+    requires { at ≤ 1024 }
+    ensures { result ≡ spot_of_hub frame.now point.now at }
 {
-    let left = pair_left(index, frame.hubs().len());
     Spot {
-        x: (left + side_of(110, point)) as u32,
-        y: frame.hub_y(index / 2),
+        x: (hub_x(frame, at) + side_of(point) - 90) as u32,
+        y: frame.hub_y(is_above(frame, at), place_in(frame, at)),
     }
 }
 
 /// Where one of a pair that has none stands.
-fn transit_spot(frame: &Frame, point: &Point, index: usize) -> Spot
-    requires { index ≤ 1024 }
-    ensures { result ≡ spot_of_transit frame.now point.now index }
+fn transit_spot(frame: &Frame, point: &Point, at: usize) -> Spot
+    requires { at ≤ 1024 }
+    ensures { result ≡ spot_of_transit frame.now point.now at }
 {
-    let left = pair_left(index, frame.transits().len());
+    let left = frame.cell_left(300, at, frame.transits().len());
     Spot {
-        x: (left + side_of(150, point)) as u32,
-        y: frame.transit_y(index / 2),
+        x: (left + 60 + side_of(point)) as u32,
+        y: frame.transit_y(at),
     }
 }
 
-/// Where one of so many end points of a pair stands.
-fn row_spot(frame: &Frame, index: usize, at: usize, count: usize) -> Spot
-    requires index { index ≤ 1024 }
+/// How far to the right one of so many end points of a pair stands.
+fn rank_x(frame: &Frame, at: usize, end: usize, count: usize) -> u32
     requires at { at ≤ 1024 }
-    ensures { result ≡ spot_in_row frame.now index at count }
+    requires end { end ≤ 1024 }
+    ensures { result ≡ x_in_rank frame.now at end count }
 {
-    let left = pair_left(index, frame.hubs().len());
-    let in_row = count.saturating_sub(10 * (at / 10)).min(10);
-    let x = (left + 329 + 58 * (at % 10)).saturating_sub(29 * in_row);
+    let columns = count.saturating_sub(24 * (end / 24)).min(24);
+    let half = frame.spread(columns.saturating_sub(1)) / 2;
+    (hub_x(frame, at) + frame.spread(end % 24)).saturating_sub(half) as u32
+}
+
+/// Where one of so many end points of a pair stands.
+fn rank_spot(frame: &Frame, at: usize, end: usize, count: usize) -> Spot
+    requires at { at ≤ 1024 }
+    requires end { end ≤ 1024 }
+    ensures { result ≡ spot_in_rank frame.now at end count }
+{
+    let rank = frame.rank_of(end);
     Spot {
-        x: x as u32,
-        y: frame.row_y(index / 2, at / 10),
+        x: rank_x(frame, at, end, count),
+        y: frame.rank_y(is_above(frame, at), place_in(frame, at), rank),
     }
 }
 
@@ -124,8 +161,8 @@ fn lone_spot(frame: &Frame, at: usize) -> Spot
     ensures { result ≡ spot_of_lone frame.now at }
 {
     Spot {
-        x: (30 + 60 * (at % 20)) as u32,
-        y: frame.bands_end() + 22 + 44 * (at / 20) as u32,
+        x: (60 + 90 * (at % 12)) as u32,
+        y: frame.bands_end() + 30 + 60 * (at / 12) as u32,
     }
 }
 
@@ -148,9 +185,9 @@ fn end_spot(frame: &Frame, stands: &[Stand], code: PointCode, head: PointCode) -
     ensures { result ≡ spot_of_end frame.now stands.now code head }
 {
     match index_of(frame.hubs(), head) {
-        Some(index) => {
-            let at = ends_before(stands, Some(head), code);
-            row_spot(frame, index, at, end_count(stands, Some(head)))
+        Some(at) => {
+            let end = ends_before(stands, Some(head), code);
+            rank_spot(frame, at, end, end_count(stands, Some(head)))
         }
         None => CORNER,
     }

@@ -1,17 +1,15 @@
-//! What is shown about a destination: colours, and which sets carry traffic there.
+//! What is shown about a destination: colours, and how many signalling link selections go which way.
 
-ghost use Rattle.std.specs.Prelude.{◌≡◌, ◌++◌, Some, false, is_some, IfOk, IfErr, OnOk, string_bytes};
+ghost use Rattle.std.specs.Prelude.{◌≡◌, Some, false, is_some, IfOk, IfErr};
 ghost use Rattle.excerpts.specs.Excerpt.{excerpt_at, source_of};
-ghost use Rattle.pictures.specs.Shown.{colour_of as the_colour, colour_towards, picture_fault, is_bold as is_bold_of, lacks_plan, label_text, is_member_of_choice as leads_of, part_text, parts_text, selections_over, shown_of};
+ghost use Rattle.pictures.specs.Shown.{colour_of as the_colour, colour_towards, dest_of, is_member_of_choice as leads_of, lacks_plan, picture_fault, selections_over, share_of, share_towards, shown_of};
 
 use crate::faults::PictureFault;
 use crate::shares::share_over;
 use crate::styles::{Colour, colour_of};
-use crate::words::put_number;
 use excerpts::{Excerpt, ExcerptFault, Frozen};
-use net_items::LinkSet;
 use point_codes::PointCode;
-use std::alloc::{AllocError, Global};
+use std::alloc::Global;
 use std::marker::Model;
 use transfer_state::{Routing, is_member};
 
@@ -85,29 +83,23 @@ impl Shown {
         }
     }
 
-    /// Whether an end of a set leads traffic over it.
-    pub(crate) fn is_bold(&self, set: &LinkSet) -> bool
-        ensures { result ≡ is_bold_of self.now set.now }
+    /// The destination, if one is asked about.
+    pub(crate) fn dest(&self) -> Option<PointCode>
+        ensures { result ≡ dest_of self.now }
     {
         match &self.routing {
-            Some(routing) => leads(routing, set.a, set.b) || leads(routing, set.b, set.a),
-            None => false,
+            Some(routing) => Some(routing.dest()),
+            None => None,
         }
     }
 
-    /// Adds the label of a set.
-    pub(crate) fn put_label(
-        &self,
-        alloc: Global,
-        text: &mut String,
-        set: &LinkSet,
-    ) -> Result<(), AllocError>
-        ensures { OnOk result (string_bytes text.new ≡ string_bytes text.old ++ label_text self.now set.now) }
+    /// How many signalling link selections a point leads over another to the destination, if it leads traffic there.
+    pub(crate) fn share(&self, point: PointCode, other: PointCode) -> Option<u64>
+        ensures { result ≡ share_of self.now point other }
     {
-        put_number(alloc, text, u64::from(set.id))?;
         match &self.routing {
-            Some(routing) => put_parts(alloc, text, routing, set),
-            None => Ok(()),
+            Some(routing) => share_by(routing, point, other),
+            None => None,
         }
     }
 }
@@ -138,7 +130,7 @@ fn leads(routing: &Routing, point: PointCode, other: PointCode) -> bool
 
 /// How many of the sixteen signalling link selections a point leads over another.
 #[tactic(auto, using(transfer_state::proofs::RouteLemmas::row_none))]
-fn share(routing: &Routing, point: PointCode, other: PointCode) -> u64
+fn selections(routing: &Routing, point: PointCode, other: PointCode) -> u64
     ensures { result ≡ selections_over (source_of routing.now.excerpt) point other }
 {
     match routing.row(point) {
@@ -147,33 +139,13 @@ fn share(routing: &Routing, point: PointCode, other: PointCode) -> u64
     }
 }
 
-/// Adds how many signalling link selections a point leads over another, if it leads traffic there.
-fn put_part(
-    alloc: Global,
-    text: &mut String,
-    routing: &Routing,
-    point: PointCode,
-    other: PointCode,
-) -> Result<(), AllocError>
-    ensures { OnOk result (string_bytes text.new ≡ string_bytes text.old ++ part_text (source_of routing.now.excerpt) point other) }
+/// The same, if it leads traffic there.
+fn share_by(routing: &Routing, point: PointCode, other: PointCode) -> Option<u64>
+    ensures { result ≡ share_towards (source_of routing.now.excerpt) point other }
 {
-    if !leads(routing, point, other) {
-        return Ok(());
+    if leads(routing, point, other) {
+        Some(selections(routing, point, other))
+    } else {
+        None
     }
-    let count = share(routing, point, other);
-    let part = format!(in alloc; ": {point} {count}/16")?;
-    text.push_str(part.as_str())
-}
-
-/// Adds how the ends of a set lead traffic over it.
-fn put_parts(
-    alloc: Global,
-    text: &mut String,
-    routing: &Routing,
-    set: &LinkSet,
-) -> Result<(), AllocError>
-    ensures { OnOk result (string_bytes text.new ≡ string_bytes text.old ++ parts_text (source_of routing.now.excerpt) set.now) }
-{
-    put_part(alloc, text, routing, set.a, set.b)?;
-    put_part(alloc, text, routing, set.b, set.a)
 }

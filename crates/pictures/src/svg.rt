@@ -2,20 +2,26 @@
 
 ghost use Rattle.std.specs.Prelude.{◌≡◌, ◌≤◌, ◌++◌, false, IfOk, IfErr, OnOk, length, string_bytes};
 ghost use Rattle.std.specs.List.{flat_map};
-ghost use Rattle.pictures.specs.Shown.{picture_fault, lacks_plan};
-ghost use Rattle.pictures.specs.Svg.{svg_at, svg_begin, svg_body, svg_bold, svg_curve, svg_drawing, svg_label, svg_of, svg_open, svg_paper, svg_placed, svg_point, svg_rules, svg_set, svg_shape, svg_style, svg_text};
+ghost use Rattle.pictures.specs.Labels.{label_area as area_of, placed_sets};
+ghost use Rattle.pictures.specs.Shown.{drawn_points as drawn_points_of, drawn_sets as drawn_sets_of, lacks_plan, picture_fault};
+ghost use Rattle.pictures.specs.Svg.{svg_at, svg_back, svg_begin, svg_body, svg_bold, svg_class, svg_drawing, svg_ground, svg_label, svg_of, svg_path, svg_placed, svg_point, svg_set, svg_shape, svg_shown, svg_style, svg_text, svg_there, svg_words};
+ghost use Rattle.pictures.specs.Title.{title_text};
 
-use crate::curves::{Line, bend_of, label_spot, line_of};
+use crate::curves::Curve;
+use crate::drawn::{DrawnPoint, DrawnSet, drawn_points, drawn_sets, is_bold, write_label};
 use crate::faults::PictureFault;
-use crate::frame::Frame;
+use crate::frame::{Canvas, Frame};
 use crate::keys::put_legend;
+use crate::labels::{Area, Label, PlacedSet, label_area, place_sets};
+use crate::page::write_head;
 use crate::places::{Place, Spot, places_of, spot_at};
 use crate::shown::Shown;
 use crate::stands::{Stand, stands_of};
-use crate::styles::{Colour, Style, hex_word, style_of};
+use crate::styles::{Colour, Style, hex_word};
+use crate::title::write_title;
 use excerpts::Frozen;
 use net_data::Net;
-use net_items::{Kind, LinkSet, Point};
+use net_items::{Kind, Point};
 use point_codes::PointCode;
 use std::alloc::{AllocError, Global};
 
@@ -37,6 +43,28 @@ fn bold_word(bold: bool) -> &'static str
     if bold { " bold" } else { "" }
 }
 
+/// The arrow of what the first end leads to the second.
+fn there_word(share: Option<u64>) -> &'static str
+    ensures { result.now ≡ svg_there share }
+{
+    if share.is_some() {
+        " marker-end='url(#there)'"
+    } else {
+        ""
+    }
+}
+
+/// The arrow of what the second end leads to the first.
+fn back_word(share: Option<u64>) -> &'static str
+    ensures { result.now ≡ svg_back share }
+{
+    if share.is_some() {
+        " marker-start='url(#back)'"
+    } else {
+        ""
+    }
+}
+
 /// The shape of a point.
 fn shape_word(kind: Kind) -> &'static str
     ensures { result.now ≡ svg_shape kind }
@@ -47,54 +75,64 @@ fn shape_word(kind: Kind) -> &'static str
     }
 }
 
-/// A set as a curve.
-fn write_curve(
-    alloc: Global,
-    shown: &Shown,
-    set: &LinkSet,
-    line: &Line,
-) -> Result<String, AllocError>
-    ensures { IfOk result (λ text. string_bytes text ≡ svg_curve shown.now set.now line.now) }
+/// How a set is drawn: its style and its arrows.
+fn write_class(alloc: Global, set: &DrawnSet) -> Result<String, AllocError>
+    ensures { IfOk result (λ text. string_bytes text ≡ svg_class set.now) }
 {
-    let style = style_word(style_of(set));
-    let bold = bold_word(shown.is_bold(set));
-    let from = line.from;
-    let bend = bend_of(line);
-    let to = line.to;
-    let text = format!(in alloc; "<path class='{style}{bold}' d='M {from} Q {bend} {to}'/>\n")?;
+    let style = style_word(set.style);
+    let bold = bold_word(is_bold(set));
+    let there = there_word(set.there);
+    let back = back_word(set.back);
+    let text = format!(in alloc; "<path class='set {style}{bold}'{there}{back}")?;
     Ok(text)
 }
 
-/// A set as a curve between the places of its points.
-#[tactic(auto, unfolding(crate::specs::Svg::svg_set))]
-fn write_set(
-    alloc: Global,
-    shown: &Shown,
-    net: &Net,
-    places: &[Place],
-    set: &LinkSet,
-) -> Result<String, AllocError>
-    ensures { IfOk result (λ text. string_bytes text ≡ svg_set net.now.points places.now shown.now set.now) }
+/// The path of a curve.
+fn write_path(alloc: Global, curve: &Curve) -> Result<String, AllocError>
+    ensures { IfOk result (λ text. string_bytes text ≡ svg_path curve.now) }
 {
-    write_curve(alloc, shown, set, &line_of(net, places, set))
+    let from = curve.from;
+    let leaving = curve.leaving;
+    let arriving = curve.arriving;
+    let to = curve.to;
+    let text = format!(in alloc; " d='M {from} C {leaving} {arriving} {to}'/>\n")?;
+    Ok(text)
+}
+
+/// Adds a set as a curve between the places of its points.
+#[tactic(auto, unfolding(crate::specs::Svg::svg_set))]
+fn put_set(alloc: Global, text: &mut String, placed: &PlacedSet) -> Result<(), AllocError>
+    ensures { OnOk result (string_bytes text.new ≡ string_bytes text.old ++ svg_set placed.now) }
+{
+    let class = write_class(alloc, &placed.set)?;
+    text.push_str(class.as_str())?;
+    let path = write_path(alloc, &placed.curve)?;
+    text.push_str(path.as_str())
 }
 
 /// Adds the sets as curves.
-fn put_sets(
-    alloc: Global,
-    text: &mut String,
-    shown: &Shown,
-    net: &Net,
-    places: &[Place],
-) -> Result<(), AllocError>
-    ensures { OnOk result (string_bytes text.new ≡ string_bytes text.old ++ flat_map (svg_set net.now.points places.now shown.now) net.now.sets) }
+fn put_sets(alloc: Global, text: &mut String, sets: &[PlacedSet]) -> Result<(), AllocError>
+    ensures { OnOk result (string_bytes text.new ≡ string_bytes text.old ++ flat_map svg_set sets.now) }
 {
-    let sets = net.sets();
-    for set in sets {
-        let curve = write_set(alloc, shown, net, places, set)?;
-        text.push_str(curve.as_str())?;
+    for placed in sets {
+        put_set(alloc, text, placed)?;
     }
     Ok(())
+}
+
+/// White ground below a label.
+#[tactic(auto, unfolding(crate::specs::Svg::svg_ground))]
+fn write_ground(alloc: Global, area: &Area) -> Result<String, AllocError>
+    ensures { IfOk result (λ text. string_bytes text ≡ svg_ground area.now) }
+{
+    let left = area.left;
+    let top = area.top;
+    let width = area.right.saturating_sub(left);
+    let height = area.bottom.saturating_sub(top);
+    let text = format!(in alloc;
+        "<rect class='ground' x='{left}' y='{top}' width='{width}' height='{height}'/>"
+    )?;
+    Ok(text)
 }
 
 /// Where a label stands.
@@ -107,38 +145,41 @@ fn write_at(alloc: Global, spot: Spot) -> Result<String, AllocError>
     Ok(text)
 }
 
-/// Adds the label of a set.
-#[tactic(auto, unfolding(crate::specs::Svg::svg_label))]
-fn put_label(
-    alloc: Global,
-    text: &mut String,
-    shown: &Shown,
-    net: &Net,
-    places: &[Place],
-    set: &LinkSet,
-) -> Result<(), AllocError>
-    ensures { OnOk result (string_bytes text.new ≡ string_bytes text.old ++ svg_label net.now.points places.now shown.now set.now) }
+/// Adds the ground of a label.
+fn put_ground(alloc: Global, text: &mut String, label: &Label) -> Result<(), AllocError>
+    ensures { OnOk result (string_bytes text.new ≡ string_bytes text.old ++ svg_ground (area_of label.now)) }
 {
-    let spot = label_spot(set.id, &line_of(net, places, set));
-    let at = write_at(alloc, spot)?;
+    let ground = write_ground(alloc, &label_area(label))?;
+    text.push_str(ground.as_str())
+}
+
+/// Adds the words of a label.
+#[tactic(auto, unfolding(crate::specs::Svg::svg_words))]
+fn put_words(alloc: Global, text: &mut String, placed: &PlacedSet) -> Result<(), AllocError>
+    ensures { OnOk result (string_bytes text.new ≡ string_bytes text.old ++ svg_words placed.now) }
+{
+    let at = write_at(alloc, placed.label.spot)?;
     text.push_str(at.as_str())?;
-    shown.put_label(alloc, text, set)?;
+    let label = write_label(alloc, &placed.set)?;
+    text.push_str(label.as_str())?;
     text.push_str("</text>\n")
 }
 
-/// Adds the labels of the sets.
-fn put_labels(
-    alloc: Global,
-    text: &mut String,
-    shown: &Shown,
-    net: &Net,
-    places: &[Place],
-) -> Result<(), AllocError>
-    ensures { OnOk result (string_bytes text.new ≡ string_bytes text.old ++ flat_map (svg_label net.now.points places.now shown.now) net.now.sets) }
+/// Adds the label of a set.
+#[tactic(auto, unfolding(crate::specs::Svg::svg_label))]
+fn put_label(alloc: Global, text: &mut String, placed: &PlacedSet) -> Result<(), AllocError>
+    ensures { OnOk result (string_bytes text.new ≡ string_bytes text.old ++ svg_label placed.now) }
 {
-    let sets = net.sets();
-    for set in sets {
-        put_label(alloc, text, shown, net, places, set)?;
+    put_ground(alloc, text, &placed.label)?;
+    put_words(alloc, text, placed)
+}
+
+/// Adds the labels of the sets.
+fn put_labels(alloc: Global, text: &mut String, sets: &[PlacedSet]) -> Result<(), AllocError>
+    ensures { OnOk result (string_bytes text.new ≡ string_bytes text.old ++ flat_map svg_label sets.now) }
+{
+    for placed in sets {
+        put_label(alloc, text, placed)?;
     }
     Ok(())
 }
@@ -163,76 +204,41 @@ fn write_body(
 
 /// A point at its place.
 #[tactic(auto, unfolding(crate::specs::Svg::svg_point))]
-fn write_point(
-    alloc: Global,
-    shown: &Shown,
-    places: &[Place],
-    point: &Point,
-) -> Result<String, AllocError>
-    ensures { IfOk result (λ text. string_bytes text ≡ svg_point places.now shown.now point.now) }
+fn write_point(alloc: Global, places: &[Place], drawn: &DrawnPoint) -> Result<String, AllocError>
+    ensures { IfOk result (λ text. string_bytes text ≡ svg_point places.now drawn.now) }
 {
-    let spot = spot_at(places, point.code);
-    write_body(alloc, point, spot, shown.colour(point.code))
+    let spot = spot_at(places, drawn.point.code);
+    write_body(alloc, &drawn.point, spot, drawn.colour)
 }
 
 /// Adds the points.
 fn put_points(
     alloc: Global,
     text: &mut String,
-    shown: &Shown,
-    net: &Net,
     places: &[Place],
+    points: &[DrawnPoint],
 ) -> Result<(), AllocError>
-    ensures { OnOk result (string_bytes text.new ≡ string_bytes text.old ++ flat_map (svg_point places.now shown.now) net.now.points) }
+    ensures { OnOk result (string_bytes text.new ≡ string_bytes text.old ++ flat_map (svg_point places.now) points.now) }
 {
-    let points = net.points();
     for point in points {
-        let body = write_point(alloc, shown, places, point)?;
+        let body = write_point(alloc, places, point)?;
         text.push_str(body.as_str())?;
     }
     Ok(())
 }
 
-/// How the document begins.
-#[tactic(auto, unfolding(crate::specs::Svg::svg_open))]
-fn write_open(alloc: Global, height: u32) -> Result<String, AllocError>
-    ensures { IfOk result (λ text. string_bytes text ≡ svg_open height) }
-{
-    let text = format!(in alloc;
-        "<svg xmlns='http://www.w3.org/2000/svg' viewBox='0 0 1200 {height}' font-family='Helvetica, Arial, sans-serif' font-size='11' text-anchor='middle'>\n"
-    )?;
-    Ok(text)
-}
-
-/// Adds how lines, shapes and texts are drawn.
-#[tactic(auto, unfolding(crate::specs::Svg::svg_rules))]
-fn put_rules(text: &mut String) -> Result<(), AllocError>
-    ensures { OnOk result (string_bytes text.new ≡ string_bytes text.old ++ svg_rules) }
-{
-    text.push_str(
-        "<style>\npath { fill: none; stroke: #333333 }\n.dashed { stroke-dasharray: 6 4 }\n.grey { stroke: #999999 }\n.bold { stroke-width: 3 }\nrect, ellipse { stroke: #333333 }\n.label { font-size: 9px; paint-order: stroke; stroke: #ffffff; stroke-width: 3px }\n.key { text-anchor: start }\n</style>\n",
-    )
-}
-
-/// White paper.
-#[tactic(auto, unfolding(crate::specs::Svg::svg_paper))]
-fn write_paper(alloc: Global, height: u32) -> Result<String, AllocError>
-    ensures { IfOk result (λ text. string_bytes text ≡ svg_paper height) }
-{
-    let text = format!(in alloc;
-        "<rect width='1200' height='{height}' fill='#ffffff' style='stroke: none'/>\n"
-    )?;
-    Ok(text)
-}
-
 /// What stands before the sets.
-fn write_begin(alloc: Global, shown: &Shown, height: u32) -> Result<String, AllocError>
-    ensures { IfOk result (λ text. string_bytes text ≡ svg_begin height shown.now) }
+fn write_begin(
+    alloc: Global,
+    shown: &Shown,
+    version: Option<u64>,
+    net: &Net,
+    canvas: Canvas,
+) -> Result<String, AllocError>
+    ensures { IfOk result (λ text. string_bytes text ≡ svg_begin canvas (title_text shown.now version net.now) shown.now) }
 {
-    let paper = write_paper(alloc, height)?;
-    let mut text = write_open(alloc, height)?;
-    put_rules(&mut text)?;
-    text.push_str(paper.as_str())?;
+    let title = write_title(alloc, shown, version, net)?;
+    let mut text = write_head(alloc, canvas, title.as_str())?;
     put_legend(alloc, &mut text, shown)?;
     Ok(text)
 }
@@ -241,16 +247,47 @@ fn write_begin(alloc: Global, shown: &Shown, height: u32) -> Result<String, Allo
 fn put_drawing(
     alloc: Global,
     text: &mut String,
+    places: &[Place],
+    points: &[DrawnPoint],
+    sets: &[PlacedSet],
+) -> Result<(), AllocError>
+    ensures { OnOk result (string_bytes text.new ≡ string_bytes text.old ++ svg_drawing places.now points.now sets.now) }
+{
+    put_sets(alloc, text, sets)?;
+    put_labels(alloc, text, sets)?;
+    put_points(alloc, text, places, points)?;
+    text.push_str("</svg>\n")
+}
+
+/// The sets of a network at their places, with what is shown of them.
+fn place_shown(
+    alloc: Global,
     shown: &Shown,
     net: &Net,
+    canvas: Canvas,
+    places: &[Place],
+) -> Result<Vec<PlacedSet>, AllocError>
+    ensures { IfOk result (λ placed. placed.items ≡ placed_sets canvas places.now (drawn_sets_of shown.now net.now)) }
+{
+    let sets = drawn_sets(alloc, shown, net)?;
+    place_sets(alloc, &canvas, places, &sets)
+}
+
+/// Adds what is shown of a network on a canvas, at the places of its points.
+#[tactic(auto, unfolding(crate::specs::Svg::svg_shown))]
+fn put_shown(
+    alloc: Global,
+    text: &mut String,
+    shown: &Shown,
+    net: &Net,
+    canvas: Canvas,
     places: &[Place],
 ) -> Result<(), AllocError>
-    ensures { OnOk result (string_bytes text.new ≡ string_bytes text.old ++ svg_drawing shown.now net.now places.now) }
+    ensures { OnOk result (string_bytes text.new ≡ string_bytes text.old ++ svg_shown shown.now net.now canvas places.now) }
 {
-    put_sets(alloc, text, shown, net, places)?;
-    put_labels(alloc, text, shown, net, places)?;
-    put_points(alloc, text, shown, net, places)?;
-    text.push_str("</svg>\n")
+    let points = drawn_points(alloc, shown, net)?;
+    let sets = place_shown(alloc, shown, net, canvas, places)?;
+    put_drawing(alloc, text, places, &points, &sets)
 }
 
 /// The picture of a network whose points stand so.
@@ -259,41 +296,50 @@ fn write_placed(
     alloc: Global,
     net: &Net,
     shown: &Shown,
+    version: Option<u64>,
     stands: &[Stand],
 ) -> Result<String, AllocError>
     requires { length stands.now ≤ 1024 }
-    ensures { IfOk result (λ text. string_bytes text ≡ svg_placed shown.now net.now stands.now) }
+    ensures { IfOk result (λ text. string_bytes text ≡ svg_placed shown.now version net.now stands.now) }
 {
     let frame = Frame::of(alloc, stands)?;
+    let canvas = frame.canvas();
     let places = places_of(alloc, &frame, stands)?;
-    let mut text = write_begin(alloc, shown, frame.picture_height())?;
-    put_drawing(alloc, &mut text, shown, net, &places)?;
+    let mut text = write_begin(alloc, shown, version, net, canvas)?;
+    put_shown(alloc, &mut text, shown, net, canvas, &places)?;
     Ok(text)
 }
 
 /// The picture of a network with what is shown about a destination.
-fn write_shown(alloc: Global, net: &Net, shown: &Shown) -> Result<String, AllocError>
-    ensures { IfOk result (λ text. string_bytes text ≡ svg_of shown.now net.now) }
+fn write_shown(
+    alloc: Global,
+    net: &Net,
+    shown: &Shown,
+    version: Option<u64>,
+) -> Result<String, AllocError>
+    ensures { IfOk result (λ text. string_bytes text ≡ svg_of shown.now version net.now) }
 {
     net.validity();
     let stands = stands_of(alloc, net)?;
-    write_placed(alloc, net, shown, &stands)
+    write_placed(alloc, net, shown, version, &stands)
 }
 
-/// The picture of a network as an SVG document, 1,200 pixels wide: with a destination, also how each point leads its traffic there.
+/// The picture of a network as an SVG document: with a destination, also how each point leads its traffic there. The title names the
+/// destination, and the version of that number if it is one.
 ///
 /// It is refused if the destination has no plan, and, last, if memory is refused.
 pub fn write_svg(
     alloc: Global,
     net: &Frozen,
     about: Option<PointCode>,
+    version: Option<u64>,
 ) -> Result<String, PictureFault>
-    ensures text { IfOk result (λ text. string_bytes text ≡ svg_text net.now about) }
+    ensures text { IfOk result (λ text. string_bytes text ≡ svg_text net.now about version) }
     ensures planned { IfOk result (λ _. lacks_plan net.now about ≡ false) }
     ensures fault { IfErr result (λ fault. fault ≡ picture_fault net.now about) }
 {
     let shown = Shown::of(alloc, net, about)?;
-    match write_shown(alloc, net.net(), &shown) {
+    match write_shown(alloc, net.net(), &shown, version) {
         Ok(text) => Ok(text),
         Err(_) => Err(PictureFault::OutOfMemory),
     }

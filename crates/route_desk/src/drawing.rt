@@ -56,9 +56,9 @@ pub fn picture_of(
 ) -> Result<String, NoPicture> {
     let net = frozen(alloc, net?)?;
     let text = if svg {
-        write_svg(alloc, &net, about)?
+        write_svg(alloc, &net, about, None)?
     } else {
-        write_dot(alloc, &net, about)?
+        write_dot(alloc, &net, about, None)?
     };
     Ok(text)
 }

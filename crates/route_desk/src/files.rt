@@ -6,8 +6,8 @@ use crate::saying::say;
 use crate::targets::{Target, target_of};
 use console::Fault;
 use std::fs::{Metadata, OpenOptions};
-use std::io;
 use std::io::{ErrorKind, Write};
+use std::{fs, io};
 
 /// What is done with a device.
 #[derive(Clone, Copy, PartialEq, Eq)]
@@ -82,6 +82,165 @@ pub fn save_text(rt: &HostRuntime, name: &str, text: &str, devices: Devices) -> 
             Ok(())
         }
     }
+}
+
+/// A text and the name of the file that it goes to.
+#[derive(Drop)]
+pub struct FileText {
+    /// The name.
+    pub name: String,
+    /// The text.
+    pub text: String,
+}
+
+/// Why texts aren't saved.
+#[derive(Drop)]
+pub struct NotSaved {
+    /// The place of the one that can't be.
+    pub place: usize,
+    /// What the system says.
+    pub error: io::Error,
+}
+
+/// A text that is written whole beside the place that it will take.
+#[derive(Drop)]
+struct Draft {
+    path: String,
+    there: Option<Metadata>,
+    fresh: Fresh,
+    kept: Kept,
+    /// The file that stood in the place, under another name.
+    aside: Option<Fresh>,
+    is_put: bool,
+}
+
+/// Writes a text whole into a file that is made beside the one that a name leads to.
+fn draft_of(rt: &HostRuntime, file: &FileText) -> io::Result<Draft> {
+    let Target::File { path, there } = target_of(rt, file.name.as_str())? else {
+        return Err(no_device());
+    };
+    let mut fresh = Fresh::beside(rt, path.as_str(), there.as_ref())?;
+    match fresh.fill(file.text.as_str(), there.as_ref()) {
+        Ok(kept) => Ok(Draft {
+            path,
+            there,
+            fresh,
+            kept,
+            aside: None,
+            is_put: false,
+        }),
+        Err(error) => {
+            fresh.remove(rt);
+            Err(error)
+        }
+    }
+}
+
+/// Gives the file that stands in the place of a draft another name, if there is one.
+fn set_aside(rt: &HostRuntime, draft: &mut Draft) -> io::Result<()> {
+    if draft.there.is_none() {
+        return Ok(());
+    }
+    let aside = Fresh::beside(rt, draft.path.as_str(), draft.there.as_ref())?;
+    if let Err(error) = aside.set_aside(rt, draft.path.as_str()) {
+        aside.remove(rt);
+        return Err(error);
+    }
+    draft.aside = Some(aside);
+    Ok(())
+}
+
+/// Puts a draft in its place. What stood there is kept under another name.
+fn put_draft(rt: &HostRuntime, draft: &mut Draft) -> io::Result<()> {
+    set_aside(rt, draft)?;
+    draft.fresh.put(rt, draft.path.as_str())?;
+    draft.is_put = true;
+    Ok(())
+}
+
+/// Takes a draft away again, and gives the place back to what stood there.
+fn take_back(rt: &HostRuntime, draft: &Draft) {
+    if !draft.is_put {
+        draft.fresh.remove(rt);
+    }
+    match &draft.aside {
+        Some(aside) => {
+            let _ = aside.put(rt, draft.path.as_str());
+        }
+        None if draft.is_put => {
+            let _ = fs::remove_file(rt, draft.path.as_str());
+        }
+        None => {}
+    }
+}
+
+/// Writes texts whole, each beside the place that it will take.
+fn draft_all(
+    rt: &HostRuntime,
+    files: &[FileText],
+    drafts: &mut Vec<Draft>,
+) -> Result<(), NotSaved> {
+    for (place, file) in files.iter().enumerate() {
+        match draft_of(rt, file) {
+            Ok(draft) => {
+                if drafts.push(draft).is_err() {
+                    let error = io::Error::from(ErrorKind::OutOfMemory);
+                    return Err(NotSaved { place, error });
+                }
+            }
+            Err(error) => return Err(NotSaved { place, error }),
+        }
+    }
+    Ok(())
+}
+
+/// Puts drafts in their places, one after the other.
+fn put_all(rt: &HostRuntime, drafts: &mut [Draft]) -> Result<(), NotSaved> {
+    for (place, draft) in drafts.iter_mut().enumerate() {
+        if let Err(error) = put_draft(rt, draft) {
+            return Err(NotSaved { place, error });
+        }
+    }
+    Ok(())
+}
+
+/// Writes texts and puts them in their places.
+fn make_all(rt: &HostRuntime, files: &[FileText], drafts: &mut Vec<Draft>) -> Result<(), NotSaved> {
+    if drafts.reserve(files.len()).is_err() {
+        let error = io::Error::from(ErrorKind::OutOfMemory);
+        return Err(NotSaved { place: 0, error });
+    }
+    draft_all(rt, files, drafts)?;
+    put_all(rt, drafts.as_mut_slice())
+}
+
+/// Removes what stood in the place of a draft, and says what the new file has not of it.
+fn settle(rt: &HostRuntime, file: &FileText, draft: &Draft) {
+    if let Some(aside) = &draft.aside {
+        aside.remove(rt);
+    }
+    tell_kept(rt, file.name.as_str(), draft.kept);
+}
+
+/// Puts texts in the places of the files that their names lead to, all of them or none. Each is written whole before the first
+/// takes its place. If one can't, those before it give their places back to what stood there.
+///
+/// # Errors
+///
+/// What the system says of the first that can't be saved; all files are then as they were.
+pub fn save_together(rt: &HostRuntime, files: &[FileText]) -> Result<(), NotSaved> {
+    let mut drafts = Vec::new(rt.alloc());
+    let made = make_all(rt, files, &mut drafts);
+    if made.is_ok() {
+        for (file, draft) in files.iter().zip(drafts.iter()) {
+            settle(rt, file, draft);
+        }
+    } else {
+        for draft in drafts.iter().rev() {
+            take_back(rt, draft);
+        }
+    }
+    made
 }
 
 /// Tries whether a file can be made beside the one that is there, and whether it may take its place.

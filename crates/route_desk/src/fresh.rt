@@ -136,6 +136,11 @@ impl Fresh {
         Ok(kept)
     }
 
+    /// Moves a file that is there into its place, which nothing was written to.
+    pub fn set_aside(&self, rt: &HostRuntime, path: &str) -> io::Result<()> {
+        fs::rename(rt, path, self.path.as_str())
+    }
+
     /// Puts it in the place of a file, and has the system keep that, where it can.
     pub fn put(&self, rt: &HostRuntime, path: &str) -> io::Result<()> {
         fs::rename(rt, self.path.as_str(), path)?;

@@ -6,8 +6,8 @@
 //!    fault; a file that was there stays as it was if that fails, and whether it can be written is tried before anything is read.
 //!    With `--workers N`, from 0 to 32, that many threads settle jobs beside the script.
 //!    With `--explain` each refused line and a fault has a sentence on standard error too: what was expected, what stands against an
-//!    edit, where an entry stands and what to do, or the system's reason; so have the faults of `check`, `picture`, `import` and
-//!    `export`. With `--json` each answer is an object of JSON on a line of its own, as are what `check` and `explain` write. With
+//!    edit, where an entry stands and what to do, or the system's reason; so have the faults of `check`, `survey`, `picture`, `report`, `import`
+//!    and `export`. With `--json` each answer is an object of JSON on a line of its own, as are what `check`, `survey` and `explain` write. With
 //!    `--strict` nothing is saved if a line was refused.
 //! 2. `route_desk play NET STEPS` does the same with the script of the file STEPS, which is opened once the network is
 //!    loaded.
@@ -17,11 +17,15 @@
 //!    A fault of one session ends that session alone. Once all have ended the network is saved, if a file is named.
 //! 4. `route_desk check NET` works out the tables of all planned destinations of that network, by as many threads as
 //!    there are processors, checks each by the local rule, and writes `ok P` for P plans, or `bad X Y c` for the first
-//!    wrong one.
+//!    wrong one. With `--warn` it also writes what a planner should look at, a line each, and how many of them there are.
+//!    `route_desk survey NET` writes what the failure of each link set alone would take, with `--points` of each transfer point, tried
+//!    by as many threads; if standard error is a terminal it says there how far it has come.
 //! 5. `route_desk picture NET` writes the network as a Graphviz DOT text, or with `--svg` as an SVG document; with `--about X`
 //!    it shows how traffic goes to the destination X. The words `picture FILE` and `picture FILE X` of a script write the picture of
 //!    what is published then to a file, and `save FILE` the network after all accepted events; with `--no-files` the commands `run`,
 //!    `play` and `serve` refuse them.
+//!    `route_desk report NET` writes a report of the network as one page of HTML, with that picture, and one of each destination if it
+//!    has at most sixty points.
 //! 6. `route_desk import DIR` writes the network text that the tables points.csv, sets.csv and routes.csv of a folder say;
 //!    `route_desk export NET DIR` writes these tables.
 //! 7. If standard input is a terminal, `run NET` says on standard error how large the network is, and prompts for each line there.
@@ -40,11 +44,13 @@
 //! Stands on `net_saving`, `net_sheets`, `pictures`, `console`, `beside`, `serving`, `explanations`, `json_answers`, `command_line`, `clap`. Nothing else changes with it.
 #![tactic(auto)]
 
+mod checks;
 mod clerks;
 mod drawing;
 mod endings;
 mod explaining;
 mod files;
+mod findings;
 mod fresh;
 mod held_lines;
 mod keys;
@@ -52,7 +58,9 @@ mod loading;
 mod missing;
 mod notes;
 mod orders;
+mod page;
 mod places;
+mod planning;
 mod reasons;
 mod reports;
 mod runs;
@@ -66,10 +74,12 @@ mod seat_reasons;
 mod seat_reports;
 mod seat_text;
 mod seating;
+mod sections;
 mod sentences;
 mod sheets;
 mod standing;
 mod streams;
+mod surveying;
 mod targets;
 mod terminal;
 mod tried;
@@ -77,13 +87,16 @@ mod tried;
 ghost use Rattle.std.specs.Prelude.{◌≤◌};
 ghost use Rattle.command_line.specs.Words.{IsWithin};
 
+use checks::check;
 use clap::Error;
 use clerks::Files;
 use command_line::{Order, WordFault, read_words};
 use console::Fault;
 use endings::{Saving, finish};
 use json_answers::Form;
-use orders::{check, draw, explain, export, import};
+use net_building::Surveyed;
+use orders::{draw, explain, export, import};
+use planning::report_net;
 use reports::{report, tell_bytes};
 use runs::{Manner, play_file, run_net};
 use saying::{say, write_lines};
@@ -94,6 +107,7 @@ use std::process::ExitCode;
 use std::sync::Wait;
 use std::thread::Threads;
 use std::{env, io};
+use surveying::survey;
 
 /// The words of the command line, the program's name first. It fails with `InvalidData` where one isn't UTF-8, and with
 /// `OutOfMemory`.
@@ -166,6 +180,14 @@ fn form_of(json: bool) -> Form {
     Form::Text
 }
 
+/// What is surveyed, by whether it is to be transfer points.
+fn surveyed_of(points: bool) -> Surveyed {
+    if points {
+        return Surveyed::Points;
+    }
+    Surveyed::Sets
+}
+
 /// Does what the words of the command line ask for; a check, workers and sessions take threads.
 fn obey(
     rt: &HostRuntime,
@@ -229,15 +251,34 @@ fn obey(
         }
         Order::Check {
             net,
+            warned,
             explained,
             json,
-        } => check(rt, threads, net, explained, json),
+        } => check(rt, threads, net, warned, explained, json),
+        Order::Survey {
+            net,
+            points,
+            explained,
+            json,
+        } => survey(
+            rt,
+            threads,
+            net,
+            surveyed_of(points),
+            explained,
+            form_of(json),
+        ),
         Order::Picture {
             net,
             about,
             svg,
             explained,
         } => draw(rt, net, about, svg, explained),
+        Order::Report {
+            net,
+            about,
+            explained,
+        } => report_net(rt, threads, net, about, explained),
         Order::Import { dir, explained } => import(rt, dir, explained),
         Order::Export {
             net,

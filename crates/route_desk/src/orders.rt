@@ -1,4 +1,4 @@
-//! What the command line asks for besides runs: checks, pictures, tables and explanations.
+//! What the command line asks for besides runs, checks and surveys: pictures, tables and explanations.
 
 use crate::drawing::{NoPicture, picture_of, read_about};
 use crate::loading::load_file;
@@ -6,82 +6,19 @@ use crate::reports::{report, tell, tell_bytes};
 use crate::saying::say;
 use crate::sheets::{FolderFault, describe, explain_folder, read_folder, write_folder};
 use answers::{Reason, reason_title};
-use console::{CheckEnd, Fault, check_net};
-use excerpts::Frozen;
-use explanations::{Explanation, explanations, find, write_explanation, write_titles};
-use json_answers::{write_right, write_texts, write_wrong};
-use net_data::Net;
+use explanations::{
+    Explanation, explanations, find, find_warning, warnings, write_explanation, write_titles,
+};
+use json_answers::write_texts;
 use net_saving::save;
 use script_words::{Form, form_of};
 use std::alloc::{AllocError, Global};
 use std::io;
 use std::process::ExitCode;
-use std::thread::Threads;
 
-/// Works out and checks all tables of a network.
-fn check_tables(
-    threads: &(impl Threads + Sync),
-    alloc: Global,
-    net: Result<Net, Fault>,
-) -> Result<CheckEnd, Fault> {
-    let Ok(net) = Frozen::new(alloc, net?) else {
-        return Err(Fault::OutOfMemory);
-    };
-    match check_net(threads, alloc, &net) {
-        Ok(end) => Ok(end),
-        Err(_) => Err(Fault::OutOfMemory),
-    }
-}
-
-/// What a check found, as an object of JSON on a line.
-fn object_of(alloc: Global, end: &CheckEnd) -> Result<String, AllocError> {
-    match end.wrong {
-        None => write_right(alloc, end.count),
-        Some(wrong) => write_wrong(alloc, wrong.dest, wrong.complaint),
-    }
-}
-
-/// What a check found, on a line.
-fn line_of(alloc: Global, end: &CheckEnd, json: bool) -> Result<String, AllocError> {
-    if json {
-        return object_of(alloc, end);
-    }
-    let mut line = end.write(alloc)?;
-    line.push('\n')?;
-    Ok(line)
-}
-
-/// Says what a check found.
-fn report_check(
-    rt: &HostRuntime,
-    end: &CheckEnd,
-    explained: bool,
-    json: bool,
-) -> io::Result<ExitCode> {
-    let told = tell(rt, line_of(rt.alloc(), end, json), explained)?;
-    if end.wrong.is_none() {
-        return Ok(told);
-    }
-    Ok(ExitCode::from(1))
-}
-
-/// Checks the tables of the network of a file.
-pub fn check(
-    rt: &HostRuntime,
-    threads: &(impl Threads + Sync),
-    net: &str,
-    explained: bool,
-    json: bool,
-) -> io::Result<ExitCode> {
-    match check_tables(threads, rt.alloc(), load_file(rt, net, explained)) {
-        Ok(end) => report_check(rt, &end, explained, json),
-        Err(fault) => report(rt, Some(fault)),
-    }
-}
-
-/// Explanations as objects of JSON, each on a line.
-fn objects_of(alloc: Global, list: &[Explanation]) -> Result<Vec<u8>, AllocError> {
-    let mut objects = Vec::new(alloc);
+/// Explanations as objects of JSON, each on a line, behind others.
+fn with_objects(others: Vec<u8>, list: &[Explanation]) -> Result<Vec<u8>, AllocError> {
+    let mut objects = others;
     for explanation in list {
         objects = write_texts(
             objects,
@@ -96,6 +33,20 @@ fn objects_of(alloc: Global, list: &[Explanation]) -> Result<Vec<u8>, AllocError
         )?;
     }
     Ok(objects)
+}
+
+/// All explanations as objects of JSON, each on a line: those of warnings are the last.
+fn all_objects(alloc: Global) -> Result<Vec<u8>, AllocError> {
+    let objects = with_objects(Vec::new(alloc), explanations())?;
+    with_objects(objects, warnings())
+}
+
+/// The titles and the meanings of all explanations, a line each: those of warnings are the last.
+fn all_titles(alloc: Global) -> Result<String, AllocError> {
+    let mut text = write_titles(alloc, explanations())?;
+    let more = write_titles(alloc, warnings())?;
+    text.push_str(more.as_str())?;
+    Ok(text)
 }
 
 /// Says that nothing is called by a word.
@@ -142,8 +93,12 @@ fn explain_form(rt: &HostRuntime, word: &str, json: bool) -> io::Result<ExitCode
 /// Writes the explanation that a word calls; of a script's word that calls none its form.
 fn explain_word(rt: &HostRuntime, word: &str, json: bool) -> io::Result<ExitCode> {
     let alloc = rt.alloc();
-    match find(word) {
-        Some(explanation) if json => tell_bytes(rt, objects_of(alloc, &[*explanation]), false),
+    match find(word).or(find_warning(word)) {
+        Some(explanation) if json => tell_bytes(
+            rt,
+            with_objects(Vec::new(alloc), &[*explanation]),
+            false,
+        ),
         Some(explanation) => tell(rt, write_explanation(alloc, explanation), false),
         None => explain_form(rt, word, json),
     }
@@ -153,13 +108,13 @@ fn explain_word(rt: &HostRuntime, word: &str, json: bool) -> io::Result<ExitCode
 pub fn explain(rt: &HostRuntime, what: Option<&str>, json: bool) -> io::Result<ExitCode> {
     match what {
         Some(word) => explain_word(rt, word, json),
-        None if json => tell_bytes(rt, objects_of(rt.alloc(), explanations()), false),
-        None => tell(rt, write_titles(rt.alloc(), explanations()), false),
+        None if json => tell_bytes(rt, all_objects(rt.alloc()), false),
+        None => tell(rt, all_titles(rt.alloc()), false),
     }
 }
 
 /// Says that a picture's destination has no plan.
-fn report_no_plan(rt: &HostRuntime, about: &str, explained: bool) -> io::Result<ExitCode> {
+pub fn report_no_plan(rt: &HostRuntime, about: &str, explained: bool) -> io::Result<ExitCode> {
     if explained {
         say(
             rt,
@@ -176,7 +131,7 @@ fn report_no_plan(rt: &HostRuntime, about: &str, explained: bool) -> io::Result<
 }
 
 /// Says that what a picture is to be about is no code.
-fn report_no_code(rt: &HostRuntime, about: &str, explained: bool) -> io::Result<ExitCode> {
+pub fn report_no_code(rt: &HostRuntime, about: &str, explained: bool) -> io::Result<ExitCode> {
     if explained {
         say(
             rt,

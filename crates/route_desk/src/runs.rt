@@ -154,7 +154,7 @@ fn run_from(
     requires { workers ≤ 32 }
 {
     let alloc = rt.alloc();
-    let wanted = is_terminal(rt);
+    let wanted = is_terminal(rt, STANDARD_INPUT);
     if wanted {
         greet(rt, &net);
     }

@@ -1,6 +1,6 @@
 //! The three tables of a folder, which a spreadsheet reads and writes.
 
-use crate::files::{Devices, fault_of, save_text};
+use crate::files::{FileText, NotSaved, fault_of, save_together};
 use crate::reasons::{explain_file, write_refused};
 use crate::saying::say;
 use answers::put_refusal;
@@ -89,38 +89,47 @@ pub fn read_folder(rt: &HostRuntime, dir: &str) -> Result<Net, FolderFault> {
     }
 }
 
-/// Writes a table to its file in a folder, and says why it can't be written if that is wanted.
-fn write_sheet(
-    rt: &HostRuntime,
-    dir: &str,
-    sheet: Sheet,
-    text: Result<String, AllocError>,
-    explained: bool,
-) -> Result<(), Fault> {
-    let (Ok(path), Ok(text)) = (path_of(rt.alloc(), dir, sheet), text) else {
-        return Err(Fault::OutOfMemory);
-    };
-    match save_text(rt, path.as_str(), text.as_str(), Devices::Refused) {
-        Ok(()) => Ok(()),
-        Err(error) => {
-            if explained {
-                explain_file(rt, path.as_str(), &error);
-            }
-            Err(fault_of(&error))
-        }
+/// The text of a table of a network.
+fn write_sheet(alloc: Global, net: &Net, sheet: Sheet) -> Result<String, AllocError> {
+    match sheet {
+        Sheet::Points => write_points(alloc, net),
+        Sheet::Sets => write_sets(alloc, net),
+        Sheet::Routes => write_routes(alloc, net),
     }
 }
 
-/// Writes a network as the tables of a folder.
+/// The tables of a network with the names of their files in a folder.
+fn texts_of(alloc: Global, net: &Net, dir: &str) -> Result<Vec<FileText>, AllocError> {
+    let mut texts = Vec::new(alloc);
+    for sheet in [Sheet::Points, Sheet::Sets, Sheet::Routes] {
+        let name = path_of(alloc, dir, sheet)?;
+        let text = write_sheet(alloc, net, sheet)?;
+        texts.push(FileText { name, text })?;
+    }
+    Ok(texts)
+}
+
+/// Says why a table can't be written.
+fn explain_unsaved(rt: &HostRuntime, texts: &[FileText], fault: &NotSaved) {
+    if let Some(text) = texts.get(fault.place) {
+        explain_file(rt, text.name.as_str(), &fault.error);
+    }
+}
+
+/// Writes a network as the tables of a folder, all of them or none.
 pub fn write_folder(rt: &HostRuntime, net: &Net, dir: &str, explained: bool) -> Result<(), Fault> {
-    let alloc = rt.alloc();
-    if let Err(fault) = write_sheet(rt, dir, Sheet::Points, write_points(alloc, net), explained) {
-        return Err(fault);
+    let Ok(texts) = texts_of(rt.alloc(), net, dir) else {
+        return Err(Fault::OutOfMemory);
+    };
+    match save_together(rt, texts.as_slice()) {
+        Ok(()) => Ok(()),
+        Err(fault) => {
+            if explained {
+                explain_unsaved(rt, texts.as_slice(), &fault);
+            }
+            Err(fault_of(&fault.error))
+        }
     }
-    if let Err(fault) = write_sheet(rt, dir, Sheet::Sets, write_sets(alloc, net), explained) {
-        return Err(fault);
-    }
-    write_sheet(rt, dir, Sheet::Routes, write_routes(alloc, net), explained)
 }
 
 /// Adds the points of a loop.
@@ -131,6 +140,17 @@ fn put_loop(alloc: Global, text: &mut String, points: &[PointCode]) -> Result<()
         point.put_text(alloc, text)?;
     }
     Ok(())
+}
+
+/// Adds that two mates lead to each other.
+fn put_mates(
+    alloc: Global,
+    text: &mut String,
+    one: PointCode,
+    other: PointCode,
+) -> Result<(), AllocError> {
+    put_loop(alloc, text, &[one, other])?;
+    text.push_str(", which are mates; for the way over the mate there is the class mate")
 }
 
 /// The name of a column, by its place from 1.
@@ -145,14 +165,34 @@ fn column_at(sheet: Sheet, place: u8) -> &'static str {
     ""
 }
 
-/// Adds that a column can't be read, by its place from 1.
+/// Adds that a column can't be read, by its place from 1; of a class, of which there are few, what it may be.
 fn put_column(text: &mut String, sheet: Sheet, place: u8) -> Result<(), AllocError> {
+    let column = column_at(sheet, place);
     text.push_str("the column ")?;
-    text.push_str(column_at(sheet, place))?;
-    text.push_str(" can't be read")
+    text.push_str(column)?;
+    if column != "class" {
+        return text.push_str(" can't be read");
+    }
+    text.push_str(" has to be ")?;
+    text.push_str(field_form(column))
 }
 
-/// Adds what is wrong with a line of a table.
+/// What a reason says that needs no values.
+fn sentence_of(reason: &Reason) -> &'static str {
+    match reason {
+        Reason::Csv => "no CSV, or not as many fields as columns",
+        Reason::FifthClass =>
+            "answers write class 5 for the way over the mate; in a table its class is mate",
+        Reason::ThirdVia => "a class has one or two vias, and this is a third",
+        Reason::SplitDestination => "the routes of this destination don't stand together",
+        Reason::SplitPoint => "the routes of this point to the destination don't stand together",
+        Reason::ClassOrder => "the classes of a point go up one by one from 1, and mate comes last",
+        Reason::TooDeep => "a route is longer than 255 ranks",
+        _ => "1 OutOfMemory",
+    }
+}
+
+/// Adds what is wrong at a place of a table.
 fn put_reason(
     alloc: Global,
     text: &mut String,
@@ -160,23 +200,19 @@ fn put_reason(
     reason: &Reason,
 ) -> Result<(), AllocError> {
     match reason {
-        Reason::Csv => text.push_str("no CSV, or not as many fields as columns"),
         Reason::Columns => {
             text.push_str("the columns have to be ")?;
             text.push_str(columns_of(sheet))
         }
         Reason::Field(place) => put_column(text, sheet, *place),
-        Reason::Order => text.push_str(
-            "the routes of a destination or of a point don't stand together, or a class is left out",
-        ),
         Reason::Refused(refusal) => put_refusal(alloc, text, refusal),
+        Reason::MateLoop(one, other) => put_mates(alloc, text, *one, *other),
         Reason::Loop(points) => put_loop(alloc, text, points.as_slice()),
-        Reason::TooDeep => text.push_str("a route is longer than 255 ranks"),
-        Reason::OutOfMemory => text.push_str("1 OutOfMemory"),
+        reason => text.push_str(sentence_of(reason)),
     }
 }
 
-/// Why the tables of a folder say no network, with the file and the line.
+/// Why the tables of a folder say no network, with the file, the line and the column.
 pub fn describe(alloc: Global, fault: &FolderFault) -> Result<String, AllocError> {
     match fault {
         FolderFault::Read(sheet, _) => {
@@ -185,8 +221,8 @@ pub fn describe(alloc: Global, fault: &FolderFault) -> Result<String, AllocError
         }
         FolderFault::OutOfMemory => String::from_str(alloc, "1 OutOfMemory"),
         FolderFault::Wrong(fault) => {
-            let (file, line) = (file_of(fault.sheet), fault.line);
-            let mut text = format!(in alloc; "{file} line {line}: ")?;
+            let (file, line, column) = (file_of(fault.sheet), fault.line, fault.column);
+            let mut text = format!(in alloc; "{file} line {line}, column {column}: ")?;
             put_reason(alloc, &mut text, fault.sheet, &fault.reason)?;
             Ok(text)
         }
@@ -206,7 +242,30 @@ fn field_form(column: &str) -> &'static str {
     }
 }
 
-/// What is wrong with a line of a table, and what to do.
+/// What to do where a reason is told, beyond what it says.
+fn advice_of(reason: &Reason) -> &'static str {
+    match reason {
+        Reason::Csv =>
+            "; write as many fields as the header has, none of them with a comma but in quotes, and close each quote",
+        Reason::Columns =>
+            "; write this header in small letters, with commas between and no other column",
+        Reason::FifthClass => "; write mate in the column class, and leave the column via empty",
+        Reason::ThirdVia => "; give it the next class, or leave it out",
+        Reason::SplitDestination =>
+            "; move this record up to the others of its destination, or sort the table by destination",
+        Reason::SplitPoint => "; move this record up to the others of its destination and point",
+        Reason::ClassOrder =>
+            "; add the class that is left out, or sort the records of this destination and point by class",
+        Reason::MateLoop(_, _) =>
+            "; write a record of the class mate, without a via, for each of the two, in place of the one that leads to the other",
+        Reason::Loop(_) =>
+            "; take away one of the vias by which each of these points leads to the next",
+        Reason::TooDeep => "; take away vias until no route passes more than 255 points",
+        _ => "",
+    }
+}
+
+/// What is wrong at a place of a table, and what to do.
 fn write_wrong(alloc: Global, fault: &SheetFault) -> Result<String, AllocError> {
     match &fault.reason {
         Reason::Refused(refusal) => write_refused(alloc, refusal),
@@ -218,23 +277,24 @@ fn write_wrong(alloc: Global, fault: &SheetFault) -> Result<String, AllocError> 
         reason => {
             let mut text = String::new(alloc);
             put_reason(alloc, &mut text, fault.sheet, reason)?;
+            text.push_str(advice_of(reason))?;
             Ok(text)
         }
     }
 }
 
-/// Says what is wrong with a line of a table, and where.
+/// Says what is wrong at a place of a table, and where.
 fn explain_line(rt: &HostRuntime, path: &str, fault: &SheetFault) {
-    let line = fault.line;
+    let (line, column) = (fault.line, fault.column);
     if let (Ok(place), Ok(wrong)) = (
-        format!(in rt.alloc(); ": line {line}: "),
+        format!(in rt.alloc(); ": line {line}, column {column}: "),
         write_wrong(rt.alloc(), fault),
     ) {
         say(rt, &[path, place.as_str(), wrong.as_str()]);
     }
 }
 
-/// Says why the tables of a folder say no network: the system's reason, or what is wrong with which line, and what to do.
+/// Says why the tables of a folder say no network: the system's reason, or what is wrong at which place, and what to do.
 pub fn explain_folder(rt: &HostRuntime, dir: &str, fault: &FolderFault) {
     match fault {
         FolderFault::OutOfMemory => {}

@@ -4,9 +4,9 @@
 use net_data::Net;
 use std::{fs, io};
 
-/// Whether standard input is a terminal, by the file that the system shows it as.
-pub fn is_terminal(rt: &HostRuntime) -> bool {
-    match fs::canonicalize(rt, "/dev/stdin") {
+/// Whether a standard stream is a terminal, by the file that the system shows it as.
+pub fn is_terminal(rt: &HostRuntime, stream: &str) -> bool {
+    match fs::canonicalize(rt, stream) {
         Ok(file) => {
             let name = file.as_str();
             name.starts_with("/dev/pts/") || name.starts_with("/dev/tty")

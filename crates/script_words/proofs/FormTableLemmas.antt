@@ -97,7 +97,7 @@ verb_found word =
 
 net_word_found : (word : List ℕ) → IsSome (net_word_of word) → IsFound word
 net_word_found word =
-    found_or word (codes "whatif") _ _ refl (found_or word (codes "reroutes") _ _ refl (found_or word (codes "survey") _ _ refl (found_or word (codes "show") _ _ refl (found_or word (codes "statuses") _ _ refl (found_or word (codes "audit") _ _ refl (found_or word (codes "changes") _ _ refl (found_or word (codes "watch") _ _ refl (found_or word (codes "picture") _ _ refl (found_or word (codes "save") _ _ refl (none_found CommandWord word))))))))))
+    found_or word (codes "whatif") _ _ refl (found_or word (codes "reroutes") _ _ refl (found_or word (codes "survey") _ _ refl (found_or word (codes "warn") _ _ refl (found_or word (codes "show") _ _ refl (found_or word (codes "statuses") _ _ refl (found_or word (codes "audit") _ _ refl (found_or word (codes "changes") _ _ refl (found_or word (codes "watch") _ _ refl (found_or word (codes "picture") _ _ refl (found_or word (codes "save") _ _ refl (none_found CommandWord word)))))))))))
 
 desk_word_found : (word : List ℕ) → IsSome (desk_word_of word) → IsFound word
 desk_word_found word =

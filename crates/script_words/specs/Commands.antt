@@ -164,6 +164,7 @@ net_word_of text =
     if bytes_eq text (codes "whatif") then Some word.WhatIf
     else if bytes_eq text (codes "reroutes") then Some word.Reroutes
     else if bytes_eq text (codes "survey") then Some word.Survey
+    else if bytes_eq text (codes "warn") then Some word.Warn
     else if bytes_eq text (codes "show") then Some word.Show
     else if bytes_eq text (codes "statuses") then Some word.Statuses
     else if bytes_eq text (codes "audit") then Some word.Audit
@@ -231,6 +232,8 @@ command_by word.WhatIf rest = option_map (λ events. Command.WhatIf events) (eve
 command_by word.Reroutes rest = option_map (λ events. Command.Reroutes events) (events_of rest)
 -- `survey sets`, `survey points` and `survey down`, and events after them
 command_by word.Survey rest = survey_of rest
+-- `warn`
+command_by word.Warn rest = alone Command.Warn rest
 -- `post C SEQ EVENT`
 command_by word.Post rest = post_of rest
 -- `open`

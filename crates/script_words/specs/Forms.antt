@@ -55,10 +55,11 @@ command_forms =
     record { word = codes "trace"; form = codes "trace Y X S"; example = codes "trace 2-1-1 2-1-2 0"; meaning = codes "the way of the signalling link selection S, 0 to 15, from Y to X" } ∷
     record { word = codes "whatif"; form = codes "whatif EVENT ; EVENT .."; example = codes "whatif set fail 2 ; inhibit 1 0 a"; meaning = codes "which statuses these events would change; they aren't made" } ∷
     record { word = codes "reroutes"; form = codes "reroutes EVENT ; EVENT .."; example = codes "reroutes point fail 2-10-1 ; restore 2 0"; meaning = codes "what these events would move to other routes, take and bring back; they aren't made" } ∷
-    record { word = codes "survey"; form = codes "survey WHAT or survey WHAT EVENT ; EVENT .."; example = codes "survey sets"; meaning = codes "WHAT is sets or points, and tells how many pairs of point and destination each would take if it failed alone; or down, and tells how many each set that is down would bring back if it alone were restored; after these events, if any" } ∷
+    record { word = codes "survey"; form = codes "survey WHAT or survey WHAT EVENT ; EVENT .."; example = codes "survey sets"; meaning = codes "WHAT is sets or points, and tells how many pairs of point and destination each would take if it failed alone; or down, and tells how many each set that is down would bring back if it alone were restored, with all marks of its links gone; after these events, if any" } ∷
+    record { word = codes "warn"; form = codes "warn"; example = codes "warn"; meaning = codes "what a planner should look at: rows and plans that are missing, points and sets that no plan uses, and what a single failure would take; route_desk explain NAME says what each means" } ∷
     record { word = codes "picture"; form = codes "picture FILE or picture FILE X"; example = codes "picture net.svg 2-1-2"; meaning = codes "a picture of the network, or of the routes to X, into a file that ends in .svg, .dot or .gv" } ∷
     record { word = codes "save"; form = codes "save FILE"; example = codes "save net.toml"; meaning = codes "the network after all accepted events into a file" } ∷
-    record { word = codes "changes"; form = codes "changes or changes N or changes WHICH or changes N WHICH"; example = codes "changes 2"; meaning = codes "what moved since the version before, or since version N, one of the last eight; WHICH is lost, regained or moved, and tells those alone" } ∷
+    record { word = codes "changes"; form = codes "changes or changes N or changes WHICH or changes N WHICH"; example = codes "changes 2"; meaning = codes "what moved since the version before, or since version N, one of the last eight: Y/X is the point Y and the destination X, with its status or its route before and after; WHICH is lost, regained or moved, and tells those alone" } ∷
     record { word = codes "watch"; form = codes "watch on or watch off"; example = codes "watch on"; meaning = codes "whether each publication tells what it moves" } ∷
     record { word = codes "audit"; form = codes "audit"; example = codes "audit"; meaning = codes "whether each table is right" } ∷
     []

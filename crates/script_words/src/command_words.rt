@@ -32,6 +32,8 @@ pub enum CommandWord {
     Reroutes,
     /// `survey`.
     Survey,
+    /// `warn`.
+    Warn,
     /// `post`.
     Post,
     /// `open`.
@@ -74,6 +76,7 @@ fn read_net_word(word: &[u8]) -> Option<CommandWord>
         _ if is_word(word, "whatif") => Some(CommandWord::WhatIf),
         _ if is_word(word, "reroutes") => Some(CommandWord::Reroutes),
         _ if is_word(word, "survey") => Some(CommandWord::Survey),
+        _ if is_word(word, "warn") => Some(CommandWord::Warn),
         _ if is_word(word, "show") => Some(CommandWord::Show),
         _ if is_word(word, "statuses") => Some(CommandWord::Statuses),
         _ if is_word(word, "audit") => Some(CommandWord::Audit),

@@ -112,6 +112,8 @@ pub enum Command {
     Reroutes(Events),
     /// What single failures would take, or single repairs bring back, after events is asked.
     Survey(Surveyed, Events),
+    /// What a planner is warned of is asked.
+    Warn,
     /// A check of all tables is asked.
     Audit,
     /// Something of the published network is to be shown.

@@ -233,7 +233,13 @@ const FORMS: &[Form] = &[
         word: "survey",
         form: "survey WHAT or survey WHAT EVENT ; EVENT ..",
         example: "survey sets",
-        meaning: "WHAT is sets or points, and tells how many pairs of point and destination each would take if it failed alone; or down, and tells how many each set that is down would bring back if it alone were restored; after these events, if any",
+        meaning: "WHAT is sets or points, and tells how many pairs of point and destination each would take if it failed alone; or down, and tells how many each set that is down would bring back if it alone were restored, with all marks of its links gone; after these events, if any",
+    },
+    Form {
+        word: "warn",
+        form: "warn",
+        example: "warn",
+        meaning: "what a planner should look at: rows and plans that are missing, points and sets that no plan uses, and what a single failure would take; route_desk explain NAME says what each means",
     },
     Form {
         word: "picture",
@@ -251,7 +257,7 @@ const FORMS: &[Form] = &[
         word: "changes",
         form: "changes or changes N or changes WHICH or changes N WHICH",
         example: "changes 2",
-        meaning: "what moved since the version before, or since version N, one of the last eight; WHICH is lost, regained or moved, and tells those alone",
+        meaning: "what moved since the version before, or since version N, one of the last eight: Y/X is the point Y and the destination X, with its status or its route before and after; WHICH is lost, regained or moved, and tells those alone",
     },
     Form {
         word: "watch",

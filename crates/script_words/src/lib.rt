@@ -18,7 +18,7 @@
 //!
 //! 9. EVENT: an event, posted by collector 0. `post C SEQ EVENT`: a post by the collector C, 0 to 255, with the sequence
 //!    number SEQ, a number of 64 bits.
-//! 10. `open`, `publish`, `sync`, `version` and `audit` stand alone; `take K`, `give K` and `abandon K` name a slot, 0 to 31; `last C`
+//! 10. `open`, `publish`, `sync`, `version`, `who`, `warn` and `audit` stand alone; `take K`, `give K` and `abandon K` name a slot, 0 to 31; `last C`
 //!     names a collector; `changes` and `changes N`, N a number of 64 bits, either with `lost`, `regained` or `moved` after it; `watch on`
 //!     and `watch off`.
 //! 11. `status Y X`, `sls Y X`, `messages Y X`, `octets Y Z X`, `why Y X`, `mend Y X`, `mend allowed Y X`, `remedy Y X` and `remedy allowed

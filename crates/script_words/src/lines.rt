@@ -123,6 +123,7 @@ fn read_plain(word: CommandWord, rest: &[&[u8]]) -> Option<Command>
         CommandWord::Version => only(Command::Version, rest),
         CommandWord::Last => read_only_collector(rest).map(Command::Last),
         CommandWord::Who => only(Command::Who, rest),
+        CommandWord::Warn => only(Command::Warn, rest),
         CommandWord::Audit => only(Command::Audit, rest),
         CommandWord::Changes => read_changes(rest),
         CommandWord::Watch => read_switch(rest).map(Command::Watch),

@@ -374,6 +374,7 @@ module _ (start : Network) (seats : ℕ) (b : BesideValue) (line : List ℕ) (to
   obeyed a is_told rules other (Some (command.WhatIf events)) here is = looks (rw here refl) is.1.seat is.1.seen
   obeyed a is_told rules other (Some (command.Reroutes events)) here is = looks (rw here refl) is.1.seat is.1.seen
   obeyed a is_told rules other (Some (command.Survey what events)) here is = looks (rw here refl) is.1.seat is.1.seen
+  obeyed a is_told rules other (Some command.Warn) here is = looks (rw here refl) is.1.seat is.1.seen
   obeyed a is_told rules other (Some command.Audit) here is = looks (rw here refl) is.1.seat is.1.seen
   obeyed a is_told rules other (Some (command.Picture file about)) here is = looks (rw here refl) is.1.seat is.1.seen
   obeyed a is_told rules other (Some (command.Show what)) here is = looks (rw here refl) is.1.seat is.1.seen

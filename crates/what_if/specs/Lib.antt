@@ -3,3 +3,4 @@ pub mod Reroutes
 pub mod Mending
 pub mod Listed
 pub mod Survey
+pub mod Warnings

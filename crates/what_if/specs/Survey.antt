@@ -88,13 +88,13 @@ effect_of net one = record { single = one; pairs = pairs_by net one }
 abbrev pub has_effect : Effect → Bool
 has_effect effect = nat_lt 0 effect.pairs
 
--- how much is tried, and what has an effect, in its order
+-- the survey in which all that is tried has these effects: how much that is, and what has one, in its order
+abbrev pub survey_from : Surveyed → List Effect → Survey
+survey_from what all = record { surveyed = what; tried = length all; effects = filter has_effect all }
+
+-- the survey of a network
 abbrev pub survey_of : Surveyed → Network → Survey
-survey_of what net = record {
-  surveyed = what;
-  tried = length (singles what net);
-  effects = filter has_effect (map (effect_of net) (singles what net));
-}
+survey_of what net = survey_from what (map (effect_of net) (singles what net))
 
 -- ---- after events
 

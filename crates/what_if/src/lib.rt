@@ -18,9 +18,12 @@
 //! 8. A survey tries each set with an available link, or each transfer point, that fails alone, or each set without an available link
 //!    that is restored alone, and tells how many pairs of a point and a destination each takes or brings back: as a what-if of it
 //!    tells. Those of a point that fails itself aren't counted.
+//! 9. A planner is warned, plan by plan, of a row that is missing though a set joins its point to one with a row or to the destination, and
+//!    of a plan that a mate lacks; point by point, that no row leads traffic to it, or that no plan names it; of sets that no row leads
+//!    over; and of each set and each transfer point whose failure alone takes pairs.
 //!
-//! Stands on `net_versions`, `net_building`. A change here also changes specs/ (Listed, Mending, Reports, Reroutes, Survey), proofs/,
-//! must-fail/ and wrong-bodies/.
+//! Stands on `net_versions`, `net_building`. A change here also changes specs/ (Listed, Mending, Reports, Reroutes, Survey, Warnings),
+//! proofs/, must-fail/ and wrong-bodies/.
 #![tactic(auto)]
 
 pub mod changes;
@@ -36,6 +39,7 @@ pub mod reroutes;
 pub mod survey;
 pub mod versions;
 pub mod wanted;
+pub mod warnings;
 
 pub use changes::{Change, Changes};
 pub use listed::{report_listed, reroutes_listed};
@@ -43,6 +47,9 @@ pub use mending::{Mend, SetLink, find_mend, mate_row};
 pub use moving::reroutes_by;
 pub use reports::{Refused, Report, what_if};
 pub use reroutes::{Reroute, RerouteCounts, Reroutes, is_lost, is_only_moved, is_regained};
-pub use survey::{Effect, Effects, Single, Survey, survey_listed};
+pub use survey::{
+    Effect, Effects, Single, Survey, effect_of, singles_of, survey_from, survey_listed,
+};
 pub use versions::reroutes_since;
 pub use wanted::Wanted;
+pub use warnings::{Warning, Warnings, warnings_by, warnings_of};

@@ -4,7 +4,7 @@ ghost use Rattle.std.specs.Prelude.{◌≡◌, filter, length, map, IfOk};
 ghost use Rattle.link_sets.specs.Availability.{set_available as available};
 ghost use Rattle.net_items.specs.declared.items.LinkSet.{LinkSet as SetValue};
 ghost use Rattle.net_items.specs.declared.items.Point.{Point as PointValue};
-ghost use Rattle.what_if.specs.Survey.{effect_of, has_effect, is_about as the_about, is_counted as counted, is_down as the_down, is_gain as the_gain, is_transfer as transfers, pairs_by, singles, survey_listed as the_survey, survey_of, tried as the_tried};
+ghost use Rattle.what_if.specs.Survey.{effect_of as the_effect, has_effect, is_about as the_about, is_counted as counted, is_down as the_down, is_gain as the_gain, is_transfer as transfers, pairs_by, singles, survey_from as the_survey_from, survey_listed as the_survey, survey_of, tried as the_tried};
 
 use crate::changes::{Change, is_loss, is_prohibited, is_usable};
 use crate::listed::{network_listed, report_listed};
@@ -149,25 +149,60 @@ fn pairs_of(alloc: Global, version: &Version, single: &Single) -> Result<usize, 
     }
 }
 
-/// What each of these takes or brings back, if it is something.
+/// What a single failure of a version's network takes, or a single repair brings back.
+///
+/// # Errors
+///
+/// `AllocError` if memory is refused.
+pub fn effect_of(alloc: Global, version: &Version, single: Single) -> Result<Effect, AllocError>
+    ensures { IfOk result (λ effect. effect ≡ the_effect version.now.network single) }
+{
+    let pairs = pairs_of(alloc, version, &single)?;
+    Ok(Effect { single, pairs })
+}
+
+/// What each of these takes or brings back.
 fn effects_of(
     alloc: Global,
     version: &Version,
     singles: &[Single],
 ) -> Result<Vec<Effect>, AllocError>
-    ensures { IfOk result (λ effects. effects.items ≡ filter has_effect (map (effect_of version.now.network) singles.now)) }
+    ensures { IfOk result (λ effects. effects.items ≡ map (the_effect version.now.network) singles.now) }
 {
-    let mut effects = Vec::new(alloc);
+    let mut effects = Vec::with_capacity(alloc, singles.len())?;
     for single in singles {
-        let pairs = pairs_of(alloc, version, single)?;
-        if pairs > 0 {
-            effects.push(Effect {
-                single: *single,
-                pairs,
-            })?;
-        }
+        effects.push(effect_of(alloc, version, *single)?)?;
     }
     Ok(effects)
+}
+
+/// Those that take or bring back some pair.
+fn with_effect(alloc: Global, effects: &[Effect]) -> Result<Vec<Effect>, AllocError>
+    ensures { IfOk result (λ some. some.items ≡ filter has_effect effects.now) }
+{
+    let mut some = Vec::new(alloc);
+    for effect in effects {
+        if effect.pairs > 0 {
+            some.push(*effect)?;
+        }
+    }
+    Ok(some)
+}
+
+/// The survey in which all that is tried has these effects.
+///
+/// # Errors
+///
+/// `AllocError` if memory is refused.
+pub fn survey_from(alloc: Global, what: Surveyed, effects: &[Effect]) -> Result<Survey, AllocError>
+    ensures { IfOk result (λ survey. survey ≡ the_survey_from what effects.now) }
+{
+    let list = with_effect(alloc, effects)?;
+    Ok(Survey {
+        surveyed: what,
+        tried: effects.len(),
+        effects: Effects { list },
+    })
 }
 
 /// The failures of sets with an available link.
@@ -227,7 +262,11 @@ fn failing_points(alloc: Global, points: &[Point]) -> Result<Vec<Single>, AllocE
 }
 
 /// What of a network is tried, one after the other.
-fn singles_of(alloc: Global, net: &Net, what: Surveyed) -> Result<Vec<Single>, AllocError>
+///
+/// # Errors
+///
+/// `AllocError` if memory is refused.
+pub fn singles_of(alloc: Global, net: &Net, what: Surveyed) -> Result<Vec<Single>, AllocError>
     ensures { IfOk result (λ list. list.items ≡ singles what net.now) }
 {
     match what {
@@ -238,16 +277,16 @@ fn singles_of(alloc: Global, net: &Net, what: Surveyed) -> Result<Vec<Single>, A
 }
 
 /// The survey of a version's network.
-fn survey_version(alloc: Global, version: &Version, what: Surveyed) -> Result<Survey, AllocError>
+pub(crate) fn survey_version(
+    alloc: Global,
+    version: &Version,
+    what: Surveyed,
+) -> Result<Survey, AllocError>
     ensures { IfOk result (λ survey. survey ≡ survey_of what version.now.network) }
 {
     let singles = singles_of(alloc, version.net().net(), what)?;
-    let list = effects_of(alloc, version, singles.as_slice())?;
-    Ok(Survey {
-        surveyed: what,
-        tried: singles.len(),
-        effects: Effects { list },
-    })
+    let effects = effects_of(alloc, version, singles.as_slice())?;
+    survey_from(alloc, what, effects.as_slice())
 }
 
 /// The survey of a network that was never published.

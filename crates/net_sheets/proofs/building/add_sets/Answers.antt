@@ -14,5 +14,5 @@ loop-i-preserved c =
 
 pub returns-in-Err-clause-err : goal.returns-in-Err-clause-err
 returns-in-Err-clause-err c =
-    c.refused.ensures (apply_all c.args.net.now (flat_map set_events c.args.sets.now)) (λ other. stop_more set_events c.loop-i.net c.args.sets.now c.loop-i.i c.index-sets-i.result c.in-Err.refusal _ c.loop-i-test.true
+    c.refused_at.ensures (apply_all c.args.net.now (flat_map set_events c.args.sets.now)) (λ other. stop_more set_events c.loop-i.net c.args.sets.now c.loop-i.i c.index-sets-i.result c.in-Err.refusal _ c.loop-i-test.true
     (ap (λ (s : LinkSet). apply_all c.loop-i.net (set_events s)) (sym c.index-sets-i.is) ∙ c.in-Err.ensures.err other) c.loop-i.invariant)

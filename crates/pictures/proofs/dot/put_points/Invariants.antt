@@ -4,4 +4,4 @@ use Rattle.pictures.specs.Dot.{dot_point}
 use Rattle.pictures.proofs.dot.put_points.Given as goal
 
 abbrev pub invariant-loop-point : goal.invariant-loop-point
-invariant-loop-point l = string_bytes l.text ≡ string_bytes l.fn.text ++ flat_map (dot_point l.shown) (take l.point-index l.points)
+invariant-loop-point l = string_bytes l.text ≡ string_bytes l.fn.text ++ flat_map dot_point (take l.point-index l.points)

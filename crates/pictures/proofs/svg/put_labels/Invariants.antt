@@ -3,5 +3,5 @@ use Rattle.std.specs.List.{flat_map}
 use Rattle.pictures.specs.Svg.{svg_label}
 use Rattle.pictures.proofs.svg.put_labels.Given as goal
 
-abbrev pub invariant-loop-set : goal.invariant-loop-set
-invariant-loop-set l = string_bytes l.text ≡ string_bytes l.fn.text ++ flat_map (svg_label l.net.points l.places l.shown) (take l.set-index l.sets)
+abbrev pub invariant-loop-placed : goal.invariant-loop-placed
+invariant-loop-placed l = string_bytes l.text ≡ string_bytes l.fn.text ++ flat_map svg_label (take l.placed-index l.sets)

@@ -4,4 +4,4 @@ use Rattle.pictures.specs.Svg.{svg_point}
 use Rattle.pictures.proofs.svg.put_points.Given as goal
 
 abbrev pub invariant-loop-point : goal.invariant-loop-point
-invariant-loop-point l = string_bytes l.text ≡ string_bytes l.fn.text ++ flat_map (svg_point l.places l.shown) (take l.point-index l.points)
+invariant-loop-point l = string_bytes l.text ≡ string_bytes l.fn.text ++ flat_map (svg_point l.places) (take l.point-index l.points)

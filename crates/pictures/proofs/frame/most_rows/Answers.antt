@@ -1,9 +1,0 @@
-use Rattle.std.proofs.Common.{arith}
-use Rattle.pictures.proofs.LayoutLemmas.{most_step}
-use Rattle.pictures.proofs.frame.most_rows.Goals as goal
-
-pub loop-hub-preserved : goal.loop-hub-preserved
-loop-hub-preserved c = record {
-  most = most_step c.args.stands.now c.args.hubs.now c.loop-hub.hub-index c.hub-item.result _ _ _ _ c.loop-hub-test.true c.hub-item.is c.loop-hub.invariant.most c.end_count.ensures.value c.rows_for.ensures.value c.max-rows.ensures;
-  few = omega arith;
-}
