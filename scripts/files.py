@@ -18,7 +18,7 @@ HERE = os.path.join(os.path.dirname(os.path.abspath(__file__)), "..", "examples"
 NETWORK = os.path.abspath(os.path.join(HERE, "small.toml"))
 WRITE = "route_desk: 64 Write\n"
 NOBODY = 65534
-TABLES = ["points.csv", "sets.csv", "routes.csv"]
+TABLES = ["network.csv", "points.csv", "sets.csv", "routes.csv"]
 PROGRAM = ""
 
 
@@ -326,8 +326,8 @@ def a_table_goes_to_no_pipe(folder):
     want(got == ("", f"{folder}/sets.csv: a pipe isn't written\n" + WRITE, 1), f"the run: {got}")
 
 
-def three_tables(folder, place="."):
-    """Makes the three files of a network's tables, each with a text of its own; their nodes."""
+def tables_before(folder, place="."):
+    """Makes the files of a network's tables, each with a text of its own; their nodes."""
     for name in TABLES:
         write(folder, os.path.join(place, name), f"{name} before\n")
     return [os.stat(os.path.join(folder, place, name)).st_ino for name in TABLES]
@@ -342,7 +342,7 @@ def want_as_they_were(folder, nodes, place="."):
 
 
 def tables_take_their_places_together(folder):
-    nodes = three_tables(folder)
+    nodes = tables_before(folder)
     want(run(["export", NETWORK, folder]) == ("", "", 0), "the run")
     for name, node in zip(TABLES, nodes):
         want("before" not in read(folder, name) and os.stat(os.path.join(folder, name)).st_ino != node, name)
@@ -358,8 +358,8 @@ def tables_stay_where_one_of_them_is_a_folder(folder):
 
 
 def tables_stay_where_the_disk_is_full(folder):
-    # there is room for the first two, and not for the third
-    nodes = three_tables(folder)
+    # there is room for the first three, and not for the last
+    nodes = tables_before(folder)
     got = run(["export", NETWORK, folder], preexec_fn=lambda: resource.setrlimit(resource.RLIMIT_FSIZE, (60, 60)), restore_signals=False)
     want(got == ("", WRITE, 1), f"the run: {got}")
     want_as_they_were(folder, nodes)
@@ -378,12 +378,12 @@ def export_as_nobody(folder, place):
 
 
 def tables_get_their_places_back_where_a_later_one_cant_take_its_own(folder):
-    # in a folder like /tmp the last table is another's: all three are written, two take their places, and the third can't
+    # in a folder like /tmp the last table is another's: all are written, three take their places, and the last can't
     as_root()
     os.mkdir(os.path.join(folder, "sticky"))
-    nodes = three_tables(folder, "sticky")
+    nodes = tables_before(folder, "sticky")
     os.chmod(os.path.join(folder, "sticky"), 0o1777)
-    for name in TABLES[:2]:
+    for name in TABLES[:3]:
         os.chown(os.path.join(folder, "sticky", name), NOBODY, NOBODY)
     want(export_as_nobody(folder, "sticky") == ("", WRITE, 1), "the run")
     want_as_they_were(folder, nodes, "sticky")
@@ -403,7 +403,7 @@ def a_picture_and_tables_keep_modes(folder):
     write(folder, "points.csv", mode=0o640)
     want(run(["run", NETWORK], "picture now.dot\n", cwd=folder)[2] == 0 and run(["export", NETWORK, folder])[2] == 0, "the runs")
     want((mode_of(folder, "now.dot"), mode_of(folder, "points.csv")) == (0o600, 0o640), "the modes")
-    want(sorted(os.listdir(folder)) == ["now.dot", "points.csv", "routes.csv", "sets.csv"], "the files")
+    want(sorted(os.listdir(folder)) == ["network.csv", "now.dot", "points.csv", "routes.csv", "sets.csv"], "the files")
 
 
 # ---- mode and owner

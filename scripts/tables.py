@@ -3,10 +3,10 @@
 where it stands.
 
 The networks are those of examples/ and COUNT that are made at random, 200 if no COUNT is given, always the same ones: those of mending.py
-with more plans, plans without rows, and a network indicator. Of each the imported text has to be what `--save` writes of it, but for what
-tables don't have: the network indicator is 2, the option `tfr` is true, plans without rows are gone, and the ranks are the least ones,
-which are worked out here. Exported and imported once more it has to stay the same, byte by byte. The same tables with CR LF, empty lines, quotes and a
-byte order mark have to give the same text.
+with more plans, plans without rows, and a network indicator. Exported with its ranks, each has to come back as `--save` writes it; without
+them its ranks are the least ones, which are worked out here; and without network.csv the network indicator is 2, the option `tfr` is true,
+and plans without rows are gone too. Exported and imported once more it has to stay the same, byte by byte. The same tables with CR LF,
+empty lines, quotes and a byte order mark have to give the same text.
 
 Then wrong tables: each a change of the tables of examples/small.toml or of examples/mated-pair.toml, with the line that has to be told.
 The last line is 'N tables, M failed'."""
@@ -23,7 +23,7 @@ sys.dont_write_bytecode = True
 from mending import DEST, Network
 
 EXAMPLES = os.path.join(os.path.dirname(os.path.abspath(__file__)), "..", "examples")
-FILES = ("points.csv", "sets.csv", "routes.csv")
+FILES = ("network.csv", "points.csv", "sets.csv", "routes.csv")
 PROGRAM = ""
 
 
@@ -102,19 +102,21 @@ def with_least_ranks(entry, mates):
             return " ".join([dest, *(":".join([row[0], str(rank[row[0]]), *row[2:]]) for row in rows)])
 
 
-def as_tables_say(saved):
-    """What `import` has to make of the tables of a saved network."""
+def as_tables_say(saved, whole):
+    """What `import` has to make of the tables of a saved network, of all of them or without network.csv."""
     net = tomllib.loads(saved)
     mates = {one: other for pair in net.get("pairs", ()) for one, other in (pair.split(), pair.split()[::-1])}
-    net.update(ni=2, tfr=True, plans=[with_least_ranks(entry, mates) for entry in net.get("plans", ()) if " " in entry])
+    net["plans"] = [with_least_ranks(entry, mates) for entry in net.get("plans", ())]
+    if not whole:
+        net.update(ni=2, tfr=True, plans=[entry for entry in net["plans"] if " " in entry])
     return text_of(net)
 
 
-def exported(folder, text):
+def exported(folder, text, *flags):
     """Exports a network into a folder: what the program says."""
     with open(os.path.join(folder, "net.toml"), "w", encoding="utf-8") as it:
         it.write(text)
-    return "".join(run(["export", os.path.join(folder, "net.toml"), folder]))
+    return "".join(run(["export", os.path.join(folder, "net.toml"), folder, *flags]))
 
 
 def change(folder, how):
@@ -148,22 +150,53 @@ def mistakes_with(name, text, dress):
         if said or exported(folder, text):
             return [f"{name}: it isn't loaded, or not exported: {said}"]
         with open(saved, encoding="utf-8") as it:
-            wanted = as_tables_say(it.read())
+            saved = it.read()
+        wanted, less = as_tables_say(saved, True), as_tables_say(saved, False)
         told, errors = run(["import", folder])
         found = [] if (told, errors) == (wanted, "") else [f"{name}: {errors}{told}\n{wanted}"]
+        os.remove(os.path.join(folder, "network.csv"))
+        if run(["import", folder]) != (less, ""):
+            found.append(f"{name}: without network.csv it isn't {less}")
         if exported(folder, told) or run(["import", folder]) != (told, ""):
             found.append(f"{name}: exported and imported once more it is another")
+        if exported(folder, text, "--ranks") or run(["import", folder]) != (saved, ""):
+            found.append(f"{name}: with its ranks it isn't {saved}")
         change(folder, DRESSES[dress])
-        if run(["import", folder]) != (told, ""):
+        if run(["import", folder]) != (saved, ""):
             found.append(f"{name}: with {dress} it is another")
         return found
 
 
 # ---- wrong tables
 
-POINTS, SETS, ROUTES = "code,kind,mate\n", "id,a,b,links\n", "destination,point,class,via\n"
+KEYS, POINTS, SETS, ROUTES = "key,value\n", "code,kind,mate\n", "id,a,b,links\n", "destination,point,class,via\n"
+ORDER_OF_KEYS = "the keys have to be ni, then tfr, then plan for each plan without rows, and then rank for each row or for none"
+ORDER_OF_RANKS = "the ranks have to be those of all rows of all plans, by rising destination and point"
 # of the network small.toml, or of mated-pair.toml: a table, its new text, and what is told behind the name of the file
 SMALL = [
+    ("network.csv", "", "line 1, column 1: the columns have to be key,value"),
+    ("network.csv", KEYS + "ni,2,\n", "line 2, column 1: no CSV, or not as many fields as columns"),
+    ("network.csv", KEYS + "ni,4\ntfr,true\n", "line 2, column 4: the network indicator has to be 0 to 3"),
+    ("network.csv", KEYS + "ni,two\ntfr,true\n", "line 2, column 4: the column value can't be read"),
+    ("network.csv", KEYS + "ni,2\ntfr,on\n", "line 3, column 5: the column value can't be read"),
+    ("network.csv", KEYS + "ni,2\ntfr,true\nplan,2-9\n", "line 4, column 6: the column value can't be read"),
+    ("network.csv", KEYS + "ni,2\ntfr,true\nplans,2-1-1\n", "line 4, column 1: the column key can't be read"),
+    ("network.csv", KEYS + "ni,2\n", f"line 3, column 1: {ORDER_OF_KEYS}"),
+    ("network.csv", KEYS, f"line 2, column 1: {ORDER_OF_KEYS}"),
+    ("network.csv", KEYS + "tfr,true\nni,2\n", f"line 2, column 1: {ORDER_OF_KEYS}"),
+    ("network.csv", KEYS + "ni,2\ntfr,true\nni,2\n", f"line 4, column 1: {ORDER_OF_KEYS}"),
+    ("network.csv", KEYS + "ni,2\nplan,2-1-1\ntfr,true\n", f"line 3, column 1: {ORDER_OF_KEYS}"),
+    ("network.csv", KEYS + "ni,2\ntfr,true\nplan,2-1-1\nplan,2-1-1\n", "line 5, column 6: this plan without rows stands further up"),
+    ("network.csv", KEYS + "ni,2\ntfr,true\nplan,2-1-7\n", "line 4, column 6: 10 NoPoint"),
+    ("network.csv", KEYS + "ni,2\ntfr,true\nrank,2-1-2 2-1-1 2\nplan,2-1-1\n", f"line 5, column 1: {ORDER_OF_KEYS}"),
+    ("network.csv", KEYS + "ni,2\ntfr,true\nrank,2-1-2 2-1-1\n", "line 4, column 6: the column value can't be read"),
+    ("network.csv", KEYS + "ni,2\ntfr,true\nrank,2-1-2 2-1-1  2\n", "line 4, column 6: the column value can't be read"),
+    ("network.csv", KEYS + "ni,2\ntfr,true\nrank,2-1-2 2-1-1 256\n", "line 4, column 6: the column value can't be read"),
+    ("network.csv", KEYS + "ni,2\ntfr,true\nrank,2-1-2 2-1-1 2\n", f"line 4, column 6: {ORDER_OF_RANKS}"),
+    ("network.csv", KEYS + "ni,2\ntfr,true\nrank,2-1-2 2-10-1 1\nrank,2-1-2 2-1-1 2\n", f"line 4, column 6: {ORDER_OF_RANKS}"),
+    ("network.csv", KEYS + "ni,2\ntfr,true\nrank,2-1-2 2-1-1 2\nrank,2-1-2 2-10-1 1\nrank,2-1-2 2-10-1 1\n", f"line 6, column 6: {ORDER_OF_RANKS}"),
+    ("network.csv", KEYS + "ni,2\ntfr,true\nrank,2-1-2 2-1-1 1\nrank,2-1-2 2-10-1 1\n", "line 4, column 6: 27 BadRow 2-1-1 e"),
+    ("network.csv", KEYS + "ni,2\ntfr,true\nrank,2-1-2 2-1-1 0\nrank,2-1-2 2-10-1 0\n", "line 4, column 6: 27 BadRow 2-1-1 e"),
     ("points.csv", "code,kind,mate\r\n2-1-1,sep,\r\n2-1-1,sep,\r\n", "line 3, column 1: 11 PointThere"),
     ("points.csv", "\ufeffcode,kind,mate\n2-1-1,sep,\n2-1-1,sep,\n", "line 3, column 1: 11 PointThere"),
     ("points.csv", "\n\r\ncode,kind,mate\n\n\n2-1-1,sep,\n\n\n2-1-1,sep,\n", "line 9, column 1: 11 PointThere"),

@@ -61,5 +61,5 @@ order_within (Survey net points explained json) found is = tt
 order_within (Picture net about svg explained) found is = tt
 order_within (Report net about explained) found is = tt
 order_within (Import dir explained) found is = tt
-order_within (Export net dir explained) found is = tt
+order_within (Export net dir ranks explained) found is = tt
 order_within (Explain what json) found is = tt

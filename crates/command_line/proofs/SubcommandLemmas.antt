@@ -185,7 +185,7 @@ import_fills : AllFill import_built.rules
 import_fills = (required_fills 1 (codes "dir"), (flag_fills (codes "explain"), (asks_fills, tt)))
 
 export_fills : AllFill export_built.rules
-export_fills = (required_fills 1 (codes "net"), (required_fills 2 (codes "dir"), (flag_fills (codes "explain"), (asks_fills, tt))))
+export_fills = (required_fills 1 (codes "net"), (required_fills 2 (codes "dir"), (flag_fills (codes "ranks"), (flag_fills (codes "explain"), (asks_fills, tt)))))
 
 -- the last check of a command has no fault only if each of its required arguments is given
 one_given : (given : Bool) → check_kinds false false (not given || false) ≡ [] → given ≡ true

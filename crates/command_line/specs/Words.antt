@@ -86,9 +86,9 @@ report_app = app_with (codes "report") (required_rule (codes "net") ∷ valued_r
 abbrev pub import_app : App
 import_app = app_with (codes "import") (required_rule (codes "dir") ∷ flag_rule (codes "explain") ∷ [])
 
--- `export NET DIR --explain`
+-- `export NET DIR --ranks --explain`
 abbrev pub export_app : App
-export_app = app_with (codes "export") (required_rule (codes "net") ∷ required_rule (codes "dir") ∷ flag_rule (codes "explain") ∷ [])
+export_app = app_with (codes "export") (required_rule (codes "net") ∷ required_rule (codes "dir") ∷ flag_rule (codes "ranks") ∷ flag_rule (codes "explain") ∷ [])
 
 -- `explain WHAT --json`
 abbrev pub explain_app : App
@@ -152,9 +152,9 @@ IsOrder (Report net about explained) found =
 IsOrder (Import dir explained) found =
     (rows : List Row) × (found ≡ Some (codes "import", rows)) × (first_of (codes "dir") rows ≡ Some dir.now)
     × (IsTrue explained ↔ HasFlag (codes "explain") rows)
-IsOrder (Export net dir explained) found =
+IsOrder (Export net dir ranks explained) found =
     (rows : List Row) × (found ≡ Some (codes "export", rows)) × (first_of (codes "net") rows ≡ Some net.now)
-    × (first_of (codes "dir") rows ≡ Some dir.now) × (IsTrue explained ↔ HasFlag (codes "explain") rows)
+    × (first_of (codes "dir") rows ≡ Some dir.now) × (IsTrue ranks ↔ HasFlag (codes "ranks") rows) × (IsTrue explained ↔ HasFlag (codes "explain") rows)
 IsOrder (Explain what json) found =
     (rows : List Row) × (found ≡ Some (codes "explain", rows)) × (first_of (codes "what") rows ≡ option_map (λ s. s.now) what)
     × (IsTrue json ↔ HasFlag (codes "json") rows)
@@ -169,7 +169,7 @@ IsWithin (Survey net points explained json) = Unit {0}
 IsWithin (Picture net about svg explained) = Unit {0}
 IsWithin (Report net about explained) = Unit {0}
 IsWithin (Import dir explained) = Unit {0}
-IsWithin (Export net dir explained) = Unit {0}
+IsWithin (Export net dir ranks explained) = Unit {0}
 IsWithin (Explain what json) = Unit {0}
 
 -- whether the argument has a value

@@ -184,18 +184,22 @@ const SUBCOMMANDS: &[Subcommand] = &[
     },
     Subcommand {
         name: "import",
-        about: "Make a network text from the tables points.csv, sets.csv and routes.csv of a folder",
+        about: "Make a network text from the tables network.csv, points.csv, sets.csv and routes.csv of a folder",
         arguments: &[
-            Argument::Required("dir", "DIR", "Folder with the three tables"),
+            Argument::Required("dir", "DIR", "Folder with the tables"),
             EXPLAIN,
         ],
     },
     Subcommand {
         name: "export",
-        about: "Write a network as the tables points.csv, sets.csv and routes.csv in a folder",
+        about: "Write a network as the tables network.csv, points.csv, sets.csv and routes.csv in a folder",
         arguments: &[
             NET,
-            Argument::Required("dir", "DIR", "Folder that gets the three tables"),
+            Argument::Required("dir", "DIR", "Folder that gets the tables"),
+            Argument::Flag(
+                "ranks",
+                "Write the rank of each row too, which is else the least when it is read",
+            ),
             EXPLAIN,
         ],
     },

@@ -13,8 +13,8 @@
 //! 6. `route_desk picture NET` draws the network NET: as an SVG text with the flag `--svg`, else as a Graphviz DOT text.
 //!    `--about X` says for which destination X the way of the traffic is drawn; X is any word here.
 //!    `route_desk report NET` writes a report of the network NET with such a picture; it has `--about X` too.
-//! 7. `route_desk import DIR` makes a network text from the three tables of the folder DIR.
-//! 8. `route_desk export NET DIR` writes the network NET as three tables in the folder DIR.
+//! 7. `route_desk import DIR` makes a network text from the tables of the folder DIR.
+//! 8. `route_desk export NET DIR` writes the network NET as tables in the folder DIR, with the flag `--ranks` the ranks of its rows too.
 //! 9. `route_desk explain WHAT` tells what the number or name WHAT means; WHAT may be left out, and is any word here.
 //! 10. With the flag `--explain` all commands but explain say on standard error what is wrong.
 //! 11. With the flag `--json` the commands run, play, serve, check, survey and explain write JSON objects.

@@ -226,10 +226,12 @@ fn export_order<'a>(matches: &ArgMatches<'a>) -> Option<Order<'a>>
 {
     let net = value_at(matches, "net")?;
     let dir = value_at(matches, "dir")?;
+    let ranks = flag_at(matches, "ranks");
     let explained = flag_at(matches, "explain");
     Some(Order::Export {
         net,
         dir,
+        ranks,
         explained,
     })
 }

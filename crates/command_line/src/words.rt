@@ -82,15 +82,17 @@ pub enum Order<'a> {
         about: Option<&'a str>,
         explained: bool,
     },
-    /// To make a network text from the three tables of a folder, and to explain a fault, if that is wanted.
+    /// To make a network text from the tables of a folder, and to explain a fault, if that is wanted.
     Import {
         dir: &'a str,
         explained: bool,
     },
-    /// To write the network of a file as three tables in a folder, and to explain a fault, if that is wanted.
+    /// To write the network of a file as tables in a folder, with the ranks of its rows, if that is wanted, and to explain a fault, if that
+    /// is wanted.
     Export {
         net: &'a str,
         dir: &'a str,
+        ranks: bool,
         explained: bool,
     },
     /// To tell what this number or name means, or what each of them means if none is given, in JSON objects if that is wanted.

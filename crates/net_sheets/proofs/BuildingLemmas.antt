@@ -48,6 +48,12 @@ stop_append net (e ∷ es) fs r h = go (refusal_of net e) refl (stop_append (cha
     go (Some q) t next = rw t (rw t at h)
     go None t next = rw t (next (rw t at h))
 
+-- nor those after one that is refused when it is applied alone
+pub stop_each : {X : Type 0} (f : X → Event) (net : Network) (xs : List X) (i : ℕ) (d : X) (r : Refusal) (total : Result Network Refusal) → i < length xs → apply_all net (f (get_or xs i d) ∷ []) ≡ Err r
+    → apply_all net (map f (drop i xs)) ≡ total → total ≡ Err r
+stop_each f net xs i d r total here h before =
+    sym before ∙ ap (λ ys. apply_all net (map f ys)) (rest_at xs i d here) ∙ stop_append net (f (get_or xs i d) ∷ []) (map f (drop (i + 1) xs)) r h
+
 -- nor those after events of which one is refused
 pub stop_more : {X : Type 0} (f : X → List Event) (net : Network) (xs : List X) (i : ℕ) (d : X) (r : Refusal) (total : Result Network Refusal) → i < length xs → apply_all net (f (get_or xs i d)) ≡ Err r
     → apply_all net (flat_map f (drop i xs)) ≡ total → total ≡ Err r

@@ -24,6 +24,10 @@ use Rattle.tokens.specs.declared.marked.Format.TheVariants.{Two}
 use Rattle.net_sheets.specs.declared.routes.Route.{Route}
 use Rattle.net_sheets.specs.declared.routes.Route.TheVariants.{Via, Mate}
 use Rattle.net_sheets.specs.Tables.{Fields, line_text, table_text, points_header, sets_header, routes_header, point_record, set_record, route_record, links_text}
+use Rattle.net_sheets.specs.declared.about.Entry.{Entry}
+use Rattle.net_sheets.specs.declared.about.Entry.TheVariants as entry
+use Rattle.net_sheets.specs.declared.about.RowRank.{RowRank}
+use Rattle.net_sheets.specs.About.{network_header, flag_text, rank_text, entry_record}
 use Rattle.net_sheets.specs.Records.{IsTable}
 
 -- a text without a byte that calls for quotes
@@ -127,7 +131,7 @@ table_read header records no_mark plain all wide = record {
   wide = All-from_recursion (λ fields. length fields ≡ length header) records wide;
 }
 
--- ---- the three tables
+-- ---- the tables
 
 mapped : {X : Type 0} (P : Fields → Type 0) (f : X → Fields) → ((x : X) → P (f x)) → (xs : List X) → AllByRecursion P (map f xs)
 mapped P f h [] = tt
@@ -162,3 +166,29 @@ sets_read sets = table_read sets_header (map set_record sets) refl (refl, (refl,
 pub routes_read : (routes : List Route) → IsTable routes_header (table_text routes_header (map route_record routes)) (map route_record routes)
 unfolding strip_bom
 routes_read routes = table_read routes_header (map route_record routes) refl (refl, (refl, (refl, (refl, tt)))) (mapped IsPlainRecord route_record plain_route routes) (mapped (λ fields. length fields ≡ length routes_header) route_record wide_route routes)
+
+plain_flag : (b : Bool) → IsPlain (flag_text b)
+plain_flag true = refl
+plain_flag false = refl
+
+plain_rank : (r : RowRank) → IsPlain (rank_text r)
+plain_rank r =
+    let number = 32 ∷ decimal r.rank in
+    let later = 32 ∷ (code_text r.point ++ number) in
+    plain_append (code_text r.dest) later (plain_code r.dest) (plain_cons 32 (code_text r.point ++ number) refl (plain_append (code_text r.point) number (plain_code r.point) (plain_cons 32 (decimal r.rank) refl (plain_decimal r.rank))))
+
+plain_entry : (e : Entry) → IsPlainRecord (entry_record e)
+plain_entry (entry.Ni n) = (refl, (plain_decimal n, tt))
+plain_entry (entry.Tfr b) = (refl, (plain_flag b, tt))
+plain_entry (entry.Bare dest) = (refl, (plain_code dest, tt))
+plain_entry (entry.Rank r) = (refl, (plain_rank r, tt))
+
+wide_entry : (e : Entry) → length (entry_record e) ≡ length network_header
+wide_entry (entry.Ni n) = refl
+wide_entry (entry.Tfr b) = refl
+wide_entry (entry.Bare dest) = refl
+wide_entry (entry.Rank r) = refl
+
+pub entries_read : (entries : List Entry) → IsTable network_header (table_text network_header (map entry_record entries)) (map entry_record entries)
+unfolding strip_bom
+entries_read entries = table_read network_header (map entry_record entries) refl (refl, (refl, tt)) (mapped IsPlainRecord entry_record plain_entry entries) (mapped (λ fields. length fields ≡ length network_header) entry_record wide_entry entries)

@@ -1,5 +1,5 @@
 -- What faults tell, put together.
-use Rattle.std.proofs.Common.{◌≡◌, ◌≢◌, ℕ, Option, Some, None, List, [], ◌++◌, map, take, drop, Result, Ok, Err, ap, sym, ◌∙◌, subst, append_assoc}
+use Rattle.std.proofs.Common.{◌≡◌, ◌≢◌, ℕ, ◌<◌, length, get_or, Option, Some, None, List, [], ◌++◌, map, take, drop, Result, Ok, Err, ap, sym, ◌∙◌, subst, append_assoc}
 use Rattle.std.specs.List.{flat_map}
 use Rattle.std.specs.Result.{IfErr}
 use Rattle.std.proofs.lemmas.List.{take-append-drop}
@@ -15,15 +15,17 @@ use Rattle.net_sheets.specs.declared.faults.SpotFault.{SpotFault}
 use Rattle.net_sheets.specs.declared.faults.Flaw.{Flaw}
 use Rattle.net_sheets.specs.declared.faults.Flaw.TheVariants as flaw
 use Rattle.net_sheets.specs.declared.faults.Reason.{Reason}
-use Rattle.net_sheets.specs.declared.faults.Reason.TheVariants.{Csv, Columns, Field, FifthClass, SplitDestination, Refused, MateLoop, Loop, TooDeep, OutOfMemory}
+use Rattle.net_sheets.specs.declared.faults.Reason.TheVariants.{Csv, Columns, Field, FifthClass, Keys, Indicator, PlanThere, PlanBare, ThirdVia, SplitDestination, SplitPoint, ClassOrder, Refused, MateLoop, Loop, TooDeep, OutOfMemory}
 use Rattle.net_sheets.specs.declared.routes.Route.{Route}
 use Rattle.net_sheets.specs.Ranks.{IsLeast, with_ranks}
 use Rattle.net_sheets.specs.Tables.{Fields, points_header, routes_header, row_routes}
 use Rattle.net_sheets.specs.Values.{Read, point_of, route_of, Holds}
-use Rattle.net_sheets.specs.Events.{pair_events_after, AddsPlans}
-use Rattle.net_sheets.specs.Faults.{reason_of, IsFieldFault, IsRowsFault, IsRefusal, IsUnranked, IsPlanFault, StopsAt, IsRoutesFault, IsTextFault, IsPointsFault, IsRoutesTextFault, Refuses}
+use Rattle.net_sheets.specs.declared.about.Entry.{Entry}
+use Rattle.net_sheets.specs.About.{network_header, bare_plan, entry_of}
+use Rattle.net_sheets.specs.Events.{pair_events_after, bare_events, AddsPlans}
+use Rattle.net_sheets.specs.Faults.{reason_of, IsFieldFault, IsRowsFault, IsRefusal, IsUnranked, IsPlanFault, StopsAt, IsRoutesFault, IsTextFault, IsPointsFault, IsRoutesTextFault, IsKeysFault, IsOneBareFault, IsBareFault, IsAboutFault, Refuses}
 use Rattle.net_building.proofs.StepLemmas.{apply_append}
-use Rattle.net_sheets.proofs.BuildingLemmas.{stop_append}
+use Rattle.net_sheets.proofs.BuildingLemmas.{stop_append, stop_first, stop_more}
 
 pub where_err : {A : Type 0} (r : Result A SpotFault) (P Q : Reason → Type 0) → ((reason : Reason) → P reason → Q reason) → IfErr r (λ fault. P fault.reason) → IfErr r (λ fault. Q fault.reason)
 where_err (Ok x) P Q f h = tt
@@ -95,17 +97,17 @@ plan_told net dest rows ranks event e reason least same refused told =
     plan_refused net dest rows ranks least reason
     (told (unless_refused (refusal_of net p) (Ok net)) (λ other. ap (λ o. unless_refused o (Ok net)) (ap (refusal_of net) (sym same) ∙ (refused other).first)))
 
-pub stops_at : (old mid : Network) (routes : List Route) (dest at end : ℕ) (rows : List Row) (reason : Reason) → AddsPlans old (take at routes) mid → take at routes ++ flat_map (row_routes dest) rows ≡ take end routes → IsPlanFault mid dest rows reason
-    → IsRoutesFault old routes reason
-stops_at old mid routes dest at end rows reason before told fault = go reason fault
+pub stops_at : (old mid : Network) (bare : List ℕ) (routes : List Route) (dest at end : ℕ) (rows : List Row) (reason : Reason) → AddsPlans old bare (take at routes) mid → take at routes ++ flat_map (row_routes dest) rows ≡ take end routes → IsPlanFault mid dest rows reason
+    → IsRoutesFault old bare routes reason
+stops_at old mid bare routes dest at end rows reason before told fault = go reason fault
   where
     split : routes ≡ take at routes ++ (flat_map (row_routes dest) rows ++ drop end routes)
     split = sym (take-append-drop end routes) ∙ ap (λ rs. rs ++ drop end routes) (sym told) ∙ append_assoc (take at routes) (flat_map (row_routes dest) rows) (drop end routes)
 
-    stop : (r : Reason) → IsPlanFault mid dest rows r → StopsAt old routes r
+    stop : (r : Reason) → IsPlanFault mid dest rows r → StopsAt old bare routes r
     stop r f = record { done = take at routes; dest = dest; rows = rows; rest = drop end routes; mid = mid; split = split; before = before; fault = f }
 
-    go : (r : Reason) → IsPlanFault mid dest rows r → IsRoutesFault old routes r
+    go : (r : Reason) → IsPlanFault mid dest rows r → IsRoutesFault old bare routes r
     go (Refused q) f = stop (Refused q) f
     go (MateLoop y z) f = stop (MateLoop y z) f
     go (Loop codes) f = stop (Loop codes) f
@@ -114,18 +116,52 @@ stops_at old mid routes dest at end rows reason before told fault = go reason fa
     go _ f = absurd f
 
 -- a fault of the rows of a plan is one of the routes
-pub rows_fault : (old : Network) (routes : List Route) (reason : Reason) → IsRowsFault routes reason → IsRoutesFault old routes reason
-rows_fault old routes SplitDestination h = absurd h
-rows_fault old routes (Refused r) h = absurd h
-rows_fault old routes (MateLoop y z) h = absurd h
-rows_fault old routes (Loop codes) h = absurd h
-rows_fault old routes TooDeep h = absurd h
-rows_fault old routes _ h = h
+pub rows_fault : (old : Network) (bare : List ℕ) (routes : List Route) (reason : Reason) → IsRowsFault routes reason → IsRoutesFault old bare routes reason
+rows_fault old bare routes SplitDestination h = absurd h
+rows_fault old bare routes PlanBare h = absurd h
+rows_fault old bare routes (Refused r) h = absurd h
+rows_fault old bare routes (MateLoop y z) h = absurd h
+rows_fault old bare routes (Loop codes) h = absurd h
+rows_fault old bare routes TooDeep h = absurd h
+rows_fault old bare routes _ h = h
 
 -- a fault of routes is no flaw of a record
-no_flaw_of_routes : (old : Network) (routes : List Route) (f : Flaw) → IsRoutesFault old routes (reason_of f) → ⊥
-no_flaw_of_routes old routes (flaw.Column n) h = h
-no_flaw_of_routes old routes flaw.FifthClass h = h
+no_flaw_of_routes : (old : Network) (bare : List ℕ) (routes : List Route) (f : Flaw) → IsRoutesFault old bare routes (reason_of f) → ⊥
+no_flaw_of_routes old bare routes (flaw.Column n) h = h
+no_flaw_of_routes old bare routes flaw.FifthClass h = h
 
-pub routes_fault : (old : Network) (text : List ℕ) (routes told : List Route) → Holds route_of routes_header text (Ok routes) → told ≡ routes → (reason : Reason) → IsRoutesFault old told reason → IsRoutesTextFault old text reason
-routes_fault old text routes told holds e reason h = values_fault route_of routes_header (IsRoutesFault old) text routes reason (no_flaw_of_routes old routes) holds (subst (λ rs. IsRoutesFault old rs reason) e h)
+pub routes_fault : (old : Network) (bare text : List ℕ) (routes told : List Route) → Holds route_of routes_header text (Ok routes) → told ≡ routes → (reason : Reason) → IsRoutesFault old bare told reason → IsRoutesTextFault old bare text reason
+routes_fault old bare text routes told holds e reason h =
+    values_fault route_of routes_header (IsRoutesFault old bare) text routes reason (no_flaw_of_routes old bare routes) holds (subst (λ rs. IsRoutesFault old bare rs reason) e h)
+
+-- ---- the table of a network
+
+no_flaw_of_keys : (f : Flaw) → IsKeysFault (reason_of f) → ⊥
+no_flaw_of_keys (flaw.Column n) h = h
+no_flaw_of_keys flaw.FifthClass h = h
+
+pub keys_told : (text : List ℕ) (entries : List Entry) → Holds entry_of network_header text (Ok entries) → (reason : Reason) → IsKeysFault reason → IsAboutFault (Some text) reason
+keys_told text entries told reason h = values_fault entry_of network_header (λ es. IsKeysFault) text entries reason no_flaw_of_keys told h
+
+pub memory_about : (network : Option (List ℕ)) → IsAboutFault network OutOfMemory
+memory_about None = tt
+memory_about (Some text) = tt
+
+bare_refused_told : (net : Network) (dest : ℕ) (reason : Reason) → IsRefusal (unless_refused (refusal_of net (plan_event (bare_plan dest))) (Ok net)) reason → IsOneBareFault net dest reason
+bare_refused_told net dest (Refused r) h = record { first = refused_once (refusal_of net (plan_event (bare_plan dest))) net r h }
+bare_refused_told net dest OutOfMemory h = tt
+bare_refused_told net dest _ h = absurd h
+
+pub bare_told : (net : Network) (dest : ℕ) (event : Event) (e : Refusal) (reason : Reason) → event ≡ plan_event (bare_plan dest) → (e ≢ no.OutOfMemory → Refuses net event e)
+    → ((applied : Result Network Refusal) → (e ≢ no.OutOfMemory → applied ≡ Err e) → IsRefusal applied reason) → IsOneBareFault net dest reason
+bare_told net dest event e reason same refused told =
+    let p : Event = plan_event (bare_plan dest) in
+    bare_refused_told net dest reason
+    (told (unless_refused (refusal_of net p) (Ok net)) (λ other. ap (λ o. unless_refused o (Ok net)) (ap (refusal_of net) (sym same) ∙ (refused other).first)))
+
+pub bare_refused : (old mid : Network) (bare : List ℕ) (i d : ℕ) (reason : Reason) → i < length bare → IsOneBareFault mid (get_or bare i d) reason
+    → apply_all mid (flat_map bare_events (drop i bare)) ≡ apply_all old (flat_map bare_events bare) → IsBareFault old bare reason
+bare_refused old mid bare i d PlanThere here h before = tt
+bare_refused old mid bare i d OutOfMemory here h before = tt
+bare_refused old mid bare i d (Refused r) here h before = stop_more bare_events mid bare i d r (apply_all old (flat_map bare_events bare)) here (stop_first mid (plan_event (bare_plan (get_or bare i d))) [] r h.first) before
+bare_refused old mid bare i d _ here h before = absurd h

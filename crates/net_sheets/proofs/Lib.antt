@@ -9,3 +9,4 @@ pub mod PlanLemmas
 pub mod AddingLemmas
 pub mod ReadingLemmas
 pub mod FaultLemmas
+pub mod GivenLemmas

@@ -1,5 +1,5 @@
--- What a fault of three tables tells.
-use Rattle.std.specs.Prelude.{◌≡◌, ℕ, ◌-◌, ◌==◌, ◌&&◌, nat_le, Bool, true, false, List, [], ◌∷◌, ◌++◌, map, slice_get, Some, Result, Ok, Err}
+-- What a fault of tables tells.
+use Rattle.std.specs.Prelude.{◌≡◌, ℕ, ◌-◌, ◌≤◌, ◌==◌, ◌&&◌, ◌⊎◌, nat_le, Bool, true, false, List, [], ◌∷◌, ◌++◌, map, slice_get, Option, Some, None, Result, Ok, Err}
 use Rattle.std.specs.List.{flat_map}
 use Rattle.std.specs.Option.{option_map_or}
 use Rattle.net_items.specs.declared.items.Point.{Point}
@@ -15,14 +15,17 @@ use Rattle.net_sheets.specs.declared.routes.Route.TheVariants.{Via, Mate}
 use Rattle.net_sheets.specs.declared.faults.Flaw.{Flaw}
 use Rattle.net_sheets.specs.declared.faults.Flaw.TheVariants as flaw
 use Rattle.net_sheets.specs.declared.faults.Reason.{Reason}
-use Rattle.net_sheets.specs.declared.faults.Reason.TheVariants.{Csv, Columns, Field, FifthClass, ThirdVia, SplitDestination, SplitPoint, ClassOrder, Refused, MateLoop, Loop, TooDeep, OutOfMemory}
+use Rattle.net_sheets.specs.declared.faults.Reason.TheVariants.{Csv, Columns, Field, FifthClass, Keys, Indicator, PlanThere, PlanBare, RankOrder, ThirdVia, SplitDestination, SplitPoint, ClassOrder, Refused, MateLoop, Loop, TooDeep, OutOfMemory}
 use Rattle.net_sheets.specs.declared.faults.Sheet.{Sheet}
-use Rattle.net_sheets.specs.declared.faults.Sheet.TheVariants.{Points, Sets, Routes}
+use Rattle.net_sheets.specs.declared.faults.Sheet.TheVariants as sheet
 use Rattle.net_sheets.specs.Ranks.{HasNoRanks, IsLeast, with_ranks}
 use Rattle.net_sheets.specs.Loops.{is_loop}
 use Rattle.net_sheets.specs.Tables.{Fields, points_header, sets_header, routes_header, row_routes}
 use Rattle.net_sheets.specs.Values.{Read, point_of, set_of, route_of, Holds}
-use Rattle.net_sheets.specs.Events.{pair_events_after, empty_net, AddsPoints, AddsSets, AddsPlans}
+use Rattle.net_items.specs.declared.items.Plan.{Plan}
+use Rattle.net_sheets.specs.declared.about.RowRank.{RowRank}
+use Rattle.net_sheets.specs.About.{network_header, bare_plan, entry_of, IsAbout}
+use Rattle.net_sheets.specs.Events.{pair_events_after, bare_events, empty_net, HaveRanks, AddsPoints, AddsSets, AddsBare, AddsPlans, AddsAll}
 
 -- what is told of a record that says nothing
 abbrev pub reason_of : Flaw → Reason
@@ -91,24 +94,61 @@ IsPlanFault net dest rows (Refused refusal) =
 IsPlanFault net dest rows reason = IsUnranked net.points dest rows reason
 
 -- the plan after those that the first routes make has that fault
-pub record StopsAt (old : Network) (routes : List Route) (reason : Reason) : Type 0 where
+pub record StopsAt (old : Network) (bare : List ℕ) (routes : List Route) (reason : Reason) : Type 0 where
   pub done : List Route
   pub dest : ℕ
   pub rows : List Row
   pub rest : List Route
   pub mid : Network
   pub split : routes ≡ done ++ (flat_map (row_routes dest) rows ++ rest)
-  pub before : AddsPlans old done mid
+  pub before : AddsPlans old bare done mid
   pub fault : IsPlanFault mid dest rows reason
 
--- routes are out of order, or a plan of them has a fault
-abbrev pub IsRoutesFault : Network → List Route → Reason → Type 0
-IsRoutesFault old routes SplitDestination = Unit {0}
-IsRoutesFault old routes (Refused refusal) = StopsAt old routes (Refused refusal)
-IsRoutesFault old routes (MateLoop y z) = StopsAt old routes (MateLoop y z)
-IsRoutesFault old routes (Loop codes) = StopsAt old routes (Loop codes)
-IsRoutesFault old routes TooDeep = StopsAt old routes TooDeep
-IsRoutesFault old routes reason = IsRowsFault routes reason
+-- routes are out of order or of a plan without rows, or a plan of them has a fault
+abbrev pub IsRoutesFault : Network → List ℕ → List Route → Reason → Type 0
+IsRoutesFault old bare routes SplitDestination = Unit {0}
+IsRoutesFault old bare routes PlanBare = Unit {0}
+IsRoutesFault old bare routes (Refused refusal) = StopsAt old bare routes (Refused refusal)
+IsRoutesFault old bare routes (MateLoop y z) = StopsAt old bare routes (MateLoop y z)
+IsRoutesFault old bare routes (Loop codes) = StopsAt old bare routes (Loop codes)
+IsRoutesFault old bare routes TooDeep = StopsAt old bare routes TooDeep
+IsRoutesFault old bare routes reason = IsRowsFault routes reason
+
+-- keys that don't stand in their order, or a network indicator above 3
+abbrev pub IsKeysFault : Reason → Type 0
+IsKeysFault Keys = Unit {0}
+IsKeysFault Indicator = Unit {0}
+IsKeysFault OutOfMemory = Unit {0}
+IsKeysFault _ = ⊥
+
+-- a plan without rows is refused, or one of its destination is there
+abbrev pub IsOneBareFault : Network → ℕ → Reason → Type 0
+IsOneBareFault net dest PlanThere = Unit {0}
+IsOneBareFault net dest (Refused refusal) = Refuses net (plan_event (bare_plan dest)) refusal
+IsOneBareFault net dest OutOfMemory = Unit {0}
+IsOneBareFault net dest _ = ⊥
+
+-- one of these plans without rows is refused, or stands twice
+abbrev pub IsBareFault : Network → List ℕ → Reason → Type 0
+IsBareFault old bare PlanThere = Unit {0}
+IsBareFault old bare reason = IsRefusal (apply_all old (flat_map bare_events bare)) reason
+
+-- ranks that aren't those of the rows of the plans, in their order
+abbrev pub IsOrderFault : Reason → Type 0
+IsOrderFault RankOrder = Unit {0}
+IsOrderFault OutOfMemory = Unit {0}
+IsOrderFault _ = ⊥
+
+-- the plans of a network with those ranks are refused
+pub record RefusesRanks (old : Network) (ranks : List RowRank) (refusal : Refusal) : Type 0 where
+  pub plans : List Plan
+  pub given : HaveRanks old.plans ranks plans
+  pub stops : apply_all old (map plan_event plans) ≡ Err refusal
+
+-- the plans of a network with those ranks are refused, or the ranks are out of order
+abbrev pub IsRanksFault : Network → List RowRank → Reason → Type 0
+IsRanksFault old ranks (Refused refusal) = RefusesRanks old ranks refusal
+IsRanksFault old ranks reason = IsOrderFault reason
 
 -- a fault before any record is read: no CSV, or another header
 abbrev pub IsTableFault : Reason → Type 0
@@ -133,11 +173,47 @@ IsPointsFault old text reason = IsTextFault point_of points_header (λ points. I
 abbrev pub IsSetsFault : Network → List ℕ → Reason → Type 0
 IsSetsFault old text reason = IsTextFault set_of sets_header (λ sets. IsRefusal (apply_all old (flat_map set_events sets))) text reason
 
-abbrev pub IsRoutesTextFault : Network → List ℕ → Reason → Type 0
-IsRoutesTextFault old text reason = IsTextFault route_of routes_header (IsRoutesFault old) text reason
+abbrev pub IsRoutesTextFault : Network → List ℕ → List ℕ → Reason → Type 0
+IsRoutesTextFault old bare text reason = IsTextFault route_of routes_header (IsRoutesFault old bare) text reason
 
--- a fault of three tables
-abbrev pub IsFaultOf : List ℕ → List ℕ → List ℕ → ℕ → Sheet → Reason → Type 0
-IsFaultOf points sets routes ni Points reason = IsPointsFault (empty_net ni) points reason
-IsFaultOf points sets routes ni Sets reason = (one : Network) × AddsPoints (empty_net ni) points one × IsSetsFault one sets reason
-IsFaultOf points sets routes ni Routes reason = (one : Network) × (two : Network) × AddsPoints (empty_net ni) points one × AddsSets one sets two × IsRoutesTextFault two routes reason
+-- a fault of the table of a network, which may be missing, before the others are read
+abbrev pub IsAboutFault : Option (List ℕ) → Reason → Type 0
+IsAboutFault None OutOfMemory = Unit {0}
+IsAboutFault None _ = ⊥
+IsAboutFault (Some text) reason = IsTextFault entry_of network_header (λ entries. IsKeysFault) text reason
+
+-- a fault of points, sets, plans without rows and routes, each with what is there before
+abbrev pub IsAddingFault : Network → List ℕ → List ℕ → List ℕ → List ℕ → Sheet → Reason → Type 0
+IsAddingFault old points sets bare routes sheet.Points reason = IsPointsFault old points reason
+IsAddingFault old points sets bare routes sheet.Sets reason = (one : Network) × AddsPoints old points one × IsSetsFault one sets reason
+IsAddingFault old points sets bare routes sheet.Network reason =
+    (one : Network) × (two : Network) × AddsPoints old points one × AddsSets one sets two × IsBareFault two bare reason
+IsAddingFault old points sets bare routes sheet.Routes reason =
+    (one : Network) × (two : Network) × (three : Network) × AddsPoints old points one × AddsSets one sets two × AddsBare two bare three
+    × IsRoutesTextFault three bare routes reason
+
+-- the same, after what the table of the network says
+pub record IsLaterFault (network : Option (List ℕ)) (points sets routes : List ℕ) (on : Sheet) (reason : Reason) : Type 0 where
+  pub ni : ℕ
+  pub tfr : Bool
+  pub bare : List ℕ
+  pub ranks : List RowRank
+  pub told : IsAbout network ni tfr bare ranks
+  pub fault : IsAddingFault (empty_net ni tfr) points sets bare routes on reason
+
+-- a fault of the ranks that the table of the network gives, after all else
+pub record IsRankingFault (network : Option (List ℕ)) (points sets routes : List ℕ) (reason : Reason) : Type 0 where
+  pub ni : ℕ
+  pub tfr : Bool
+  pub bare : List ℕ
+  pub ranks : List RowRank
+  pub told : IsAbout network ni tfr bare ranks
+  pub least : Network
+  pub added : AddsAll (empty_net ni tfr) points sets bare routes least
+  pub fault : IsRanksFault least ranks reason
+
+-- a fault of the tables of a network
+abbrev pub IsFaultOf : Option (List ℕ) → List ℕ → List ℕ → List ℕ → Sheet → Reason → Type 0
+IsFaultOf network points sets routes on reason =
+    ((on ≡ sheet.Network) × IsAboutFault network reason) ⊎ IsLaterFault network points sets routes on reason
+    ⊎ ((on ≡ sheet.Network) × IsRankingFault network points sets routes reason)

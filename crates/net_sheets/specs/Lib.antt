@@ -4,5 +4,6 @@ pub mod Loops
 pub mod Tables
 pub mod Records
 pub mod Values
+pub mod About
 pub mod Events
 pub mod Faults

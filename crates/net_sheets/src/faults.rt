@@ -29,9 +29,11 @@ impl From<AllocError> for RankFault {
     }
 }
 
-/// One of the three tables.
+/// One of the tables of a network.
 #[derive(Clone, Copy, Debug, PartialEq, Eq)]
 pub enum Sheet {
+    /// The table of the network itself, `key,value`.
+    Network,
     /// The table of points, `code,kind,mate`.
     Points,
     /// The table of sets, `id,a,b,links`.
@@ -60,6 +62,16 @@ pub enum Reason {
     Field(u8),
     /// The class is 5, which answers write for the way over the mate: in a table that has the class `mate`.
     FifthClass,
+    /// Keys that don't stand in their order: the network indicator and the option, once each, then plans without rows, and then ranks.
+    Keys,
+    /// A network indicator above 3.
+    Indicator,
+    /// A plan without rows of a destination that has one further up.
+    PlanThere,
+    /// Routes of a destination whose plan has no rows, as the table of the network says.
+    PlanBare,
+    /// A rank that isn't that of the next row of the plans, or a row for which none is left, or a rank for which no row is.
+    RankOrder,
     /// A third via of a class, which has one or two.
     ThirdVia,
     /// A destination whose other routes stand further up, with those of another between.
@@ -92,7 +104,7 @@ impl From<AllocError> for Reason {
     }
 }
 
-/// What is wrong with the three tables.
+/// What is wrong with the tables of a network.
 #[derive(Debug, Drop)]
 pub struct SheetFault {
     /// The table.

@@ -1,8 +1,11 @@
 //! Plans of tables, added to a network.
 
-ghost use Rattle.std.specs.Prelude.{◌≡◌, ◌≢◌, ◌∷◌, [], ℕ, List, length, OnOk, IfOk, IfErr};
+ghost use Rattle.std.specs.Prelude.{◌≡◌, ◌≢◌, ◌∷◌, [], ℕ, List, length, true, OnOk, IfOk, IfErr};
 ghost use Rattle.net_items.specs.declared.items.Point.{Point};
 ghost use Rattle.net_items.specs.declared.lists.Row.{Row};
+ghost use Rattle.net_sets.specs.Sets.{is_distinct};
+ghost use Rattle.net_data.specs.Network.{Network};
+ghost use Rattle.net_sheets.specs.declared.routes.Route.{Route};
 ghost use Rattle.net_sheets.specs.Loops.{IsRankFault};
 ghost use Rattle.net_sheets.specs.Faults.{IsUnranked, IsPlanFault, IsRoutesFault, Refuses};
 ghost use Rattle.net_sheets.specs.Ranks.{with_ranks};
@@ -36,7 +39,11 @@ fn set_ranks(rows: &mut Vec<Row>, ranks: &[u8])
 }
 
 /// The event of a plan.
-fn plan_event(alloc: Global, dest: PointCode, rows: Vec<Row>) -> Result<Event, AllocError>
+pub(crate) fn plan_event(
+    alloc: Global,
+    dest: PointCode,
+    rows: Vec<Row>,
+) -> Result<Event, AllocError>
     ensures { IfOk result (λ event. event ≡ Event.SetPlan (record { dest = dest; rows = rows.items })) }
 {
     let rows = Rows::from_vec(alloc, rows)?;
@@ -44,7 +51,7 @@ fn plan_event(alloc: Global, dest: PointCode, rows: Vec<Row>) -> Result<Event, A
 }
 
 /// Applies an event.
-fn apply_one(alloc: Global, net: &mut Net, event: Event) -> Result<(), Refusal>
+pub(crate) fn apply_one(alloc: Global, net: &mut Net, event: Event) -> Result<(), Refusal>
     ensures ok { OnOk result (Leads net.old (event ∷ []) net.new) }
     ensures err { IfErr result (λ e. e ≢ Refusal.OutOfMemory → Refuses net.old event e) }
 {
@@ -132,23 +139,35 @@ fn spot_in_plan(
     }
 }
 
-/// Adds the plans of ways, with the least ranks.
+/// What is told of routes of a destination that has a plan among these, of which the first few have no rows.
+fn repeated(dests: &[PointCode], bare: usize, dest: PointCode) -> Reason
+    ensures { (old : Network) (bare : List ℕ) (routes : List Route) → IsRoutesFault old bare routes result }
+{
+    match dests.iter().position(|other| *other == dest) {
+        Some(place) if place < bare => Reason::PlanBare,
+        _ => Reason::SplitDestination,
+    }
+}
+
+/// Adds the plans of ways, with the least ranks. There are plans of these destinations, which have no rows.
 pub(crate) fn add_plans(
     alloc: Global,
     net: &mut Net,
+    mut dests: Vec<PointCode>,
     table: &[ByteRecord],
     routes: &[Route],
 ) -> Result<(), SpotFault>
-    ensures ok { OnOk result (AddsPlans net.old routes.now net.new) }
-    ensures err { IfErr result (λ fault. IsRoutesFault net.old routes.now fault.reason) }
+    requires { is_distinct dests.items ≡ true }
+    ensures ok { OnOk result (AddsPlans net.old dests.items routes.now net.new) }
+    ensures err { IfErr result (λ fault. IsRoutesFault net.old dests.items routes.now fault.reason) }
 {
-    let mut dests = Vec::new(alloc);
+    let bare = dests.len();
     let mut at = 0;
     while at < routes.len() {
         let dest = dest_of(&routes[at]);
         if is_in(dests.as_slice(), dest) {
             let spot = spot_of(table, at, 0);
-            let reason = Reason::SplitDestination;
+            let reason = repeated(dests.as_slice(), bare, dest);
             return Err(SpotFault { spot, reason });
         }
         let (rows, end) = read_rows(alloc, table, routes, dest, at)?;

@@ -113,7 +113,7 @@ fn read_route(record: &ByteRecord) -> Result<Route, Flaw>
 }
 
 /// The fault of the record at a place that says nothing.
-fn flaw_fault(table: &[ByteRecord], place: usize, flaw: Flaw) -> SpotFault
+pub(crate) fn flaw_fault(table: &[ByteRecord], place: usize, flaw: Flaw) -> SpotFault
     ensures { result.reason ≡ reason_of flaw }
 {
     match flaw {

@@ -1,9 +1,11 @@
-//! A network in text, as three tables.
+//! A network in text, as tables.
 
 ghost use Rattle.std.specs.Prelude.{◌≡◌, ◌++◌, IfOk, OnOk, string_bytes};
 ghost use Rattle.std.specs.List.{flat_map};
+ghost use Rattle.net_sheets.specs.About.{network_header, flag_text, entry_record, bare_dest, bare_of, row_rank, plan_ranks, ranks_of, ranks_told, network_text};
 ghost use Rattle.net_sheets.specs.Tables.{line_text, point_record, set_record, route_record, class_routes, row_routes, plan_routes, routes_of, links_text, points_text, sets_text, routes_text};
 
+use crate::about::{Entry, RowRank};
 use crate::routes::Route;
 use net_data::{Net, Plans};
 use net_items::{Link, LinkSet, Plan, Point, Row, Vias};
@@ -122,6 +124,104 @@ fn put_plans(alloc: Global, text: &mut String, plans: &Plans) -> Result<(), Allo
         put_plan(alloc, text, plans.at(place))?;
     }
     Ok(())
+}
+
+/// `true` or `false`.
+fn flag_word(flag: bool) -> &'static str
+    ensures { result.now ≡ flag_text flag }
+{
+    if flag { "true" } else { "false" }
+}
+
+/// The header of the table of a network, and the lines of the network indicator and of the option.
+fn write_head(alloc: Global, ni: u8, tfr: bool) -> Result<String, AllocError>
+    ensures { IfOk result (λ text. string_bytes text ≡ line_text network_header ++ (line_text (entry_record (Entry.Ni ni)) ++ line_text (entry_record (Entry.Tfr tfr)))) }
+{
+    let tfr = flag_word(tfr);
+    let text = format!(in alloc; "key,value\nni,{ni}\ntfr,{tfr}\n")?;
+    Ok(text)
+}
+
+/// Adds the line of a plan without rows.
+fn put_bare_line(alloc: Global, text: &mut String, dest: PointCode) -> Result<(), AllocError>
+    ensures { OnOk result (string_bytes text.new ≡ string_bytes text.old ++ line_text (entry_record (Entry.Bare dest))) }
+{
+    let line = format!(in alloc; "plan,{dest}\n")?;
+    text.push_str(line.as_str())?;
+    Ok(())
+}
+
+/// Adds the line of a plan, if it has no row.
+fn put_bare(alloc: Global, text: &mut String, plan: &Plan) -> Result<(), AllocError>
+    ensures { OnOk result (string_bytes text.new ≡ string_bytes text.old ++ flat_map (λ dest. line_text (entry_record (Entry.Bare dest))) (bare_dest plan.now)) }
+{
+    match plan.rows.as_slice() {
+        [] => put_bare_line(alloc, text, plan.dest),
+        [_, ..] => Ok(()),
+    }
+}
+
+/// Adds the lines of plans that have no row.
+fn put_all_bare(alloc: Global, text: &mut String, plans: &Plans) -> Result<(), AllocError>
+    ensures { OnOk result (string_bytes text.new ≡ string_bytes text.old ++ flat_map (λ dest. line_text (entry_record (Entry.Bare dest))) (bare_of plans.now)) }
+{
+    for place in 0..plans.len() {
+        put_bare(alloc, text, plans.at(place))?;
+    }
+    Ok(())
+}
+
+/// Adds the line of the rank of a row.
+fn put_rank(alloc: Global, text: &mut String, given: RowRank) -> Result<(), AllocError>
+    ensures { OnOk result (string_bytes text.new ≡ string_bytes text.old ++ line_text (entry_record (Entry.Rank given))) }
+{
+    let RowRank { dest, point, rank } = given;
+    let line = format!(in alloc; "rank,{dest} {point} {rank}\n")?;
+    text.push_str(line.as_str())?;
+    Ok(())
+}
+
+/// Adds the lines of the ranks of a plan's rows.
+fn put_plan_ranks(alloc: Global, text: &mut String, plan: &Plan) -> Result<(), AllocError>
+    ensures { OnOk result (string_bytes text.new ≡ string_bytes text.old ++ flat_map (λ r. line_text (entry_record (Entry.Rank r))) (plan_ranks plan.now)) }
+{
+    for row in plan.rows.as_slice() {
+        let given = RowRank {
+            dest: plan.dest,
+            point: row.point,
+            rank: row.rank,
+        };
+        put_rank(alloc, text, given)?;
+    }
+    Ok(())
+}
+
+/// Adds the lines of the ranks of plans' rows, if they are wanted.
+fn put_ranks(
+    alloc: Global,
+    text: &mut String,
+    plans: &Plans,
+    wanted: bool,
+) -> Result<(), AllocError>
+    ensures { OnOk result (string_bytes text.new ≡ string_bytes text.old ++ flat_map (λ r. line_text (entry_record (Entry.Rank r))) (ranks_told wanted plans.now)) }
+{
+    if !wanted {
+        return Ok(());
+    }
+    for place in 0..plans.len() {
+        put_plan_ranks(alloc, text, plans.at(place))?;
+    }
+    Ok(())
+}
+
+/// The table of the network itself: `key,value`, with the ranks of its rows if they are wanted. It fails if memory is refused.
+pub fn write_network(alloc: Global, net: &Net, ranked: bool) -> Result<String, AllocError>
+    ensures { IfOk result (λ text. string_bytes text ≡ network_text ranked net.now) }
+{
+    let mut text = write_head(alloc, net.ni(), net.tfr())?;
+    put_all_bare(alloc, &mut text, net.plans())?;
+    put_ranks(alloc, &mut text, net.plans(), ranked)?;
+    Ok(text)
 }
 
 /// The table of points: `code,kind,mate`. It fails if memory is refused.

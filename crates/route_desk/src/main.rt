@@ -26,8 +26,8 @@
 //!    `play` and `serve` refuse them.
 //!    `route_desk report NET` writes a report of the network as one page of HTML, with that picture, and one of each destination if it
 //!    has at most sixty points.
-//! 6. `route_desk import DIR` writes the network text that the tables points.csv, sets.csv and routes.csv of a folder say;
-//!    `route_desk export NET DIR` writes these tables.
+//! 6. `route_desk import DIR` writes the network text that the tables network.csv, points.csv, sets.csv and routes.csv of a folder say;
+//!    `route_desk export NET DIR` writes these tables, with `--ranks` the ranks of rows too.
 //! 7. If standard input is a terminal, `run NET` says on standard error how large the network is, and prompts for each line there.
 //! 8. `route_desk explain WHAT` writes what the refusal, fault, cause or complaint of that number or name means and what
 //!    to do; without WHAT the title and the meaning of each, a line each.
@@ -283,8 +283,9 @@ fn obey(
         Order::Export {
             net,
             dir,
+            ranks,
             explained,
-        } => export(rt, net, dir, explained),
+        } => export(rt, net, dir, ranks, explained),
         Order::Explain { what, json } => explain(rt, what, json),
     }
 }

@@ -189,10 +189,16 @@ pub fn import(rt: &HostRuntime, dir: &str, explained: bool) -> io::Result<ExitCo
     }
 }
 
-/// Writes the network of a file as three tables in a folder.
-pub fn export(rt: &HostRuntime, net: &str, dir: &str, explained: bool) -> io::Result<ExitCode> {
+/// Writes the network of a file as tables in a folder, with the ranks of its rows if they are wanted.
+pub fn export(
+    rt: &HostRuntime,
+    net: &str,
+    dir: &str,
+    ranks: bool,
+    explained: bool,
+) -> io::Result<ExitCode> {
     match load_file(rt, net, explained) {
-        Ok(net) => report(rt, write_folder(rt, &net, dir, explained).err()),
+        Ok(net) => report(rt, write_folder(rt, &net, dir, ranks, explained).err()),
         Err(fault) => report(rt, Some(fault)),
     }
 }

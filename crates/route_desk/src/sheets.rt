@@ -1,4 +1,4 @@
-//! The three tables of a folder, which a spreadsheet reads and writes.
+//! The tables of a folder, which a spreadsheet reads and writes.
 
 use crate::files::{FileText, NotSaved, fault_of, save_together};
 use crate::reasons::{explain_file, write_refused};
@@ -6,14 +6,13 @@ use crate::saying::say;
 use answers::put_refusal;
 use console::Fault;
 use net_data::Net;
-use net_sheets::{Reason, Sheet, SheetFault, read_sheets, write_points, write_routes, write_sets};
+use net_sheets::{
+    Reason, Sheet, SheetFault, read_sheets, write_network, write_points, write_routes, write_sets,
+};
 use point_codes::PointCode;
 use std::alloc::{AllocError, Global};
 use std::io::ErrorKind;
 use std::{fs, io};
-
-/// The network indicator of a network that tables say: national (Q.704 clause 14.2). They have none.
-const NATIONAL: u8 = 2;
 
 /// Why the tables of a folder say no network.
 #[derive(Drop)]
@@ -29,6 +28,7 @@ pub enum FolderFault {
 /// The name of a table's file.
 fn file_of(sheet: Sheet) -> &'static str {
     match sheet {
+        Sheet::Network => "network.csv",
         Sheet::Points => "points.csv",
         Sheet::Sets => "sets.csv",
         Sheet::Routes => "routes.csv",
@@ -38,6 +38,7 @@ fn file_of(sheet: Sheet) -> &'static str {
 /// The columns of a table.
 fn columns_of(sheet: Sheet) -> &'static str {
     match sheet {
+        Sheet::Network => "key,value",
         Sheet::Points => "code,kind,mate",
         Sheet::Sets => "id,a,b,links",
         Sheet::Routes => "destination,point,class,via",
@@ -72,26 +73,49 @@ fn wrong(fault: SheetFault) -> FolderFault {
     }
 }
 
+/// Whether the file of a table isn't there.
+fn is_missing(fault: &FolderFault) -> bool {
+    match fault {
+        FolderFault::Read(_, error) => error.kind() == ErrorKind::NotFound,
+        _ => false,
+    }
+}
+
+/// The bytes of the network's own table, none if its file isn't there.
+fn read_network(rt: &HostRuntime, dir: &str) -> Result<Option<Vec<u8>>, FolderFault> {
+    match read_sheet(rt, dir, Sheet::Network) {
+        Ok(bytes) => Ok(Some(bytes)),
+        Err(fault) => {
+            if is_missing(&fault) {
+                return Ok(None);
+            }
+            Err(fault)
+        }
+    }
+}
+
 /// The network that the tables of a folder say.
 pub fn read_folder(rt: &HostRuntime, dir: &str) -> Result<Net, FolderFault> {
+    let network = read_network(rt, dir)?;
     let points = read_sheet(rt, dir, Sheet::Points)?;
     let sets = read_sheet(rt, dir, Sheet::Sets)?;
     let routes = read_sheet(rt, dir, Sheet::Routes)?;
     match read_sheets(
         rt.alloc(),
+        network.as_ref().map(|bytes| bytes.as_slice()),
         points.as_slice(),
         sets.as_slice(),
         routes.as_slice(),
-        NATIONAL,
     ) {
         Ok(net) => Ok(net),
         Err(fault) => Err(wrong(fault)),
     }
 }
 
-/// The text of a table of a network.
-fn write_sheet(alloc: Global, net: &Net, sheet: Sheet) -> Result<String, AllocError> {
+/// The text of a table of a network, with the ranks of its rows if they are wanted.
+fn write_sheet(alloc: Global, net: &Net, sheet: Sheet, ranks: bool) -> Result<String, AllocError> {
     match sheet {
+        Sheet::Network => write_network(alloc, net, ranks),
         Sheet::Points => write_points(alloc, net),
         Sheet::Sets => write_sets(alloc, net),
         Sheet::Routes => write_routes(alloc, net),
@@ -99,11 +123,21 @@ fn write_sheet(alloc: Global, net: &Net, sheet: Sheet) -> Result<String, AllocEr
 }
 
 /// The tables of a network with the names of their files in a folder.
-fn texts_of(alloc: Global, net: &Net, dir: &str) -> Result<Vec<FileText>, AllocError> {
+fn texts_of(
+    alloc: Global,
+    net: &Net,
+    dir: &str,
+    ranks: bool,
+) -> Result<Vec<FileText>, AllocError> {
     let mut texts = Vec::new(alloc);
-    for sheet in [Sheet::Points, Sheet::Sets, Sheet::Routes] {
+    for sheet in [
+        Sheet::Network,
+        Sheet::Points,
+        Sheet::Sets,
+        Sheet::Routes,
+    ] {
         let name = path_of(alloc, dir, sheet)?;
-        let text = write_sheet(alloc, net, sheet)?;
+        let text = write_sheet(alloc, net, sheet, ranks)?;
         texts.push(FileText { name, text })?;
     }
     Ok(texts)
@@ -116,9 +150,15 @@ fn explain_unsaved(rt: &HostRuntime, texts: &[FileText], fault: &NotSaved) {
     }
 }
 
-/// Writes a network as the tables of a folder, all of them or none.
-pub fn write_folder(rt: &HostRuntime, net: &Net, dir: &str, explained: bool) -> Result<(), Fault> {
-    let Ok(texts) = texts_of(rt.alloc(), net, dir) else {
+/// Writes a network as the tables of a folder, all of them or none, with the ranks of its rows if they are wanted.
+pub fn write_folder(
+    rt: &HostRuntime,
+    net: &Net,
+    dir: &str,
+    ranks: bool,
+    explained: bool,
+) -> Result<(), Fault> {
+    let Ok(texts) = texts_of(rt.alloc(), net, dir, ranks) else {
         return Err(Fault::OutOfMemory);
     };
     match save_together(rt, texts.as_slice()) {
@@ -181,8 +221,14 @@ fn put_column(text: &mut String, sheet: Sheet, place: u8) -> Result<(), AllocErr
 fn sentence_of(reason: &Reason) -> &'static str {
     match reason {
         Reason::Csv => "no CSV, or not as many fields as columns",
-        Reason::FifthClass =>
-            "answers write class 5 for the way over the mate; in a table its class is mate",
+        Reason::FifthClass => "answers write class 5 for the way over the mate; in a table its class is mate",
+        Reason::Keys =>
+            "the keys have to be ni, then tfr, then plan for each plan without rows, and then rank for each row or for none",
+        Reason::Indicator => "the network indicator has to be 0 to 3",
+        Reason::PlanThere => "this plan without rows stands further up",
+        Reason::PlanBare => "network.csv says that the plan of this destination has no rows",
+        Reason::RankOrder =>
+            "the ranks have to be those of all rows of all plans, by rising destination and point",
         Reason::ThirdVia => "a class has one or two vias, and this is a third",
         Reason::SplitDestination => "the routes of this destination don't stand together",
         Reason::SplitPoint => "the routes of this point to the destination don't stand together",
@@ -232,6 +278,9 @@ pub fn describe(alloc: Global, fault: &FolderFault) -> Result<String, AllocError
 /// What a field has to be, by the name of its column.
 fn field_form(column: &str) -> &'static str {
     match column {
+        "key" => "ni, tfr, plan or rank",
+        "value" =>
+            "a number for ni, true or false for tfr, a code for plan, as 2-1-1, and two codes and a number to 255 for rank, as 2-1-1 2-10-1 3",
         "kind" => "sep or stp",
         "mate" => "a code, as 2-10-2, or nothing",
         "id" => "a number from 0 to 4095",
@@ -250,6 +299,12 @@ fn advice_of(reason: &Reason) -> &'static str {
         Reason::Columns =>
             "; write this header in small letters, with commas between and no other column",
         Reason::FifthClass => "; write mate in the column class, and leave the column via empty",
+        Reason::Keys =>
+            "; write ni and tfr once each, in this order, behind them plan, and behind that rank",
+        Reason::PlanThere => "; take it away",
+        Reason::PlanBare => "; take it away here, or there",
+        Reason::RankOrder =>
+            "; take all records of rank away, and each row gets its least rank, or have export --ranks write them anew",
         Reason::ThirdVia => "; give it the next class, or leave it out",
         Reason::SplitDestination =>
             "; move this record up to the others of its destination, or sort the table by destination",

@@ -5,7 +5,7 @@ use Rattle.net_sheets.proofs.plans.add_plans.Given as goal
 abbrev pub invariant-loop-at : goal.invariant-loop-at
 invariant-loop-at l = record {
   within : l.at ≤ length l.routes;
-  so_far : PlansSoFar l.fn.net (take l.at l.routes) l.dests.items l.net;
+  so_far : PlansSoFar l.fn.net l.fn.dests.items (take l.at l.routes) l.dests.items l.net;
 }
 
 abbrev pub decreases-loop-at : goal.decreases-loop-at
