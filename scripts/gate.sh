@@ -2,11 +2,12 @@
 # gate.sh PROGRAM: the gate. Every crate and its tests are proved from nothing, the wrong bodies of must-fail/ tried, the
 # tests and the stored run compared; the other wrong bodies are looked at; then the program that was just built runs the
 # transcripts of the pages, explains what the tables of SCRIPT.md do, runs the worked examples, 500 questions of what to
-# restore, surveys against the what-ifs asked one by one, warnings against the network texts, reports against the words of a script, and a session at a terminal, writes files beside others' files, answers many sessions at one desk, is packed and
-# installed, and is deprived of memory, input and output. The line before the last tells the processor time of all this, and
-# with MEASURE=1 also how many times that of a first check of net_items at one job it is. Such checks are made before, one for
-# each processor, and aren't counted. The last line is 'N passed, M failed', which stands in crates/route_desk/out/gate too if
-# nothing failed.
+# restore, surveys against the what-ifs asked one by one, warnings against the network texts, reports against the words of a
+# script, and a session at a terminal, draws networks, writes and reads tables, writes files beside others' files, answers many
+# sessions at one desk, is packed and installed, and is deprived of memory, input and output. The line before the last tells
+# the processor time of all this, and with MEASURE=1 also how many times that of a first check of net_items at one job it is.
+# Such checks are made before and behind all this, one for each processor each time, since processors change in such a time;
+# they aren't counted. The last line is 'N passed, M failed', which stands in crates/route_desk/out/gate too if nothing failed.
 cd "$(dirname "$0")/.."
 # what the gate said last, which packages tell
 said=crates/route_desk/out/gate
@@ -50,9 +51,7 @@ unit_of_work() {
 # the processor time in a file to which `times` wrote: that of all that the shell has started and seen end, in whole seconds
 in_children() { tail -1 "$1" | awk -F'[ms ]+' '{ print int($1 * 60 + $2 + $3 * 60 + $4) }'; }
 
-[ -n "$MEASURE" ] && unit=$(unit_of_work)
-# a check of less than half a minute took over what another check on this machine had proved
-[ "${unit:-0}" -ge 30 ] || unit=
+[ -n "$MEASURE" ] && first=$(unit_of_work)
 # a job for each processor, as many as memory holds, and none for a second part of a crate: each part loads all libraries anew
 jobs=$(awk -v most="$(nproc)" '/^MemAvailable:/ { held = int($2 / 5000000); print held < 1 ? 1 : held < most ? held : most }' /proc/meminfo)
 times > "$log"
@@ -100,7 +99,10 @@ add scripts/packed.sh "$1"
 add scripts/hostile.py --short "$1" crates/library_calls/out/library_calls
 times > "$log"
 spent=$(($(in_children "$log") - before))
-echo "processor time: $spent s${unit:+, $((spent / unit)) times the first check of net_items ($unit s)}"
+[ -n "$MEASURE" ] && last=$(unit_of_work)
+# a check of less than half a minute took over what another check on this machine had proved
+[ "${first:-0}" -ge 30 ] && [ "${last:-0}" -ge 30 ] && unit=$(((first + last) / 2))
+echo "processor time: $spent s${unit:+, $((spent / unit)) times the first check of net_items ($first s before, $last s behind it)}"
 [ $failed -eq 0 ] && echo "$passed passed, $failed failed" > "$said"
 echo "$passed passed, $failed failed"
 [ $failed -eq 0 ]

@@ -23,7 +23,7 @@
 //! 7. A line that is no command is answered `refused 62 BadLine`, but for `help` and `help WORD`.
 //!
 //! Stands on `answers`, `pictures`. A change here also changes specs/ (Asked, Commands, Console, Does, Pictures, Right, Settling, Syncing, Taken,
-//! Watch), proofs/ and must-fail/.
+//! Watch), proofs/, must-fail/ and wrong-bodies/.
 #![tactic(auto)]
 
 pub mod asking;

@@ -7,7 +7,7 @@
 //!    inhibited it (numbering own); 0 is available.
 //! 4. A new link has the failed mark alone (own).
 //!
-//! Stands on nothing of ours. A change here also changes specs/ (Marks) and must-fail/.
+//! Stands on nothing of ours. A change here also changes specs/ (Marks), must-fail/ and wrong-bodies/.
 #![tactic(auto)]
 
 pub mod marks;

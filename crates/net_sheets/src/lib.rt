@@ -20,7 +20,7 @@
 //!    a line, and a column is a character (own).
 //!
 //! Stands on `net_building`, `tokens`, `csv`. A change here also changes specs/ (About, Events, Faults, Loops, Places, Ranks, Records,
-//! Tables, Values), proofs/ and must-fail/.
+//! Tables, Values), proofs/, must-fail/ and wrong-bodies/.
 #![tactic(auto)]
 
 mod about;

@@ -13,8 +13,8 @@
 //! 7. The title names the network, the destination and the version (own).
 //! 8. The text is in the language DOT, for Graphviz, or an SVG document of its own (own).
 //!
-//! Stands on `transfer_state`. A change here also changes specs/ (Curves, Dot, Labels, Laws, Layout, Shown, Svg, Title), proofs/ and
-//! must-fail/; a change of what is told of a version also changes `desk_console` and what its specs/Asked says.
+//! Stands on `transfer_state`. A change here also changes specs/ (Curves, Dot, Labels, Laws, Layout, Shown, Svg, Title), proofs/,
+//! must-fail/ and wrong-bodies/; a change of what is told of a version also changes `desk_console` and what its specs/Asked says.
 #![tactic(auto)]
 
 mod curves;
