@@ -2,7 +2,8 @@
 
 use std::alloc::{AllocError, Global};
 
-/// How the page looks on a screen, on a phone and on paper. A picture keeps its size on a phone, where it is moved sideways.
+/// How the page looks on a screen, on a phone and on paper. A picture keeps its size on a phone, where it is moved sideways, and that of
+/// a large network everywhere but on paper.
 const STYLE: &str =
     "body { font: 16px/1.5 Helvetica, Arial, sans-serif; color: #111111; background: #ffffff; max-width: 75rem; margin: 0 auto; padding: 1rem }
 h1, h2 { line-height: 1.25 }
@@ -12,9 +13,10 @@ th, td { border-bottom: 1px solid #999999; padding: 0.2rem 1rem 0.2rem 0; text-a
 .n { text-align: right }
 .wide { overflow-x: auto }
 .wide svg { display: block; width: 100%; min-width: 56rem; height: auto }
+.large svg { min-width: 400rem }
 summary { cursor: pointer; padding: 0.2rem 0 }
 footer { border-top: 1px solid #999999; margin-top: 2rem; font-size: 0.85rem }
-@media print { body { font-size: 10pt; max-width: none } .wide svg { min-width: 0 } h2, caption { break-after: avoid } tr, svg { break-inside: avoid } }
+@media print { body { font-size: 10pt; max-width: none } .wide svg, .large svg { min-width: 0 } h2, caption { break-after: avoid } tr, svg { break-inside: avoid } }
 ";
 
 /// A page as far as it is written.

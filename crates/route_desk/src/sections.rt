@@ -16,6 +16,9 @@ use what_if::SetLink;
 /// So many points a network has at most whose report has a picture for each destination.
 const MOST_DRAWN: usize = 60;
 
+/// So many points a network has at most whose picture can be read in the width of the page.
+const MOST_FITTED: usize = 100;
+
 /// Adds how large a network is.
 fn put_size(alloc: Global, page: &mut Page, size: &NetSize) -> Result<(), AllocError> {
     let NetSize {
@@ -33,6 +36,14 @@ fn put_size(alloc: Global, page: &mut Page, size: &NetSize) -> Result<(), AllocE
     page.put_paragraph(text.as_str())
 }
 
+/// What a picture stands in, which is moved sideways where it is too wide.
+fn picture_box(net: &Net) -> &'static str {
+    if net.points().len() > MOST_FITTED {
+        return "<div class=\"wide large\">\n";
+    }
+    "<div class=\"wide\">\n"
+}
+
 /// Adds the picture of a version's network, about a destination if one is named.
 fn put_picture(
     alloc: Global,
@@ -42,7 +53,7 @@ fn put_picture(
 ) -> Result<(), AllocError> {
     match write_svg(alloc, version.net(), about, None) {
         Ok(picture) => {
-            page.put("<div class=\"wide\">\n")?;
+            page.put(picture_box(version.net().net()))?;
             page.put(picture.as_str())?;
             page.put("</div>\n")
         }

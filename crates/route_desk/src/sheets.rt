@@ -123,19 +123,9 @@ fn write_sheet(alloc: Global, net: &Net, sheet: Sheet, ranks: bool) -> Result<St
 }
 
 /// The tables of a network with the names of their files in a folder.
-fn texts_of(
-    alloc: Global,
-    net: &Net,
-    dir: &str,
-    ranks: bool,
-) -> Result<Vec<FileText>, AllocError> {
+fn texts_of(alloc: Global, net: &Net, dir: &str, ranks: bool) -> Result<Vec<FileText>, AllocError> {
     let mut texts = Vec::new(alloc);
-    for sheet in [
-        Sheet::Network,
-        Sheet::Points,
-        Sheet::Sets,
-        Sheet::Routes,
-    ] {
+    for sheet in [Sheet::Network, Sheet::Points, Sheet::Sets, Sheet::Routes] {
         let name = path_of(alloc, dir, sheet)?;
         let text = write_sheet(alloc, net, sheet, ranks)?;
         texts.push(FileText { name, text })?;
@@ -221,7 +211,8 @@ fn put_column(text: &mut String, sheet: Sheet, place: u8) -> Result<(), AllocErr
 fn sentence_of(reason: &Reason) -> &'static str {
     match reason {
         Reason::Csv => "no CSV, or not as many fields as columns",
-        Reason::FifthClass => "answers write class 5 for the way over the mate; in a table its class is mate",
+        Reason::FifthClass =>
+            "answers write class 5 for the way over the mate; in a table its class is mate",
         Reason::Keys =>
             "the keys have to be ni, then tfr, then plan for each plan without rows, and then rank for each row or for none",
         Reason::Indicator => "the network indicator has to be 0 to 3",
