@@ -24,7 +24,7 @@
 //!     whose `explained` is true exactly if the flag `--explain` is given. Any other words are told by `clap`, as are `--help`
 //!     and `--version`.
 //!
-//! Stands on `clap`. A change here also changes specs/ (Words), proofs/ and wrong-bodies/.
+//! Stands on `clap`. A change here also changes specs/ (Words), proofs/, must-fail/ and wrong-bodies/.
 #![tactic(auto)]
 
 mod commands;

@@ -10,7 +10,7 @@
 //! 5. An explanation is written as three or four lines, the list as a line for each.
 //!
 //! Stands on `plan_rows`, `net_data`, `transfer_state`, `work_units`, `what_if`, `net_text`, `answers`, `sessions`. A change here also changes
-//! specs/ (Names, Titles, Written), proofs/, wrong-bodies/ and the tables of docs/SCRIPT.md.
+//! specs/ (Names, Titles, Written), proofs/, must-fail/, wrong-bodies/ and the tables of docs/SCRIPT.md.
 #![tactic(auto)]
 
 mod causes;

@@ -12,7 +12,7 @@
 //! 4. Questions of all rows are answered with tables by code, on the stack: nothing here takes memory.
 //!
 //! Stands on `net_sets`. A change here also changes specs/ (Causes, Ranks, Rows, Seen, Settings, Transfers, Uses),
-//! proofs/ and wrong-bodies/.
+//! proofs/, must-fail/ and wrong-bodies/.
 #![tactic(auto)]
 
 pub mod causes;

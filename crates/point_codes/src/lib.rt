@@ -7,7 +7,7 @@
 //! 5. A transfer message has a service information octet, a routing label, a heading and the code of the destination
 //!    concerned (Q.704 clauses 14.2, 15.2 and 15.7 to 15.9).
 //!
-//! Stands on `thiserror`. A change here also changes specs/ (Codes, Numbers, Octets), proofs/ and wrong-bodies/.
+//! Stands on `thiserror`. A change here also changes specs/ (Codes, Numbers, Octets), proofs/, must-fail/ and wrong-bodies/.
 #![tactic(auto)]
 
 pub mod codes;

@@ -10,7 +10,7 @@
 //! 4. The mate is used, as class 5, where its direct status is better than the best offer (own). The status is then
 //!    restricted, or allowed without the option.
 //!
-//! Stands on `net_items`. A change here also changes specs/ (Routes), proofs/ and wrong-bodies/.
+//! Stands on `net_items`. A change here also changes specs/ (Routes), proofs/, must-fail/ and wrong-bodies/.
 #![tactic(auto)]
 
 pub mod choices;

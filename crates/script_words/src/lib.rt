@@ -35,8 +35,8 @@
 //! 15. One table has each word that begins a command, the form of its commands, an example and what they do, and `help` and `quit`
 //!     besides, which begin none. A new command is a new entry, and `forms_law` isn't proved without it.
 //!
-//! Stands on `net_data`, `tokens`. A change here also changes specs/ (Commands, EventWords, Events, Forms, Numbers, Wholes), proofs/
-//! and wrong-bodies/.
+//! Stands on `net_data`, `tokens`. A change here also changes specs/ (Commands, EventWords, Events, Forms, Numbers, Wholes), proofs/,
+//! must-fail/ and wrong-bodies/.
 #![tactic(auto)]
 
 mod changes;

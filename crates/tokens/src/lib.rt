@@ -10,7 +10,7 @@
 //! 6. Each token is read exactly if it is what is written of its value, so no value has two tokens.
 //!
 //! Stands on `net_items`, `smallvec`. A change here also changes specs/ (Entries, Kinds, Marked, Numbers, Pieces, Rows, Words),
-//! proofs/ and wrong-bodies/.
+//! proofs/, must-fail/ and wrong-bodies/.
 #![tactic(auto)]
 
 pub mod entries;
