@@ -1,5 +1,5 @@
 -- Each step keeps the rule of the minutes.
-use Rattle.std.proofs.Common.{◌≡◌, ◌≢◌, ◌⊎◌, ℕ, ◌+◌, ◌<◌, zero, suc, List, [], ◌∷◌, ◌++◌, set, Bool, true, false, true≢false, refl, sym, ap, ◌∙◌, subst, ⊎_elim, inl, inr, length, arith, append-nil, append_assoc}
+use Rattle.std.proofs.Common.{◌≡◌, ◌≢◌, ◌⊎◌, ℕ, ◌+◌, ◌<◌, zero, suc, List, [], ◌∷◌, ◌++◌, set, true, false, true≢false, refl, sym, ap, ◌∙◌, subst, ⊎_elim, inl, inr, length, arith, append-nil, append_assoc}
 use Rattle.std.specs.Prelude.{◌==◌, if◌then◌else◌}
 use mathlib.Core.Option.{some, some-ne-none, some-injective}
 use lib.ListN.{get_elem?}
@@ -7,7 +7,7 @@ use Rattle.crossbeam_utils.specs.Register.{Turns, Forks, Merges}
 use Rattle.atomic_table.proofs.Lists.{at_set}
 use Rattle.seats.specs.declared.rule.Side.{Side}
 use Rattle.seats.specs.declared.rule.Sight.{Sight}
-use Rattle.seats.specs.Minutes.{AreBelow, Fits, IsKeeper, IsOrderly, IsSeat, NoneOf, OnlyOthersSince, SeesThese, keeper_cut, knowing, new_seat, nobody, opening, seat_left, sight, sights, taken_in, with_seat}
+use Rattle.seats.specs.Minutes.{AreBelow, Fits, IsKeeper, IsOrderly, IsSeat, NoneOf, OnlyOthersSince, SeesThese, keeper_cut, knowing, new_seat, nobody, opening, seat_left, sights, taken_in, with_seat}
 
 off : false ≡ true → ⊥
 off e = true≢false (sym e)
@@ -90,7 +90,7 @@ module _ {T : Type 0} where
       (at_end (set views by w) r u j e)
 
   pub begins : (words : List ℕ) → IsOrderly words (opening {T = T} ∷ [])
-  begins words = (0, (λ k. k), [], 0, tt, one)
+  begins words = record { keeper = 0; chair = λ k. k; log = []; seats = 0; below = tt; fits = one }
     where
       one : (by : ℕ) (v : Side T) → get_elem? (opening {T = T} ∷ []) by ≡ some v → Fits 0 (λ k. k) [] 0 by v
       one zero v e = subst (Fits 0 (λ k. k) [] 0 0) (some-injective _ _ e) ((λ _. (refl, refl, refl)), (λ is. absurd (off is)))
@@ -99,11 +99,11 @@ module _ {T : Type 0} where
   -- a seat that has the keeper with it adds what it says
   pub says : (by : ℕ) (v : Side T) (said : List T) → v.keeps ≡ true → v.sits ≡ true → Turns IsOrderly by v (λ x. x) (λ v x y w. SeesThese said v w)
   says by v said keeps sits words views h at =
-      let keeper = h.0 in
-      let chair = h.1 in
-      let log = h.2 in
-      let n = h.3 in
-      let mine = h.5 by v at in
+      let keeper = h.keeper in
+      let chair = h.chair in
+      let log = h.log in
+      let n = h.seats in
+      let mine = h.fits by v at in
       let k = mine.0 keeps in
       let s = mine.1 sits in
       let more : List (Sight T) = sights v.me said in
@@ -112,15 +112,15 @@ module _ {T : Type 0} where
       let found : OnlyOthersSince v.me v.saw v.log = subst (OnlyOthersSince v.me v.saw) (sym k.1) s.2 in
       let low : v.me < n = s.1 in (
         knowing v new,
-        (
-          keeper,
-          chair,
-          new,
-          n,
-          subst (AreBelow n) (sym new_is) (below_append n log more h.4 (below_sights n v.me said low)),
-          fits_set keeper chair new n views by (knowing v new)
+        record {
+          keeper = keeper;
+          chair = chair;
+          log = new;
+          seats = n;
+          below = subst (AreBelow n) (sym new_is) (below_append n log more h.below (below_sights n v.me said low));
+          fits = fits_set keeper chair new n views by (knowing v new)
               (λ j u apart e.
-              let theirs = h.5 j u e in (
+              let theirs = h.fits j u e in (
                 (λ is. absurd (apart ((theirs.0 is).0 ∙ sym k.0))),
                 (λ is.
                     let t = theirs.1 is in (
@@ -130,84 +130,84 @@ module _ {T : Type 0} where
                           (since_more u.me u.saw log more t.2 (none_sights u.me v.me said (λ (same : v.me ≡ u.me). apart (sym t.0 ∙ (ap chair (sym same) ∙ s.0))))),
                     )),
               ))
-              ((λ _. (k.0, refl, k.2)), (λ _. (s.0, s.1, since_now v.me new))),
-        ),
-        record { found = found; seat = subst (λ c. v.me < c) (sym k.2) low; below = subst (λ (y : ℕ × List (Sight T)). AreBelow y.0 y.1) (λ i. (sym k.2 i, sym k.1 i)) h.4; after = refl },
+              ((λ _. (k.0, refl, k.2)), (λ _. (s.0, s.1, since_now v.me new)));
+        },
+        record { found = found; seat = subst (λ c. v.me < c) (sym k.2) low; below = subst (λ (y : ℕ × List (Sight T)). AreBelow y.0 y.1) (λ i. (sym k.2 i, sym k.1 i)) h.below; after = refl },
       )
 
   -- the keeper is cut off
   pub parts : (by : ℕ) (v : Side T) → v.keeps ≡ true → v.sits ≡ true → Forks IsOrderly by v (seat_left v) (keeper_cut v)
   parts by v keeps sits words views h at =
-      let mine = h.5 by v at in
+      let mine = h.fits by v at in
       let k = mine.0 keeps in
-      let s = mine.1 sits in (
-        length views,
-        h.1,
-        h.2,
-        h.3,
-        h.4,
-        fits_cut (length views) h.1 h.2 h.3 views by (seat_left v) (keeper_cut v)
-            (λ j u apart e. ((λ is. absurd (apart (((h.5 j u e).0 is).0 ∙ sym k.0))), (h.5 j u e).1))
+      let s = mine.1 sits in record {
+        keeper = length views;
+        chair = h.chair;
+        log = h.log;
+        seats = h.seats;
+        below = h.below;
+        fits = fits_cut (length views) h.chair h.log h.seats views by (seat_left v) (keeper_cut v)
+            (λ j u apart e. ((λ is. absurd (apart (((h.fits j u e).0 is).0 ∙ sym k.0))), (h.fits j u e).1))
             ((λ is. absurd (off is)), (λ _. s))
-            ((λ _. (refl, k.1, k.2)), (λ is. absurd (off is))),
-      )
+            ((λ _. (refl, k.1, k.2)), (λ is. absurd (off is)));
+      }
 
   -- a seat takes the keeper in
   pub meets : (by : ℕ) (v : Side T) (other : ℕ) (w : Side T) → IsSeat v → IsKeeper w → Merges IsOrderly by v other w (taken_in v w) nobody
   meets by v other w seat keeper words views h at apart there =
-      let s = (h.5 by v at).1 seat.1 in
+      let s = (h.fits by v at).1 seat.1 in
       let theirs = ⊎_elim {C = get_elem? views other ≡ some w} (λ (t : (other ≡ by) × (taken_in v w ≡ w)). absurd (apart t.0)) (λ (t : (other ≢ by) × (get_elem? views other ≡ some w)). t.1) (at_set views by other (taken_in v w) w there) in
-      let k = (h.5 other w theirs).0 keeper.0 in (
-        by,
-        h.1,
-        h.2,
-        h.3,
-        h.4,
-        fits_set by h.1 h.2 h.3 (set views by (taken_in v w)) other nobody
+      let k = (h.fits other w theirs).0 keeper.0 in record {
+        keeper = by;
+        chair = h.chair;
+        log = h.log;
+        seats = h.seats;
+        below = h.below;
+        fits = fits_set by h.chair h.log h.seats (set views by (taken_in v w)) other nobody
             (λ j u away e. ⊎_elim
-            (λ (x : (j ≡ by) × (taken_in v w ≡ u)). subst (λ (y : ℕ × Side T). Fits by h.1 h.2 h.3 y.0 y.1) (λ i. (sym x.0 i, x.1 i)) ((λ _. (refl, k.1, k.2)), (λ _. s)))
-            (λ (x : (j ≢ by) × (get_elem? views j ≡ some u)). ((λ is. absurd (away (((h.5 j u x.1).0 is).0 ∙ sym k.0))), (h.5 j u x.1).1))
+            (λ (x : (j ≡ by) × (taken_in v w ≡ u)). subst (λ (y : ℕ × Side T). Fits by h.chair h.log h.seats y.0 y.1) (λ i. (sym x.0 i, x.1 i)) ((λ _. (refl, k.1, k.2)), (λ _. s)))
+            (λ (x : (j ≢ by) × (get_elem? views j ≡ some u)). ((λ is. absurd (away (((h.fits j u x.1).0 is).0 ∙ sym k.0))), (h.fits j u x.1).1))
             (at_set views by j (taken_in v w) u e))
-            ((λ is. absurd (off is)), (λ is. absurd (off is))),
-      )
+            ((λ is. absurd (off is)), (λ is. absurd (off is)));
+      }
 
   -- all that the keeper knows is cut off
   pub cuts : (by : ℕ) (v : Side T) → IsKeeper v → Forks IsOrderly by v nobody v
   cuts by v keeper words views h at =
-      let k = (h.5 by v at).0 keeper.0 in (
-        length views,
-        h.1,
-        h.2,
-        h.3,
-        h.4,
-        fits_cut (length views) h.1 h.2 h.3 views by nobody v
-            (λ j u apart e. ((λ is. absurd (apart (((h.5 j u e).0 is).0 ∙ sym k.0))), (h.5 j u e).1))
+      let k = (h.fits by v at).0 keeper.0 in record {
+        keeper = length views;
+        chair = h.chair;
+        log = h.log;
+        seats = h.seats;
+        below = h.below;
+        fits = fits_cut (length views) h.chair h.log h.seats views by nobody v
+            (λ j u apart e. ((λ is. absurd (apart (((h.fits j u e).0 is).0 ∙ sym k.0))), (h.fits j u e).1))
             ((λ is. absurd (off is)), (λ is. absurd (off is)))
-            ((λ _. (refl, k.1, k.2)), (λ is. absurd (true≢false (sym is ∙ keeper.1)))),
-      )
+            ((λ _. (refl, k.1, k.2)), (λ is. absurd (true≢false (sym is ∙ keeper.1))));
+      }
 
   -- one seat more
   pub sits_down : (by : ℕ) (v : Side T) → IsKeeper v → Forks IsOrderly by v (with_seat v) (new_seat v)
   sits_down by v keeper words views h at =
-      let k = (h.5 by v at).0 keeper.0 in
-      let chair : ℕ → ℕ = put h.1 h.3 (length views) in (
-        h.0,
-        chair,
-        h.2,
-        h.3 + 1,
-        below_more h.3 h.2 h.4,
-        fits_cut h.0 chair h.2 (h.3 + 1) views by (with_seat v) (new_seat v)
+      let k = (h.fits by v at).0 keeper.0 in
+      let chair : ℕ → ℕ = put h.chair h.seats (length views) in record {
+        keeper = h.keeper;
+        chair = chair;
+        log = h.log;
+        seats = h.seats + 1;
+        below = below_more h.seats h.log h.below;
+        fits = fits_cut h.keeper chair h.log (h.seats + 1) views by (with_seat v) (new_seat v)
             (λ j u apart e.
-            let theirs = h.5 j u e in (
+            let theirs = h.fits j u e in (
               (λ is. absurd (apart ((theirs.0 is).0 ∙ sym k.0))),
-              (λ is. let t = theirs.1 is in let low = t.1 in (put_else h.1 h.3 (length views) u.me (λ (same : u.me ≡ h.3). omega arith) ∙ t.0, omega arith, t.2)),
+              (λ is. let t = theirs.1 is in let low = t.1 in (put_else h.chair h.seats (length views) u.me (λ (same : u.me ≡ h.seats). omega arith) ∙ t.0, omega arith, t.2)),
             ))
             ((λ _. (k.0, k.1, ap (λ c. c + 1) k.2)), (λ is. absurd (true≢false (sym is ∙ keeper.1)))) (
               (λ is. absurd (off is)),
               (λ _. (
-                ap chair k.2 ∙ put_here h.1 h.3 (length views),
+                ap chair k.2 ∙ put_here h.chair h.seats (length views),
                 let same = k.2 in omega arith,
-                subst (λ l. OnlyOthersSince v.seats l h.2) (sym k.1) (since_now v.seats h.2),
+                subst (λ l. OnlyOthersSince v.seats l h.log) (sym k.1) (since_now v.seats h.log),
               )),
-            ),
-      )
+            );
+      }
