@@ -11,7 +11,9 @@ use crate::reroutes::put_moved;
 use net_versions::Version;
 use script_words::Moves;
 use std::alloc::{AllocError, Global};
-use what_if::{Reroute, Reroutes, is_lost, is_only_moved, is_regained, reroutes_since};
+use what_if::{
+    Reroute, Reroutes, count_reroutes, is_lost, is_only_moved, is_regained, reroutes_since,
+};
 
 /// Whether a reroute is of a kind that is asked for.
 fn is_of_kind(which: Moves, reroute: &Reroute) -> bool
@@ -62,7 +64,7 @@ fn moved(
 {
     Ok(Moved {
         since,
-        counts: reroutes.counts(),
+        counts: count_reroutes(reroutes.as_slice()),
         reroutes: told(alloc, which, reroutes)?,
     })
 }

@@ -16,7 +16,7 @@ use net_versions::Version;
 use point_codes::PointCode;
 use route_choice::{Choice, Far};
 use std::alloc::{AllocError, Global};
-use what_if::{Reroute, RerouteCounts, Reroutes, reroutes_listed};
+use what_if::{Reroute, RerouteCounts, Reroutes, count_reroutes, reroutes_listed};
 
 /// The status of a choice, if there is one.
 fn status_of(choice: Option<Choice>) -> Option<Far>
@@ -133,7 +133,8 @@ fn put_told(text: &mut String, counts: RerouteCounts, list: &[Reroute]) -> Resul
 pub(crate) fn put_reroutes(text: &mut String, reroutes: &Reroutes) -> Result<(), AllocError>
     ensures { OnOk result (string_bytes text.new ≡ string_bytes text.old ++ reroutes_text reroutes.now) }
 {
-    put_told(text, reroutes.counts(), reroutes.as_slice())
+    let reroutes = reroutes.as_slice();
+    put_told(text, count_reroutes(reroutes), reroutes)
 }
 
 /// Adds the version before, if there is one.

@@ -3,7 +3,7 @@
 ghost use Rattle.std.specs.Prelude.{◌≡◌, IfOk};
 
 use crate::text::Text;
-use net_items::{LinkSet, Point};
+use net_items::{LinkSet, Listing, Point};
 use point_codes::PointCode;
 use route_choice::Far;
 use std::alloc::{AllocError, Global};
@@ -48,96 +48,13 @@ pub struct PointStatus {
 }
 
 /// Links with their sets, in rising id and code.
-#[derive(Drop)]
-pub struct DownLinks {
-    list: Vec<SetLink>,
-}
-
-impl Model for DownLinks {
-    ghost use Rattle.std.specs.Prelude.{List};
-    ghost use Rattle.what_if.specs.declared.mending.SetLink.{SetLink};
-
-    ghost Value = { List SetLink };
-
-    ghost view = { λ links. links.list.items };
-}
-
-impl DownLinks {
-    /// These links.
-    pub fn from_vec(list: Vec<SetLink>) -> DownLinks
-        ensures { result ≡ list.items }
-    {
-        DownLinks { list }
-    }
-
-    /// The links as a slice.
-    pub fn as_slice(&self) -> &[SetLink]
-        ensures { result.now ≡ self.now }
-    {
-        self.list.as_slice()
-    }
-}
+pub type DownLinks = Listing<SetLink>;
 
 /// The ids of link sets, rising.
-#[derive(Drop)]
-pub struct SetNumbers {
-    list: Vec<u16>,
-}
-
-impl Model for SetNumbers {
-    ghost use Rattle.std.specs.Prelude.{ℕ, List};
-
-    ghost Value = { List ℕ };
-
-    ghost view = { λ ids. ids.list.items };
-}
-
-impl SetNumbers {
-    /// These ids.
-    pub fn from_vec(list: Vec<u16>) -> SetNumbers
-        ensures { result ≡ list.items }
-    {
-        SetNumbers { list }
-    }
-
-    /// The ids as a slice.
-    pub fn as_slice(&self) -> &[u16]
-        ensures { result.now ≡ self.now }
-    {
-        self.list.as_slice()
-    }
-}
+pub type SetNumbers = Listing<u16>;
 
 /// The statuses of the points of a plan, in rising code.
-#[derive(Drop)]
-pub struct Statuses {
-    list: Vec<PointStatus>,
-}
-
-impl Model for Statuses {
-    ghost use Rattle.std.specs.Prelude.{List};
-    ghost use Rattle.answers.specs.declared.shown.PointStatus.{PointStatus};
-
-    ghost Value = { List PointStatus };
-
-    ghost view = { λ statuses. statuses.list.items };
-}
-
-impl Statuses {
-    /// These statuses.
-    pub fn from_vec(list: Vec<PointStatus>) -> Statuses
-        ensures { result ≡ list.items }
-    {
-        Statuses { list }
-    }
-
-    /// The statuses as a slice.
-    pub fn as_slice(&self) -> &[PointStatus]
-        ensures { result.now ≡ self.now }
-    {
-        self.list.as_slice()
-    }
-}
+pub type Statuses = Listing<PointStatus>;
 
 /// What is shown of a network.
 #[derive(Drop)]

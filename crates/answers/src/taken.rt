@@ -5,32 +5,11 @@ ghost use Rattle.answers.specs.Answers.{all_taken_text};
 
 use crate::codes::put_numbered;
 use net_data::Event;
+use net_items::Listing;
 use std::alloc::AllocError;
-use std::marker::Model;
 
 /// Events that were accepted one after the other.
-#[derive(Drop)]
-pub struct TakenEvents {
-    list: Vec<Event>,
-}
-
-impl Model for TakenEvents {
-    ghost use Rattle.std.specs.Prelude.{List};
-    ghost use Rattle.net_data.specs.declared.events.Event.{Event};
-
-    ghost Value = { List Event };
-
-    ghost view = { λ taken. taken.list.items };
-}
-
-impl TakenEvents {
-    /// These events.
-    pub fn from_vec(list: Vec<Event>) -> TakenEvents
-        ensures { result ≡ list.items }
-    {
-        TakenEvents { list }
-    }
-}
+pub type TakenEvents = Listing<Event>;
 
 /// The events that the change of a whole set or point means, all accepted, and the numbers of the first and the last.
 #[derive(Drop)]

@@ -7,6 +7,7 @@ ghost use Rattle.answers.specs.Who.{seat_counts, seat_word, who_text};
 use crate::answer::Answer;
 use crate::codes::put_numbered;
 use crate::text::Text;
+use net_items::Listing;
 use std::alloc::{AllocError, Global};
 use std::marker::Model;
 use std::sync::Arc;
@@ -69,28 +70,7 @@ pub struct SeatCount {
 }
 
 /// The counts of seats.
-#[derive(Drop)]
-pub struct SeatCounts {
-    list: Vec<SeatCount>,
-}
-
-impl Model for SeatCounts {
-    ghost use Rattle.std.specs.Prelude.{List};
-    ghost use Rattle.answers.specs.declared.who.SeatCount.{SeatCount};
-
-    ghost Value = { List SeatCount };
-
-    ghost view = { λ counts. counts.list.items };
-}
-
-impl SeatCounts {
-    /// The counts as a slice.
-    pub fn as_slice(&self) -> &[SeatCount]
-        ensures { result.now ≡ self.now }
-    {
-        self.list.as_slice()
-    }
-}
+pub type SeatCounts = Listing<SeatCount>;
 
 /// The counts of seats, each with the name of its seat.
 fn name_counts(alloc: Global, names: &[Text], counts: &[u64]) -> Result<Vec<SeatCount>, AllocError>
@@ -111,7 +91,7 @@ pub fn answer_who(alloc: Global, names: &SeatNames, counts: &[u64]) -> Result<An
     ensures { IfOk result (λ answer. answer ≡ Answer.Who (seat_counts names.now counts.now)) }
 {
     let list = name_counts(alloc, names.as_slice(), counts)?;
-    Ok(Answer::Who(SeatCounts { list }))
+    Ok(Answer::Who(SeatCounts::from_vec(list)))
 }
 
 /// Adds a seat with its count, after a space.

@@ -14,7 +14,7 @@ use json::Writer;
 use point_codes::PointCode;
 use route_choice::{Choice, Far};
 use std::alloc::{AllocError, Global};
-use what_if::{Change, Changes, Reroute, RerouteCounts, Reroutes};
+use what_if::{Change, Changes, Reroute, RerouteCounts, Reroutes, count_reroutes};
 
 /// Writes a point and a destination.
 fn put_row_of(
@@ -127,7 +127,8 @@ fn put_told_moves(
 pub fn put_moves(alloc: Global, writer: &mut Writer, reroutes: &Reroutes) -> Result<(), AllocError>
     ensures { OnOk result (Adds writer.old writer.new (member_tokens (move_members reroutes.now))) }
 {
-    put_told_moves(alloc, writer, reroutes.counts(), reroutes.as_slice())
+    let reroutes = reroutes.as_slice();
+    put_told_moves(alloc, writer, count_reroutes(reroutes), reroutes)
 }
 
 /// Writes what moved, and since which version.

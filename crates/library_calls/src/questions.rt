@@ -7,8 +7,8 @@ use route_state::marks::{End, LinkChange};
 use route_state::nets::{Event, Listed, Surveyed, Whole, events_of_whole, refusal_of_whole};
 use route_state::traces::{Hop, Trace, trace};
 use route_state::what_ifs::{
-    Wanted, find_mend, report_listed, reroutes_by, reroutes_listed, reroutes_since, survey_listed,
-    what_if as report_on,
+    Wanted, count_reroutes, find_mend, report_listed, reroutes_by, reroutes_listed, reroutes_since,
+    survey_listed, what_if as report_on,
 };
 use std::alloc::Global;
 
@@ -73,7 +73,8 @@ fn is_unmoved(alloc: Global, version: &Version) -> Option<bool> {
 fn moves(alloc: Global, version: &Version) -> Option<(usize, bool)> {
     let events = [change(LinkChange::Fail)];
     let reroutes = reroutes_by(alloc, version, &events).ok()?;
-    Some((reroutes.as_slice().len(), reroutes.counts().lost == 0))
+    let reroutes = reroutes.as_slice();
+    Some((reroutes.len(), count_reroutes(reroutes).lost == 0))
 }
 
 /// How many statuses the failure of a whole set would change, and how many pairs of a point and a destination it would move.

@@ -3,8 +3,8 @@
 ghost use Rattle.std.specs.Prelude.{◌≡◌};
 
 use crate::tables::LinkRef;
+use net_items::Listing;
 use point_codes::PointCode;
-use std::marker::Model;
 
 /// One link of a trace, from a point to the next.
 #[derive(Clone, Copy, Debug, PartialEq, Eq)]
@@ -18,43 +18,7 @@ pub struct Hop {
 }
 
 /// The hops of a trace, in their order.
-#[derive(Debug, Drop)]
-pub struct Hops {
-    list: Vec<Hop>,
-}
-
-impl Model for Hops {
-    ghost use Rattle.std.specs.Prelude.{List};
-    ghost use Rattle.profile.specs.declared.hops.Hop.{Hop};
-
-    ghost Value = { List Hop };
-
-    ghost view = { λ hops. hops.list.items };
-}
-
-impl Hops {
-    /// These hops.
-    pub fn from_vec(list: Vec<Hop>) -> Hops
-        ensures { result ≡ list.items }
-    {
-        Hops { list }
-    }
-
-    /// The hops in a vector. It takes no memory.
-    pub fn into_vec(self) -> Vec<Hop>
-        ensures { result.items ≡ self }
-    {
-        let Hops { list } = self;
-        list
-    }
-
-    /// The hops as a slice.
-    pub fn as_slice(&self) -> &[Hop]
-        ensures { result.now ≡ self.now }
-    {
-        self.list.as_slice()
-    }
-}
+pub type Hops = Listing<Hop>;
 
 /// Where a signalling link selection leads.
 #[derive(Debug, Drop)]

@@ -2,6 +2,6 @@
 
 pub use what_if::{
     Change, Changes, Effect, Effects, Mend, Refused, Report, Reroute, RerouteCounts, Reroutes,
-    SetLink, Single, Survey, Wanted, find_mend, report_listed, reroutes_by, reroutes_listed,
-    reroutes_since, survey_listed, what_if,
+    SetLink, Single, Survey, Wanted, count_reroutes, find_mend, report_listed, reroutes_by,
+    reroutes_listed, reroutes_since, survey_listed, what_if,
 };

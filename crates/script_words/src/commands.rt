@@ -7,47 +7,12 @@ use crate::questions::Question;
 use crate::shows::Show;
 use net_building::{Listed, Surveyed, Whole};
 use net_data::Event;
+use net_items::Listing;
 use point_codes::PointCode;
 use std::marker::Model;
 
 /// A list of events, in their order, in which the changes of whole sets and points may stand.
-#[derive(Drop)]
-pub struct Events {
-    list: Vec<Listed>,
-}
-
-impl Model for Events {
-    ghost use Rattle.std.specs.Prelude.{List};
-    ghost use Rattle.net_building.specs.declared.wholes.Listed.{Listed};
-
-    ghost Value = { List Listed };
-
-    ghost view = { λ events. events.list.items };
-}
-
-impl Events {
-    /// The list of these.
-    pub fn from_vec(list: Vec<Listed>) -> Events
-        ensures { result ≡ list.items }
-    {
-        Events { list }
-    }
-
-    /// What stands there in a vector. It takes no memory.
-    pub fn into_vec(self) -> Vec<Listed>
-        ensures { result.items ≡ self }
-    {
-        let Events { list } = self;
-        list
-    }
-
-    /// What stands there as a slice.
-    pub fn as_slice(&self) -> &[Listed]
-        ensures { result.now ≡ self.now }
-    {
-        self.list.as_slice()
-    }
-}
+pub type Events = Listing<Listed>;
 
 /// The name of a file. Contracts see its bytes.
 #[derive(Drop)]

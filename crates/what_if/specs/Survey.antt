@@ -1,5 +1,5 @@
 -- What single failures would take, and single repairs bring back (own, after Q.704 clauses 3.2 and 10).
-use Rattle.std.specs.Prelude.{ℕ, ◌+◌, ◌==◌, ◌&&◌, ◌||◌, not, nat_lt, Bool, List, [], ◌∷◌, length, map, filter, Result, Ok, Err}
+use Rattle.std.specs.Prelude.{ℕ, ◌==◌, ◌&&◌, ◌||◌, not, nat_lt, Bool, List, [], ◌∷◌, length, map, filter, Result, Ok, Err}
 use Rattle.link_state.specs.declared.marks.End.TheVariants.{First, Second}
 use Rattle.link_state.specs.declared.marks.LinkChange.{LinkChange}
 use Rattle.link_state.specs.declared.marks.LinkChange.TheVariants.{Fail, Restore, Unblock, Uninhibit}

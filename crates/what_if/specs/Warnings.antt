@@ -1,5 +1,5 @@
 -- What a planner is warned of: rows and plans that are missing, points and sets that no plan uses, and what a single failure takes (own, after Q.704 clauses 3.2 and 4).
-use Rattle.std.specs.Prelude.{ℕ, ◌==◌, ◌&&◌, not, Bool, false, List, [], ◌∷◌, ◌++◌, Option, is_some, if◌then◌else◌, length}
+use Rattle.std.specs.Prelude.{ℕ, ◌==◌, ◌&&◌, not, Bool, false, List, [], ◌∷◌, ◌++◌, is_some, if◌then◌else◌, length}
 use Rattle.std.specs.List.{flat_map, list_any}
 use Rattle.std.specs.Option.{option_map_or}
 use Rattle.net_items.specs.declared.items.LinkSet.{LinkSet}

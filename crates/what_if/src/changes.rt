@@ -4,9 +4,9 @@ ghost use Rattle.std.specs.Prelude.{◌≡◌};
 ghost use Rattle.std.specs.List.{list_any};
 ghost use Rattle.what_if.specs.Reports.{is_same as the_same, is_usable as usable, is_prohibited as prohibited, is_loss as loses};
 
+use net_items::Listing;
 use point_codes::PointCode;
 use route_choice::Far;
-use std::marker::Model;
 
 /// A change of what a point uses towards a destination.
 #[derive(Clone, Copy, Debug, PartialEq, Eq)]
@@ -22,43 +22,7 @@ pub struct Change {
 }
 
 /// Changes in rising destination, and of one destination in rising point.
-#[derive(Debug, Drop)]
-pub struct Changes {
-    list: Vec<Change>,
-}
-
-impl Model for Changes {
-    ghost use Rattle.std.specs.Prelude.{List};
-    ghost use Rattle.what_if.specs.declared.changes.Change.{Change};
-
-    ghost Value = { List Change };
-
-    ghost view = { λ changes. changes.list.items };
-}
-
-impl Changes {
-    /// These changes.
-    pub fn from_vec(list: Vec<Change>) -> Changes
-        ensures { result ≡ list.items }
-    {
-        Changes { list }
-    }
-
-    /// The changes in a vector. It takes no memory.
-    pub fn into_vec(self) -> Vec<Change>
-        ensures { result.items ≡ self }
-    {
-        let Changes { list } = self;
-        list
-    }
-
-    /// The changes as a slice.
-    pub fn as_slice(&self) -> &[Change]
-        ensures { result.now ≡ self.now }
-    {
-        self.list.as_slice()
-    }
-}
+pub type Changes = Listing<Change>;
 
 /// Whether two statuses are the same.
 pub(crate) fn is_same(one: Option<Far>, other: Option<Far>) -> bool

@@ -46,7 +46,9 @@ pub use listed::{report_listed, reroutes_listed};
 pub use mending::{Mend, SetLink, find_mend, mate_row};
 pub use moving::reroutes_by;
 pub use reports::{Refused, Report, what_if};
-pub use reroutes::{Reroute, RerouteCounts, Reroutes, is_lost, is_only_moved, is_regained};
+pub use reroutes::{
+    Reroute, RerouteCounts, Reroutes, count_reroutes, is_lost, is_only_moved, is_regained,
+};
 pub use survey::{
     Effect, Effects, Single, Survey, effect_of, singles_of, survey_from, survey_listed,
 };

@@ -10,10 +10,9 @@ ghost use Rattle.what_if.specs.Mending.{IsKnown, IsMend, KnowsMends, between as 
 use crate::costs::{is_cheaper, least_link};
 use crate::wanted::Wanted;
 use excerpts::Excerpt;
-use net_items::{Link, Row, Vias};
+use net_items::{Link, Listing, Row, Vias};
 use point_codes::PointCode;
 use std::alloc::{AllocError, Global};
-use std::marker::Model;
 use transfer_state::Routing;
 
 /// A link, with the id of the set that it belongs to.
@@ -26,39 +25,18 @@ pub struct SetLink {
 }
 
 /// Links that have to be restored.
-#[derive(Debug, Drop)]
-pub struct Mend {
-    links: Vec<SetLink>,
-}
+pub type Mend = Listing<SetLink>;
 
-impl Model for Mend {
-    ghost use Rattle.std.specs.Prelude.{List};
-    ghost use Rattle.what_if.specs.declared.mending.SetLink.{SetLink};
-
-    ghost Value = { List SetLink };
-
-    ghost view = { λ mend. mend.links.items };
-}
-
-impl Mend {
-    /// A link, if there is one, and then these.
-    fn of(alloc: Global, front: Option<SetLink>, back: &[SetLink]) -> Result<Mend, AllocError>
-        ensures { IfOk result (λ mend. mend ≡ option_to_list front ++ back.now) }
-    {
-        let mut links = Vec::new(alloc);
-        if let Some(link) = front {
-            links.push(link)?;
-        }
-        links.extend_from_slice(back)?;
-        Ok(Mend { links })
+/// A link, if there is one, and then these.
+fn joined(alloc: Global, front: Option<SetLink>, back: &[SetLink]) -> Result<Mend, AllocError>
+    ensures { IfOk result (λ mend. mend ≡ option_to_list front ++ back.now) }
+{
+    let mut links = Vec::new(alloc);
+    if let Some(link) = front {
+        links.push(link)?;
     }
-
-    /// The links as a slice.
-    pub fn as_slice(&self) -> &[SetLink]
-        ensures { result.now ≡ self.now }
-    {
-        self.links.as_slice()
-    }
+    links.extend_from_slice(back)?;
+    Ok(Mend::from_vec(links))
 }
 
 /// What points need for what is wanted, as far as it is worked out: that of a row stands at the row's position.
@@ -145,7 +123,7 @@ fn take_cheaper(
             return Ok(());
         }
     }
-    *least = Some(Mend::of(alloc, front, back)?);
+    *least = Some(joined(alloc, front, back)?);
     Ok(())
 }
 
@@ -296,7 +274,7 @@ fn point_mend(
 {
     routing.excerpt().validity();
     if reaches(routing, mends.wanted, row.point) {
-        return Ok(Some(Mend::of(alloc, None, &[])?));
+        return Ok(Some(joined(alloc, None, &[])?));
     }
     row_mend(alloc, routing.excerpt(), mends, row)
 }
@@ -363,7 +341,7 @@ fn point_needs(
 {
     routing.excerpt().validity();
     if reaches(routing, wanted, point) {
-        return Ok(Some(Mend::of(alloc, None, &[])?));
+        return Ok(Some(joined(alloc, None, &[])?));
     }
     match routing.excerpt().row(point) {
         Some(row) => {

@@ -4,9 +4,9 @@ ghost use Rattle.std.specs.Prelude.{◌≡◌, length, filter};
 ghost use Rattle.what_if.specs.Reroutes.{has_route as routed, is_lost as the_lost, is_regained as the_regained, is_only_moved as only_moved, is_same_choice as the_same, reroute_counts};
 
 use crate::changes::is_usable;
+use net_items::Listing;
 use point_codes::PointCode;
 use route_choice::Choice;
-use std::marker::Model;
 
 /// A point whose choice towards a destination isn't the same before and after: its class, its vias or its status.
 #[derive(Clone, Copy, Debug, PartialEq, Eq)]
@@ -33,53 +33,16 @@ pub struct RerouteCounts {
 }
 
 /// Reroutes in rising destination, and of one destination in rising point.
-#[derive(Debug, Drop)]
-pub struct Reroutes {
-    list: Vec<Reroute>,
-}
+pub type Reroutes = Listing<Reroute>;
 
-impl Model for Reroutes {
-    ghost use Rattle.std.specs.Prelude.{List};
-    ghost use Rattle.what_if.specs.declared.reroutes.Reroute.{Reroute};
-
-    ghost Value = { List Reroute };
-
-    ghost view = { λ reroutes. reroutes.list.items };
-}
-
-impl Reroutes {
-    /// These reroutes.
-    pub fn from_vec(list: Vec<Reroute>) -> Reroutes
-        ensures { result ≡ list.items }
-    {
-        Reroutes { list }
-    }
-
-    /// The reroutes in a vector. It takes no memory.
-    pub fn into_vec(self) -> Vec<Reroute>
-        ensures { result.items ≡ self }
-    {
-        let Reroutes { list } = self;
-        list
-    }
-
-    /// The reroutes as a slice.
-    pub fn as_slice(&self) -> &[Reroute]
-        ensures { result.now ≡ self.now }
-    {
-        self.list.as_slice()
-    }
-
-    /// How many there are of each kind.
-    pub fn counts(&self) -> RerouteCounts
-        ensures { result ≡ reroute_counts self.now }
-    {
-        let reroutes = self.list.as_slice();
-        RerouteCounts {
-            lost: lost_count(reroutes),
-            regained: regained_count(reroutes),
-            moved: moved_count(reroutes),
-        }
+/// How many reroutes there are of each kind.
+pub fn count_reroutes(reroutes: &[Reroute]) -> RerouteCounts
+    ensures { result ≡ reroute_counts reroutes.now }
+{
+    RerouteCounts {
+        lost: lost_count(reroutes),
+        regained: regained_count(reroutes),
+        moved: moved_count(reroutes),
     }
 }
 

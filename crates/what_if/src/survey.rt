@@ -15,11 +15,10 @@ use link_state::End::{First, Second};
 use link_state::LinkChange;
 use net_building::{Listed, Surveyed, Whole};
 use net_data::Net;
-use net_items::{Kind, LinkSet, Point};
+use net_items::{Kind, LinkSet, Listing, Point};
 use net_versions::Version;
 use point_codes::PointCode;
 use std::alloc::{AllocError, Global};
-use std::marker::Model;
 
 /// What is tried alone.
 #[derive(Clone, Copy, Debug, PartialEq, Eq)]
@@ -43,28 +42,7 @@ pub struct Effect {
 }
 
 /// Effects in the order in which they are tried.
-#[derive(Debug, Drop)]
-pub struct Effects {
-    list: Vec<Effect>,
-}
-
-impl Model for Effects {
-    ghost use Rattle.std.specs.Prelude.{List};
-    ghost use Rattle.what_if.specs.declared.survey.Effect.{Effect};
-
-    ghost Value = { List Effect };
-
-    ghost view = { λ effects. effects.list.items };
-}
-
-impl Effects {
-    /// The effects as a slice.
-    pub fn as_slice(&self) -> &[Effect]
-        ensures { result.now ≡ self.now }
-    {
-        self.list.as_slice()
-    }
-}
+pub type Effects = Listing<Effect>;
 
 /// What single failures take, or single repairs bring back.
 #[derive(Debug, Drop)]
@@ -201,7 +179,7 @@ pub fn survey_from(alloc: Global, what: Surveyed, effects: &[Effect]) -> Result<
     Ok(Survey {
         surveyed: what,
         tried: effects.len(),
-        effects: Effects { list },
+        effects: Effects::from_vec(list),
     })
 }
 

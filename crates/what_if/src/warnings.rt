@@ -8,12 +8,11 @@ use crate::survey::{Effect, Single, Survey, survey_version};
 use link_sets::other_end;
 use net_building::Surveyed;
 use net_data::Net;
-use net_items::{LinkSet, Plan, Point};
+use net_items::{LinkSet, Listing, Plan, Point};
 use net_versions::Version;
 use plan_rows::uses::uses_point;
 use point_codes::PointCode;
 use std::alloc::{AllocError, Global};
-use std::marker::Model;
 
 /// What a planner is warned of.
 #[derive(Clone, Copy, Debug, PartialEq, Eq)]
@@ -35,28 +34,7 @@ pub enum Warning {
 }
 
 /// Warnings in their order.
-#[derive(Debug, Drop)]
-pub struct Warnings {
-    list: Vec<Warning>,
-}
-
-impl Model for Warnings {
-    ghost use Rattle.std.specs.Prelude.{List};
-    ghost use Rattle.what_if.specs.declared.warnings.Warning.{Warning};
-
-    ghost Value = { List Warning };
-
-    ghost view = { λ warnings. warnings.list.items };
-}
-
-impl Warnings {
-    /// The warnings as a slice.
-    pub fn as_slice(&self) -> &[Warning]
-        ensures { result.now ≡ self.now }
-    {
-        self.list.as_slice()
-    }
-}
+pub type Warnings = Listing<Warning>;
 
 /// Whether a set joins a point to one that a plan has a row of, or to its destination.
 fn is_joined_in(plan: &Plan, point: PointCode, set: &LinkSet) -> bool
@@ -237,7 +215,7 @@ pub fn warnings_by(
     put_shape(&mut list, net)?;
     put_failures(&mut list, sets.effects.as_slice())?;
     put_failures(&mut list, points.effects.as_slice())?;
-    Ok(Warnings { list })
+    Ok(Warnings::from_vec(list))
 }
 
 /// All that a planner is warned of in a version's network (own, after Q.704 clauses 3.2 and 4).

@@ -1,4 +1,4 @@
-use Rattle.std.proofs.Common.{[], ◌∷◌, ◌++◌, List, OnOk, codes, subst}
+use Rattle.std.proofs.Common.{[], ◌∷◌, List, OnOk, codes, subst}
 use Rattle.what_if.specs.declared.reroutes.Reroute.{Reroute}
 use Rattle.json_answers.specs.Members.{Adds, member_tokens}
 use Rattle.json_answers.specs.Objects.{told_members}

@@ -8,5 +8,5 @@ use Rattle.json_answers.proofs.moves.put_moves.Goals as goal
 
 pub returns : goal.returns
 returns c =
-    subst (λ (l : List Reroute). OnOk c.put_told_moves.result (Adds c.args.writer.now c.put_told_moves.new.writer (member_tokens (told_members (reroute_counts c.args.reroutes.now) l)))) c.as_slice.ensures
-    (subst (λ (k : RerouteCounts). OnOk c.put_told_moves.result (Adds c.args.writer.now c.put_told_moves.new.writer (member_tokens (told_members k c.as_slice.result.now)))) c.counts.ensures c.put_told_moves.ensures)
+    subst (λ (l : List Reroute). OnOk c.put_told_moves.result (Adds c.args.writer.now c.put_told_moves.new.writer (member_tokens (told_members (reroute_counts l) l)))) c.as_slice-reroutes.ensures
+    (subst (λ (k : RerouteCounts). OnOk c.put_told_moves.result (Adds c.args.writer.now c.put_told_moves.new.writer (member_tokens (told_members k c.as_slice-reroutes.result.now)))) c.count_reroutes.ensures c.put_told_moves.ensures)

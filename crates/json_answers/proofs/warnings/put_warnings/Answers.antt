@@ -1,4 +1,4 @@
-use Rattle.std.proofs.Common.{[], ◌∷◌, ◌++◌, List, OnOk, codes, length, subst}
+use Rattle.std.proofs.Common.{[], ◌∷◌, List, OnOk, codes, length, subst}
 use Rattle.what_if.specs.declared.warnings.Warning.{Warning}
 use Rattle.json_answers.specs.Members.{Adds, member_tokens}
 use Rattle.json_answers.specs.Objects.{warning_members}
