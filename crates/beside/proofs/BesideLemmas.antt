@@ -82,9 +82,6 @@ posted_next seats (Ok a) collector event old found new last e less h =
 posted_next seats (Err e) collector event old found new last is less h = tt
 
 -- chains that begin with one another
-pub begins_itself : (xs : List VersionValue) → IsPrefix xs xs
-begins_itself xs = ([], append-nil xs)
-
 pub prefix_then : {A : Type 0} (xs ys zs : List A) → IsPrefix xs ys → IsPrefix ys zs → IsPrefix xs zs
 prefix_then xs ys zs p q = (p.0 ++ q.0, sym (append_assoc xs p.0 q.0) ∙ (ap (λ w. w ++ q.0) p.1 ∙ q.1))
 

@@ -71,21 +71,6 @@ seated_step {R} {W} {T} m table state all left rest old new h s =
           (place (length old) j (subst (λ n. j < n) more low));
     }
 
--- no session is seated yet
-pub seated_none : {R W T : Type 0} (first : ℕ) (table : TableId) (state : DeskAndChain) (all : List (Channel R W T)) (none : List (SittingValue R W T)) → length all ≡ first → length none ≡ 0 → AreSeatedTo first table state all all none
-seated_none {R} {W} {T} first table state all none count empty = record {
-  count = count;
-  both = omega arith;
-  front = λ j c d low. same all j c d (omega arith);
-  each = λ j d c low. absurd (omega arith);
-}
-  where
-    -- within a list the other item doesn't matter
-    same : (xs : List (Channel R W T)) (j : ℕ) (c d : Channel R W T) → j < length xs → slice_index_or xs j c ≡ slice_index_or xs j d
-    same [] j c d low = absurd (omega arith)
-    same (x ∷ xs) zero c d low = refl
-    same (x ∷ xs) (suc j) c d low = same xs j c d (omega arith)
-
 -- all are seated
 pub seated_all : {R W T : Type 0} (table : TableId) (state : DeskAndChain) (all left : List (Channel R W T)) (sittings : List (SittingValue R W T)) → AreSeatedTo 0 table state all left sittings → AreSeated table state all sittings
 seated_all table state all left sittings h =
@@ -176,6 +161,3 @@ ended_step {R} {W} {T} seats log state all left rest old new s e h is added one 
           subst (λ (p : SittingValue R W T × SessionEnd R W). IsEndOf seats log state p.0 p.1) (λ k. (sym sitting k, sym end k)) one)
           (place (length old) i (subst (λ n. i < n) more low));
     }
-
-pub ended_all : {R W T : Type 0} (seats : ℕ) (log : List (Sight DeskAndChain)) (state : DeskAndChain) (all left : List (SittingValue R W T)) (ends : List (SessionEnd R W)) → IsEndedTo seats log state all left ends → length left ≡ 0 → AreEnded seats log state all ends
-ended_all seats log state all left ends h none = let both = h.both in (omega arith, (λ i d e low. h.each i d e (omega arith)))
