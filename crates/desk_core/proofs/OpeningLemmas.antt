@@ -1,9 +1,12 @@
 -- The opening of a target: the destinations that wait, and the places of all.
-use Rattle.std.proofs.Common.{◌≡◌, ℕ, ◌<◌, Bool, true, false, ◌||◌, cond, eqb, List, [], ◌∷◌, Option, Some, None, is_some, Ok, map, refl, sym, ap, ◌∙◌, subst, length}
+use Rattle.std.proofs.Common.{◌≡◌, ℕ, ◌+◌, ◌<◌, Bool, true, false, ◌||◌, cond, eqb, List, [], ◌∷◌, ◌++◌, Option, Some, None, is_some, Ok, Err, map, take, get_or, refl, sym, ap, ◌∙◌, subst, length}
 use Rattle.std.specs.Prelude.{filter}
 use Rattle.std.specs.List.{AllByRecursion}
 use Rattle.std.specs.Option.{option_map}
 use Rattle.std.proofs.lemmas.Bool.{eq-eqb, eqb-true}
+use Rattle.std.proofs.lemmas.List.{map-append}
+use Rattle.std.proofs.lemmas.List.Elements.{filter-append}
+use Rattle.plan_rows.proofs.SeenLemmas.{take_push}
 use Rattle.net_items.specs.declared.items.Plan.{Plan}
 use Rattle.net_items.specs.declared.items.Point.{Point}
 use Rattle.net_items.specs.Keyed.{IsRising}
@@ -19,13 +22,20 @@ use Rattle.dirty_sets.specs.Marks.{Marked}
 use Rattle.dirty_sets.specs.Waiting.{Task, all_waiting, waiting, waiting_task}
 use Rattle.plan_rows.specs.Causes.{when, first}
 use Rattle.work_units.specs.declared.replies.Opened.{Opened}
-use Rattle.work_units.specs.declared.replies.Refusal.TheVariants.{Busy, Nothing}
+use Rattle.work_units.specs.declared.replies.Refusal.TheVariants.{Busy, Nothing, OutOfMemory}
 use Rattle.desk_core.specs.Desk.{DeskValue, OpenTarget, accepted, to_settle, touched_by}
 use Rattle.desk_core.specs.Steps.{IsReply, Opens, with_target}
 use Rattle.desk_core.specs.Inside.{IsInside}
 use Rattle.desk_core.specs.Targets.{AreFilled, IsFilled, IsSlotFor, is_task, routing_slot_of}
 
 -- ---- lists
+
+-- one more is told
+pub filter_map-next : {X Y : Type 0} (p : Y → Bool) (f : X → Y) (xs : List X) (i : ℕ) (x : X) → i < length xs → x ≡ get_or xs i x → filter p (map f (take (i + 1) xs)) ≡ filter p (map f (take i xs)) ++ cond (p (f x)) (f x ∷ []) []
+filter_map-next {X} p f xs i x low is =
+    ap (λ (l : List X). filter p (map f l)) (take_push xs i x x low is)
+    ∙ ap (filter p) (map-append f (take i xs) (x ∷ []))
+    ∙ filter-append p (map f (take i xs)) (f x ∷ [])
 
 All-filter : {X : Type 0} (P : X → Type 0) (p : X → Bool) (xs : List X) → AllByRecursion P xs → AllByRecursion P (filter p xs)
 All-filter P p [] all = tt
@@ -173,6 +183,15 @@ pub opens_is : (s new : DeskValue) (answer : Opened) → s.target ≡ None → e
 opens_is s new answer none some is left =
     subst (λ (o : Option OpenTarget). IsReply (first (when (is_some o) Busy ∷ when (eqb (length s.pending) 0) Nothing ∷ [])) Change s (Ok answer) new) (sym none)
     (subst (λ b. IsReply (first (when b Nothing ∷ [])) Change s (Ok answer) new) (sym some) (is, left))
+  where
+    Change : Opened → DeskValue → Type 0
+    Change reply after = (reply ≡ record { target = accepted s; waiting = length (to_settle s) }) × (after ≡ with_target s)
+
+-- an opening that runs out of memory
+pub opens_not : (s : DeskValue) → s.target ≡ None → eqb (length s.pending) 0 ≡ false → Opens s (Err OutOfMemory) s
+opens_not s none some =
+    subst (λ (o : Option OpenTarget). IsReply (first (when (is_some o) Busy ∷ when (eqb (length s.pending) 0) Nothing ∷ [])) Change s (Err OutOfMemory) s) (sym none)
+    (subst (λ b. IsReply (first (when b Nothing ∷ [])) Change s (Err OutOfMemory) s) (sym some) (refl, refl))
   where
     Change : Opened → DeskValue → Type 0
     Change reply after = (reply ≡ record { target = accepted s; waiting = length (to_settle s) }) × (after ≡ with_target s)

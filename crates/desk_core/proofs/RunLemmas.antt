@@ -1,5 +1,5 @@
 -- At every point of a run the published version is the one of its number.
-use Rattle.std.proofs.Common.{◌≡◌, ℕ, zero, suc, ◌+◌, ◌-◌, ◌≤◌, Bool, true, false, Option, Some, None, Result, Ok, Err, List, [], ◌∷◌, ◌++◌, refl, sym, ap, ◌∙◌, subst, length, take, drop, arith, length-append, length-drop, append-nil}
+use Rattle.std.proofs.Common.{◌≡◌, ℕ, zero, suc, ◌+◌, ◌-◌, ◌≤◌, Bool, true, false, Option, Some, None, Result, Ok, Err, List, [], ◌∷◌, ◌++◌, refl, sym, ap, ◌∙◌, subst, length, take, take_all, drop, arith, length-append, length-drop, append-nil}
 use Rattle.std.specs.Option.{MatchOption, option_map, option_map_or}
 use Rattle.std.proofs.lemmas.List.{take-append-le, drop-append-le, append_assoc}
 use Rattle.net_data.specs.declared.events.Event.{Event}
@@ -311,6 +311,13 @@ right_throughout start steady steps replies new run = record {
   first = right_after start steady [] [] start refl;
   rest = goes_on_right start steady [] [] start refl steps replies new run;
 }
+
+-- the same if each of the steps has its reply
+pub right_all : (start : DeskValue) → IsSteadyDesk start → (steps : List Step) (replies : List Reply) (new : DeskValue) → length replies ≡ length steps → Runs start steps replies new
+    → (Runs start (take (length replies) steps) replies new) × IsRightThroughout start (take (length replies) steps) replies new
+right_all start steady steps replies new len run =
+    let all : take (length replies) steps ≡ steps = take_all (length replies) steps (omega arith) in
+    rw all (run, right_throughout start steady steps replies new run)
 
 -- ---- runs that accept some events
 

@@ -1,8 +1,9 @@
 -- Where the joints of a point stand in the index.
-use Rattle.std.proofs.Common.{◌≡◌, ℕ, zero, suc, ◌+◌, ◌-◌, ◌<◌, ◌≤◌, Bool, true, false, cond, eqb, ltb, Option, Some, None, List, [], ◌∷◌, length, get_or, take, drop, refl, ap, sym, ◌∙◌, arith, length-drop, slice_index, subst}
+use Rattle.std.proofs.Common.{◌≡◌, ℕ, zero, suc, ◌+◌, ◌-◌, ◌*◌, ◌<◌, ◌≤◌, Bool, true, false, cond, eqb, ltb, Option, Some, None, List, [], ◌∷◌, ◌++◌, length, get_or, take, drop, refl, ap, sym, ◌∙◌, arith, length-drop, slice_index, subst, inl, inr}
 use Rattle.std.specs.List.{AllByRecursion, AllWithin}
-use Rattle.std.proofs.lemmas.Bool.{ltb-true, ltb-false, ne_eqb}
-use Rattle.std.proofs.lemmas.List.{get_or-drop, get_or_default, get_or_read}
+use Rattle.std.proofs.Math.Seq.{get_or-append_seam}
+use Rattle.std.proofs.lemmas.Bool.{cases_eq, ltb-true, ltb-false, ne_eqb}
+use Rattle.std.proofs.lemmas.List.{get_or_append_left, get_or-drop, get_or_default, get_or_read}
 use Rattle.net_items.specs.Keyed.{IsRising, at_key}
 use Rattle.net_sets.specs.Joints.{joint_of}
 use Rattle.excerpts.specs.declared.index.Joint.{Joint}
@@ -77,6 +78,18 @@ first_here js pair at up within less here = record {
         omega (arith, first, same, rest),
   );
 }
+
+-- one more place is written down
+pub firsts_push : (js : List Joint) (firsts : List ℕ) (y at : ℕ) → length firsts ≡ y → ((k : ℕ) → k < y → IsFirstJoint (joint_of k 0) js (slice_index firsts k)) → IsFirstJoint (y * 16384) js at
+    → (k : ℕ) → k < y + 1 → IsFirstJoint (joint_of k 0) js (slice_index (firsts ++ at ∷ []) k)
+firsts_push js firsts y at long right here k low =
+    elim (cases_eq k y) [
+      | inl is ↦
+          let read : slice_index (firsts ++ at ∷ []) k ≡ at = ap (slice_index (firsts ++ at ∷ [])) (is ∙ sym long) ∙ get_or-append_seam firsts at [] 0 in
+          let pair : y * 16384 ≡ joint_of k 0 = omega (arith, is) in
+          rw read (subst (λ n. IsFirstJoint n js at) pair here)
+      | inr not ↦ rw (get_or_append_left firsts (at ∷ []) 0 k (omega arith)) (right k (omega arith))
+    ]
 
 -- the joints of a point stand from the one place to the other
 pub record IsAround (js : List Joint) (y from to : ℕ) : Type 0 where

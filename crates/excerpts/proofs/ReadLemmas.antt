@@ -1,12 +1,13 @@
 -- Which sets a table reads, row by row and found by their ends.
-use Rattle.std.proofs.Common.{◌≡◌, ℕ, ◌+◌, ◌<◌, Bool, true, false, ◌&&◌, ◌||◌, eqb, List, [], ◌∷◌, ◌++◌, length, take, get_or, cond, refl, ap, sym, ◌∙◌, subst, arith}
+use Rattle.std.proofs.Common.{◌≡◌, ℕ, ◌+◌, ◌<◌, Bool, true, false, ◌&&◌, ◌||◌, eqb, List, [], ◌∷◌, ◌++◌, length, map, take, get_or, cond, refl, ap, sym, ◌∙◌, subst, arith}
 use Rattle.std.specs.Prelude.{filter}
 use Rattle.std.specs.List.{AllByRecursion, list_any}
 use Rattle.std.specs.Option.{option_map_or}
 use Rattle.std.proofs.lemmas.Bool.{eqb-true}
 use Rattle.std.proofs.lemmas.Bool.Decides.{nat_tests}
-use Rattle.std.proofs.lemmas.List.{take_more}
+use Rattle.std.proofs.lemmas.List.{map-append, take_more}
 use Rattle.std.proofs.lemmas.List.Elements.{filter-append}
+use Rattle.plan_rows.proofs.SeenLemmas.{take_push}
 use Rattle.net_items.specs.declared.items.LinkSet.{LinkSet}
 use Rattle.net_items.specs.declared.lists.Row.{Row}
 use Rattle.net_items.specs.Keyed.{IsRising}
@@ -65,6 +66,14 @@ row_leads set rows up =
 pub filter-next : (p : LinkSet → Bool) (sets : List LinkSet) (i : ℕ) (s d : LinkSet) → i < length sets → s ≡ get_or sets i d → filter p (take (i + 1) sets) ≡ filter p (take i sets) ++ cond (p s) (s ∷ []) []
 filter-next p sets i s d within is =
     ap (filter p) (take_more sets i d within) ∙ (filter-append p (take i sets) (get_or sets i d ∷ []) ∙ rw (sym is) refl)
+
+-- one more of a list is mapped
+pub map-push : {X Y : Type 0} (f : X → Y) (xs : List X) (i : ℕ) (x : X) (ys : List Y) (y : Y) → i < length xs → x ≡ get_or xs i x → y ≡ f x → ys ≡ map f (take i xs) → ys ++ y ∷ [] ≡ map f (take (i + 1) xs)
+map-push {X} {Y} f xs i x ys y within is one so_far =
+    ap (λ (l : List Y). l ++ y ∷ []) so_far
+    ∙ ap (λ (z : Y). map f (take i xs) ++ z ∷ []) one
+    ∙ sym (map-append f (take i xs) (x ∷ []))
+    ∙ ap (map f) (sym (take_push xs i x x within is))
 
 -- a list is compared with what of another passes a test, from the front
 module _ (p : LinkSet → Bool) (X : Type 0) (left rest : List LinkSet) (s : LinkSet) (others : List LinkSet) (front : rest ≡ s ∷ others)

@@ -10,3 +10,4 @@ pub mod AddingLemmas
 pub mod ReadingLemmas
 pub mod FaultLemmas
 pub mod GivenLemmas
+pub mod LineLemmas

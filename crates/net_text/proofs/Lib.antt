@@ -3,3 +3,4 @@ pub mod EntryLemmas
 pub mod FaultLemmas
 pub mod PlanLemmas
 pub mod SaysLemmas
+pub mod LinkLemmas

@@ -1,6 +1,6 @@
 -- Choices that obey the rule, and what is marked where they may not.
-use Rattle.std.proofs.Common.{◌≡◌, ◌≢◌, ℕ, zero, suc, ◌+◌, ◌<◌, List, [], ◌∷◌, Option, Some, None, All, set, map, cond, eqb, Bool, true, false, ◌||◌, refl, sym, ap, ◌∙◌, arith, inl, inr, subst, length, slice_get, get_or, ◌≤◌, ◌&&◌, ◌⊎◌, ◌++◌}
-use Rattle.std.specs.Prelude.{find, filter, slice_index_or}
+use Rattle.std.proofs.Common.{◌≡◌, ◌≢◌, ℕ, zero, suc, ◌+◌, ◌<◌, List, [], ◌∷◌, Option, Some, None, Result, Ok, Err, All, set, map, cond, eqb, Bool, true, false, ◌||◌, refl, sym, ap, ◌∙◌, arith, inl, inr, subst, length, slice_get, get_or, ◌≤◌, ◌&&◌, ◌⊎◌, ◌++◌}
+use Rattle.std.specs.Prelude.{OnOk, find, filter, slice_index_or}
 use Rattle.std.specs.List.{AllByRecursion, list_any, swap_remove}
 use Rattle.std.proofs.lemmas.List.Sorted.{IsPermutation-swap_remove, list_any-IsPermutation}
 use Rattle.std.proofs.lemmas.List.Folds.{list_any-append, list_any_at}
@@ -172,6 +172,27 @@ marked_or marks position k e = go (eqb position k) refl
     go : (b : Bool) → eqb position k ≡ b → (k ≡ position) ⊎ (is_marked marks k ≡ true)
     go true t = inl (sym (eqb-true position k t))
     go false t = inr (rw t at e)
+
+-- what follows from what is ensured on success
+pub on_ok : {T E P Q : Type 0} (r : Result T E) → (P → Q) → OnOk r P → OnOk r Q
+on_ok (Ok x) f p = f p
+on_ok (Err e) f p = p
+
+-- a mark at the end
+pub mark_last : (marks longer : List ℕ) (position : ℕ) → longer ≡ marks ++ position ∷ []
+    → KeepsMarks marks longer × (is_marked longer position ≡ true) × ((k : ℕ) → is_marked longer k ≡ true → k ≢ position → is_marked marks k ≡ true)
+mark_last marks longer position is = (
+  λ k e. same k ∙ ap (λ b. b || (eqb position k || false)) e,
+  same position ∙ or_right (is_marked marks position) _ (ap (λ b. b || false) (eq-eqb position position refl)),
+  λ k e ne. sym (or_none (is_marked marks k)) ∙ ap (λ b. is_marked marks k || (b || false)) (sym (ne_eqb position k (λ p. ne (sym p)))) ∙ sym (same k) ∙ e,
+)
+  where
+    same : (k : ℕ) → is_marked longer k ≡ (is_marked marks k || (eqb position k || false))
+    same k = ap (λ (ms : List ℕ). is_marked ms k) is ∙ list_any-append (λ (m : ℕ). eqb m k) marks (position ∷ [])
+
+    or_none : (b : Bool) → (b || false) ≡ b
+    or_none true = refl
+    or_none false = refl
 
 -- a place among the marks is marked
 pub mark_at : (marks : List ℕ) (i d : ℕ) → i < length marks → is_marked marks (get_or marks i d) ≡ true

@@ -23,6 +23,14 @@ pub record GoTogether {X : Type 0} (xs ys left right : List X) : Type 0 where
   pub to : left ≡ right → xs ≡ ys
   pub from : xs ≡ ys → left ≡ right
 
+-- they do so at first
+pub all_left : {X : Type 0} (xs ys right : List X) → right ≡ ys → GoTogether xs ys xs right
+all_left xs ys right same = record { to = λ e. e ∙ same; from = λ e. e ∙ sym same }
+
+-- they do so while the same is left
+pub same_left : {X : Type 0} (xs ys left right other : List X) → right ≡ other → GoTogether xs ys left right → GoTogether xs ys left other
+same_left xs ys left right other same so_far = record { to = λ e. so_far.to (e ∙ sym same); from = λ e. so_far.from e ∙ same }
+
 -- ---- points in their places
 
 -- two lists of the same points are of one length

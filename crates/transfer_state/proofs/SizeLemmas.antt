@@ -1,6 +1,7 @@
 -- A class with a via in its second place has two.
 use Rattle.std.proofs.Common.{subst, ◌≡◌, ℕ, suc, ◌+◌, ◌<◌, ◌≤◌, List, [], ◌∷◌, Option, Some, None, map, cond, get_or, Bool, true, false, refl, sym, ap, ◌∙◌, arith, length}
 use Rattle.std.specs.Prelude.{is_some}
+use Rattle.std.proofs.lemmas.Bool.{false≢true}
 use Rattle.std.proofs.lemmas.List.{get_or-map, length-map}
 use Rattle.net_items.specs.declared.lists.Row.{Row}
 use Rattle.route_choice.specs.declared.choices.Choice.{Choice}
@@ -15,8 +16,8 @@ use Rattle.excerpts.specs.Excerpt.{ExcerptValue, source_of}
 use Rattle.transfer_state.specs.Routing.{IsFoundRow}
 
 two_of : (b : Far) (class : List Offer) → length class ≤ 2 → is_some (member_at b class 1) ≡ true → length class ≡ 2
-two_of b [] few second = absurd (cc)
-two_of b (o ∷ []) few second = absurd (cc)
+two_of b [] few second = absurd (false≢true second)
+two_of b (o ∷ []) few second = absurd (false≢true second)
 two_of b (o ∷ p ∷ []) few second = refl
 two_of b (o ∷ p ∷ q ∷ more) few second = absurd (omega (arith, few))
 
@@ -24,7 +25,7 @@ two_of b (o ∷ p ∷ q ∷ more) few second = absurd (omega (arith, few))
 two_in : (tfr : Bool) (b : Far) (k : ℕ) (classes : List (List Offer)) → ((position : ℕ) → position < length classes → length (get_or classes position []) ≤ 2)
     → is_some (member (lowest tfr b k classes) 1) ≡ true
     → (position : ℕ) × (position < length classes) × ((lowest tfr b k classes).class ≡ k + position) × (length (get_or classes position []) ≡ 2)
-two_in tfr b k [] small second = absurd (cc)
+two_in tfr b k [] small second = absurd (false≢true second)
 two_in tfr b k (class ∷ classes) small second =
     go (has_via b class) (λ some. two_in tfr b (k + 1) classes (λ position low. small (suc position) (omega (arith, low))) some) second
   where
@@ -60,7 +61,7 @@ module _ (src : Source) (row : Row) (is_small : IsSmall row) where
       all = offers src (status src) row
 
       go : (t : Bool) → is_some (member (cond t no_choice (lowest src.tfr (best all) 1 all)) 1) ≡ true → size_of row (cond t no_choice (lowest src.tfr (best all) 1 all)).class ≡ 2
-      go true some = absurd (cc)
+      go true some = absurd (false≢true some)
       go false some =
           let found = two_in src.tfr (best all) 1 all each_small some in
           let position : ℕ = found.0 in
@@ -78,7 +79,7 @@ module _ (src : Source) (row : Row) (is_small : IsSmall row) where
     where
       go : (t : Bool) → is_some (member (cond t (mate_choice src.tfr mate.via) (direct_choice src.tfr (offers src (status src) row))) 1) ≡ true
           → size_of row (cond t (mate_choice src.tfr mate.via) (direct_choice src.tfr (offers src (status src) row))).class ≡ 2
-      go true some = absurd (cc)
+      go true some = absurd (false≢true some)
       go false some = two_direct some
 
   -- the class that a row's point uses, if it has a second member

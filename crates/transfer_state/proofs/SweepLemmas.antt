@@ -1,6 +1,6 @@
 -- The choices of a table, rank by rank.
-use Rattle.std.proofs.Common.{◌≡◌, ◌≢◌, ℕ, zero, suc, ◌+◌, ◌<◌, ◌≤◌, List, [], ◌∷◌, Option, Some, None, All, get_or, set, map, cond, eqb, Bool, true, false, refl, sym, ap, ◌∙◌, arith, inl, inr, ◌⊎◌, subst, length, replicate, slice_get, below_more}
-use Rattle.std.proofs.lemmas.List.{get_or-set_other, get_or-set_same, get_or_read, length-set, length-replicate}
+use Rattle.std.proofs.Common.{◌≡◌, ◌≢◌, ℕ, zero, suc, ◌+◌, ◌<◌, ◌≤◌, List, [], ◌∷◌, ◌++◌, Option, Some, None, All, get_or, set, map, cond, eqb, Bool, true, false, refl, sym, ap, ◌∙◌, arith, inl, inr, ◌⊎◌, subst, length, take, take_all, drop, replicate, slice_get, below_more}
+use Rattle.std.proofs.lemmas.List.{get_or-set_other, get_or-set_same, get_or_read, length-set, length-replicate, take-append-le}
 use Rattle.std.proofs.lemmas.List.Elements.{All-weaker}
 use Rattle.std.proofs.lemmas.Bool.{eq-eqb, ne_eqb, cases_eq, true≢false}
 use Rattle.route_choice.specs.declared.choices.Far.{Far}
@@ -18,6 +18,10 @@ use Rattle.profile.proofs.UnfoldingLemmas.{row_valid, rank_is, choice_same, stat
 use Rattle.profile.proofs.PlacingLemmas.{row_at_place}
 use Rattle.std.specs.List.{AllByRecursion}
 use Rattle.profile.proofs.SettledLemmas.{status_of_row}
+
+-- a slice of a whole list is written back
+pub written_back : {X : Type 0} (n : ℕ) (new old : List X) → length new ≡ n → take n (new ++ drop (length new) old) ≡ new
+written_back n new old long = take-append-le n new (drop (length new) old) (omega arith) ∙ take_all n new (omega arith)
 
 -- what holds of each element holds of the one at a place
 pub at_index : {X : Type 0} (P : X → Type 0) (xs : List X) (i : ℕ) (d : X) → AllByRecursion P xs → i < length xs → P (get_or xs i d)

@@ -1,4 +1,4 @@
-use Rattle.std.proofs.Common.{◌≡◌, ◌<◌, Some, length, refl, ap, sym, ◌∙◌, arith}
+use Rattle.std.proofs.Common.{◌≡◌, ◌<◌, Some, length, refl, ap, sym, ◌∙◌, arith, subst}
 use Rattle.std.specs.Prelude.{slice_get}
 use Rattle.std.specs.Option.{option_map}
 use Rattle.std.proofs.lemmas.List.{length-map}
@@ -28,3 +28,12 @@ returns-in-Ok c =
     let at : row_at x.plan.rows c.args.point ≡ Some row = found.finds row ∙ ap Some (get_or_from_slice_get x.plan.rows c.in-Ok.at row row here) in
     let told : IsFoundRow x c.args.point row (opened (source_of x) row its) = found_row x c.validity.ensures c.args.choices.now c.requires c.args.point c.in-Ok.at row its (opened (source_of x) row its) at here there refl in
     ap Some c.status.ensures ∙ sym (ap (option_map (λ (s : RowState). s.choice.status)) told.state)
+
+pub bounds-rows-at : goal.bounds-rows-at
+bounds-rows-at c = let within = c.in-Ok.ensures.found.in_range in rw c.rows_of-rows.ensures within
+
+pub bounds-choices-at : goal.bounds-choices-at
+bounds-choices-at c =
+    let x = c.args.e.now in
+    let together : length c.args.choices.now ≡ length x.plan.rows = ap (length {A = KeptValue}) c.requires ∙ length-map x.plan.rows (λ r. kept (choice (source_of x) r)) in
+    subst (λ n. c.in-Ok.at < n) (sym together) c.in-Ok.ensures.found.in_range

@@ -16,6 +16,25 @@ use Rattle.transfer_state.proofs.TableLemmas.{made_more, made_all, state_made}
 use Rattle.transfer_state.proofs.MatchLemmas.{element_read, map_at}
 use Rattle.transfer_state.proofs.table.table_by.Goals as goal
 
+pub bounds-rows-i : goal.bounds-rows-i
+bounds-rows-i c = c.loop-i-test.true
+
+pub bounds-choices-i : goal.bounds-choices-i
+bounds-choices-i c =
+    let src : Source = source_of c.args.e.now in
+    let together : length c.args.choices.now ≡ length src.rows = ap (length {A = KeptValue}) c.requires ∙ length-map src.rows (λ r. kept (choice src r)) in
+    subst (λ n. c.loop-i.i < n) (ap (length {A = Row}) c.rows_of-rows.ensures ∙ sym together) c.loop-i-test.true
+
+pub size_of-size-requires : goal.size_of-size-requires
+size_of-size-requires c =
+    let src : Source = source_of c.args.e.now in
+    let row : Row = c.index-rows-i.result in
+    let at : slice_get src.rows c.loop-i.i ≡ Some row = element_read c.rows_of-rows.result.now src.rows c.loop-i.i row c.rows_of-rows.ensures c.loop-i-test.true c.index-rows-i.is in
+    subst IsSmall (get_or_from_slice_get src.rows c.loop-i.i row row at) (rows_small src c.validity.ensures.valid c.loop-i.i row (slice_get_within src.rows c.loop-i.i row at))
+
+pub loop-i-init : goal.loop-i-init
+loop-i-init c = rw c.in_ok-list.ensures.items refl
+
 pub loop-i-preserved : goal.loop-i-preserved
 loop-i-preserved c =
     let src : Source = source_of c.args.e.now in

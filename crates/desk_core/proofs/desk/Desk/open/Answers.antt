@@ -1,14 +1,15 @@
-use Rattle.std.proofs.Common.{◌≡◌, ℕ, None, Some, Ok, false, eqb, List, length, ap, sym, ◌∙◌, subst, rules}
+use Rattle.std.proofs.Common.{◌≡◌, ℕ, None, Some, Ok, Err, false, eqb, List, length, ap, sym, ◌∙◌, subst, rules}
 use Rattle.std.specs.Arc.{arc_value}
 use Rattle.std.specs.Option.{option_map}
 use Rattle.dirty_sets.specs.Touched.{marks_of}
 use Rattle.dirty_sets.specs.Waiting.{Task, all_waiting, waiting}
 use Rattle.work_units.specs.declared.replies.Opened.{Opened}
+use Rattle.work_units.specs.declared.replies.Refusal.TheVariants.{OutOfMemory}
 use Rattle.desk_core.specs.Desk.{DeskValue, accepted, to_settle}
 use Rattle.desk_core.specs.Steps.{Opens, with_target}
 use Rattle.desk_core.specs.Targets.{TargetValue}
 use Rattle.desk_core.specs.Inside.{IsInside}
-use Rattle.desk_core.proofs.OpeningLemmas.{is_none, opens_is, to_settle_marked, waiting_all}
+use Rattle.desk_core.proofs.OpeningLemmas.{is_none, opens_is, opens_not, to_settle_marked, waiting_all}
 use Rattle.desk_core.proofs.desk.Desk.open.Goals as goal
 
 pub returns-in-Ok : goal.returns-in-Ok
@@ -40,3 +41,16 @@ returns-in-Ok c =
 
 pub returns-then-is_empty : goal.returns-then-is_empty
 returns-then-is_empty c = search rules
+
+pub returns-in-Err : goal.returns-in-Err
+returns-in-Err c =
+    let s : DeskValue = record {
+      published = arc_value c.self.inside.published;
+      pending = c.self.inside.pending.items;
+      lasts = c.self.inside.lasts.items;
+      target = option_map (λ (t : TargetValue). record { number = t.number; tasks = t.tasks }) c.self.inside.target;
+      spare = c.self.inside.spare;
+    } in
+    let none : s.target ≡ None = ap (option_map (λ (t : TargetValue). record { number = t.number; tasks = t.tasks })) (is_none c.self.inside.target (sym c.is_some.ensures ∙ c.if-is_some.false)) in
+    let some : eqb (length s.pending) 0 ≡ false = ap (λ n. eqb n 0) (sym c.self.inside.pending.ok.0) ∙ sym c.is_empty.ensures ∙ c.if-is_empty.false in
+    subst (λ (q : DeskValue). Opens q (Err OutOfMemory) q) c.self.view_is (opens_not s none some)

@@ -5,6 +5,15 @@ use Rattle.excerpts.specs.declared.index.Joint.{Joint}
 use Rattle.excerpts.proofs.FirstLemmas.{around, found_around, IsRising-range}
 use Rattle.excerpts.proofs.joints.Joints.of_point.Goals as goal
 
+pub index-from-requires : goal.index-from-requires
+index-from-requires c = let long = c.self.invariant.1.long in omega (arith, long, c.self.inside.firsts.ok.0)
+
+pub overflow_add-at : goal.overflow_add-at
+overflow_add-at c = omega arith
+
+pub index-to-requires : goal.index-to-requires
+index-to-requires c = let long = c.self.invariant.1.long in omega (arith, long, c.self.inside.firsts.ok.0)
+
 pub slice_bounds-result-count : goal.slice_bounds-result-count
 slice_bounds-result-count c =
     (around c.self.inside.list.items c.self.inside.firsts.items c.args.point c.from-at.result c.index-from.result.now c.index-to.result.now (omega arith) c.self.invariant.1 (omega arith) c.index-from.ensures c.index-to.ensures).ordered
