@@ -15,7 +15,7 @@ use Rattle.net_data.specs.Edits.{refusal_of, changed, apply_all, unless_refused}
 use Rattle.net_building.specs.Building.{plan_event}
 use Rattle.net_building.proofs.StepLemmas.{apply_append}
 use Rattle.net_sheets.specs.declared.routes.Route.{Route}
-use Rattle.net_sheets.specs.Ranks.{IsLeast, with_ranks}
+use Rattle.plan_ranks.specs.Ranks.{IsLeast, with_ranks}
 use Rattle.net_sheets.specs.Tables.{row_routes, plan_routes, routes_of}
 use Rattle.net_sheets.specs.Events.{IsRankedPlan, Leads, AddsPlan, AddsPlans}
 use Rattle.net_sheets.proofs.PlanLemmas.{ranked_routes, ranked_many, least_given}

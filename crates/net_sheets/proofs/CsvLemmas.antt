@@ -26,7 +26,7 @@ use Rattle.net_sheets.specs.declared.routes.Route.TheVariants.{Via, Mate}
 use Rattle.net_sheets.specs.Tables.{Fields, line_text, table_text, points_header, sets_header, routes_header, point_record, set_record, route_record, links_text}
 use Rattle.net_sheets.specs.declared.about.Entry.{Entry}
 use Rattle.net_sheets.specs.declared.about.Entry.TheVariants as entry
-use Rattle.net_sheets.specs.declared.about.RowRank.{RowRank}
+use Rattle.plan_ranks.specs.declared.given.RowRank.{RowRank}
 use Rattle.net_sheets.specs.About.{network_header, flag_text, rank_text, entry_record}
 use Rattle.net_sheets.specs.Records.{IsTable}
 

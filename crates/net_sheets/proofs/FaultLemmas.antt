@@ -17,7 +17,7 @@ use Rattle.net_sheets.specs.declared.faults.Flaw.TheVariants as flaw
 use Rattle.net_sheets.specs.declared.faults.Reason.{Reason}
 use Rattle.net_sheets.specs.declared.faults.Reason.TheVariants.{Csv, Columns, Field, FifthClass, Keys, Indicator, PlanThere, PlanBare, ThirdVia, SplitDestination, SplitPoint, ClassOrder, Refused, MateLoop, Loop, TooDeep, OutOfMemory}
 use Rattle.net_sheets.specs.declared.routes.Route.{Route}
-use Rattle.net_sheets.specs.Ranks.{IsLeast, with_ranks}
+use Rattle.plan_ranks.specs.Ranks.{IsLeast, with_ranks}
 use Rattle.net_sheets.specs.Tables.{Fields, points_header, routes_header, row_routes}
 use Rattle.net_sheets.specs.Values.{Read, point_of, route_of, Holds}
 use Rattle.net_sheets.specs.declared.about.Entry.{Entry}

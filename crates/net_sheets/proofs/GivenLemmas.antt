@@ -3,7 +3,7 @@ use Rattle.std.proofs.Common.{◌≡◌, ℕ, ◌+◌, ◌-◌, ◌<◌, List, [
 use Rattle.std.proofs.lemmas.List.{take_more, take-append-drop, map-append}
 use Rattle.std.proofs.lemmas.Grind.{flat_map-append}
 use Rattle.net_items.specs.declared.items.Plan.{Plan}
-use Rattle.net_sheets.specs.declared.about.RowRank.{RowRank}
+use Rattle.plan_ranks.specs.declared.given.RowRank.{RowRank}
 use Rattle.net_sheets.specs.About.{plan_ranks, ranks_of}
 use Rattle.net_sheets.specs.Events.{unranked}
 use Rattle.net_sheets.proofs.PlanLemmas.{rest_from}

@@ -1,7 +1,5 @@
 pub mod CsvLemmas
-pub mod LawLemmas
 pub mod ValueLemmas
-pub mod NeedLemmas
 pub mod WritingLemmas
 pub mod RecordLemmas
 pub mod BuildingLemmas

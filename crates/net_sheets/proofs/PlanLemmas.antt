@@ -10,7 +10,7 @@ use Rattle.net_sheets.specs.declared.routes.Route.{Route}
 use Rattle.net_sheets.specs.declared.routes.Route.TheVariants.{Via}
 use Rattle.net_items.specs.declared.items.Point.{Point}
 use Rattle.net_items.specs.Lookups.{mate_of}
-use Rattle.net_sheets.specs.Ranks.{IsMet, IsLeast, need, place_of, via_needs, mate_needs, row_needs, needs_from, needs_of, with_ranks}
+use Rattle.plan_ranks.specs.Ranks.{IsMet, IsLeast, need, place_of, via_needs, mate_needs, row_needs, needs_from, needs_of, with_ranks}
 use Rattle.net_sheets.specs.Tables.{class_routes, row_routes}
 
 -- the ways of classes and of one more

@@ -15,7 +15,7 @@ use Rattle.net_sheets.specs.Values.{Read, point_of, set_of, route_of, all_read, 
 use Rattle.net_sheets.specs.Events.{IsRankedPlan, pair_events_after, empty_net, bare_events, AddsPoints, AddsSets, AddsPlans, AddsRoutes, AddsAll, IsRankedBy, Says}
 use Rattle.net_sheets.specs.declared.about.Entry.{Entry}
 use Rattle.net_sheets.specs.declared.about.Entry.TheVariants as entry
-use Rattle.net_sheets.specs.declared.about.RowRank.{RowRank}
+use Rattle.plan_ranks.specs.declared.given.RowRank.{RowRank}
 use Rattle.net_sheets.specs.About.{entries_of, IsAbout}
 use Rattle.std.proofs.lemmas.List.{take-append-drop}
 use Rattle.std.proofs.lemmas.Option.{slice_get_within, get_or_from_slice_get}

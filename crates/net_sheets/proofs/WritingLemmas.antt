@@ -7,7 +7,7 @@ use Rattle.tokens.proofs.JoinLemmas.{join_tails, rest_all}
 use Rattle.net_sheets.specs.declared.routes.Route.TheVariants.{Via}
 use Rattle.net_sheets.specs.declared.routes.Route.{Route}
 use Rattle.net_sheets.specs.declared.about.Entry.TheVariants as entry
-use Rattle.net_sheets.specs.declared.about.RowRank.{RowRank}
+use Rattle.plan_ranks.specs.declared.given.RowRank.{RowRank}
 use Rattle.net_sheets.specs.About.{network_header, entry_record, entries_of}
 use Rattle.net_sheets.specs.Tables.{line_text, table_text, route_record, class_routes}
 

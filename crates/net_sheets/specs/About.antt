@@ -10,7 +10,8 @@ use Rattle.net_sets.specs.Sets.{is_nil}
 use Rattle.net_data.specs.Network.{Network}
 use Rattle.point_codes.specs.Codes.{split_of, code_of, code_text}
 use Rattle.tokens.specs.Numbers.{slc_of, rank_of}
-use Rattle.net_sheets.specs.declared.about.RowRank.{RowRank}
+use Rattle.plan_ranks.specs.declared.given.RowRank.{RowRank}
+use Rattle.plan_ranks.specs.Given.{row_rank}
 use Rattle.net_sheets.specs.declared.about.Entry.{Entry}
 use Rattle.net_sheets.specs.declared.about.Entry.TheVariants as entry
 use Rattle.net_sheets.specs.declared.faults.Flaw.TheVariants.{Column}
@@ -75,10 +76,6 @@ bare_dest p = if is_nil p.rows then p.dest ∷ [] else []
 
 abbrev pub bare_of : List Plan → List ℕ
 bare_of plans = flat_map bare_dest plans
-
--- the rank of a row of the plan of a destination
-abbrev pub row_rank : ℕ → Row → RowRank
-row_rank dest r = record { dest = dest; point = r.point; rank = r.rank }
 
 abbrev pub plan_ranks : Plan → List RowRank
 plan_ranks p = map (row_rank p.dest) p.rows

@@ -12,9 +12,10 @@ use Rattle.net_data.specs.declared.events.Event.TheVariants as on
 use Rattle.net_data.specs.Network.{Network}
 use Rattle.net_data.specs.Edits.{apply_all}
 use Rattle.net_building.specs.Building.{point_event, set_events, plan_event}
-use Rattle.net_sheets.specs.declared.about.RowRank.{RowRank}
+use Rattle.plan_ranks.specs.declared.given.RowRank.{RowRank}
+use Rattle.plan_ranks.specs.Given.{unranked_row}
 use Rattle.net_sheets.specs.About.{bare_plan, ranks_of, IsAbout}
-use Rattle.net_sheets.specs.Ranks.{IsLeast, with_ranks}
+use Rattle.plan_ranks.specs.Ranks.{IsLeast, with_ranks}
 use Rattle.net_sheets.specs.declared.routes.Route.{Route}
 use Rattle.net_sheets.specs.Tables.{points_header, sets_header, routes_header, routes_of}
 use Rattle.net_sheets.specs.Values.{point_of, set_of, route_of, Holds}
@@ -50,10 +51,7 @@ pub record IsRankedPlan (points : List Point) (p : Plan) : Type 0 where
   pub some_row : 0 < length p.rows
   pub least : IsLeast points p.dest p.rows (map (λ (r : Row). r.rank) p.rows)
 
--- a row and a plan, but for their ranks
-abbrev pub unranked_row : Row → Row
-unranked_row r = record r { rank = 0 }
-
+-- a plan but for its ranks
 abbrev pub unranked : Plan → Plan
 unranked p = record p { rows = map unranked_row p.rows }
 

@@ -18,12 +18,12 @@ use Rattle.net_sheets.specs.declared.faults.Reason.{Reason}
 use Rattle.net_sheets.specs.declared.faults.Reason.TheVariants.{Csv, Columns, Field, FifthClass, Keys, Indicator, PlanThere, PlanBare, RankOrder, ThirdVia, SplitDestination, SplitPoint, ClassOrder, Refused, MateLoop, Loop, TooDeep, OutOfMemory}
 use Rattle.net_sheets.specs.declared.faults.Sheet.{Sheet}
 use Rattle.net_sheets.specs.declared.faults.Sheet.TheVariants as sheet
-use Rattle.net_sheets.specs.Ranks.{HasNoRanks, IsLeast, with_ranks}
-use Rattle.net_sheets.specs.Loops.{is_loop}
+use Rattle.plan_ranks.specs.Ranks.{HasNoRanks, IsLeast, with_ranks}
+use Rattle.plan_ranks.specs.Loops.{is_loop}
 use Rattle.net_sheets.specs.Tables.{Fields, points_header, sets_header, routes_header, row_routes}
 use Rattle.net_sheets.specs.Values.{Read, point_of, set_of, route_of, Holds}
 use Rattle.net_items.specs.declared.items.Plan.{Plan}
-use Rattle.net_sheets.specs.declared.about.RowRank.{RowRank}
+use Rattle.plan_ranks.specs.declared.given.RowRank.{RowRank}
 use Rattle.net_sheets.specs.About.{network_header, bare_plan, entry_of, IsAbout}
 use Rattle.net_sheets.specs.Events.{pair_events_after, bare_events, empty_net, HaveRanks, AddsPoints, AddsSets, AddsBare, AddsPlans, AddsAll}
 

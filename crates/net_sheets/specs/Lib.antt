@@ -1,6 +1,4 @@
 pub mod Places
-pub mod Ranks
-pub mod Loops
 pub mod Tables
 pub mod Records
 pub mod Values

@@ -14,23 +14,13 @@ use crate::places::{Spot, start_of_text};
 use crate::records::{field, read_table, spot_of};
 use crate::values::flaw_fault;
 use csv::ByteRecord;
+use plan_ranks::RowRank;
 use point_codes::{PointCode, split_at_byte};
 use std::alloc::Global;
 use tokens::{read_code, read_rank, read_slc};
 
 /// The network indicator of a network without such a table: national (Q.704 clause 14.2).
 const NATIONAL: u8 = 2;
-
-/// The rank that a row has.
-#[derive(Clone, Copy)]
-pub(crate) struct RowRank {
-    /// The destination of its plan.
-    pub dest: PointCode,
-    /// The point of the row.
-    pub point: PointCode,
-    /// The rank.
-    pub rank: u8,
-}
 
 /// A record of the table.
 #[derive(Clone, Copy)]

@@ -3,63 +3,20 @@
 ghost use Rattle.std.specs.Prelude.{◌≡◌, ◌==◌, ◌&&◌, ◌≤◌, ◌≢◌, ◌∷◌, [], map, take, length, vec_len, Ok, Err, IfOk, IfErr, OnOk};
 ghost use Rattle.net_data.specs.Edits.{apply_all};
 ghost use Rattle.net_building.specs.Building.{plan_event as the_event};
-ghost use Rattle.net_sheets.specs.About.{row_rank, plan_ranks};
-ghost use Rattle.net_sheets.specs.Events.{unranked, unranked_row, HaveRanks, IsRankedBy};
+ghost use Rattle.net_sheets.specs.About.{plan_ranks};
+ghost use Rattle.net_sheets.specs.Events.{unranked, HaveRanks, IsRankedBy};
 ghost use Rattle.net_sheets.specs.Faults.{IsOrderFault, IsRanksFault, IsRefusal};
 
-use crate::about::{RowRank, spot_of_value};
+use crate::about::spot_of_value;
 use crate::building::refused;
 use crate::faults::{Reason, SpotFault};
 use crate::lists::push;
 use crate::plans::{apply_one, plan_event};
 use net_data::{Net, Plans, Refusal};
-use net_items::copies::{copy_row, copy_rows};
-use net_items::{Plan, Row, Rows};
-use point_codes::PointCode;
+use net_items::copies::copy_rows;
+use net_items::{Plan, Rows};
+use plan_ranks::{RowRank, ranked_rows};
 use std::alloc::{AllocError, Global};
-
-/// Whether a rank is given to the row of a point in the plan of a destination.
-fn is_of(given: &RowRank, dest: PointCode, point: PointCode) -> bool
-    ensures { result ≡ (given.now.dest == dest && given.now.point == point) }
-{
-    given.dest == dest && given.point == point
-}
-
-/// A row with a rank.
-fn ranked_row(alloc: Global, row: &Row, rank: u8) -> Result<Row, AllocError>
-    ensures { IfOk result (λ ranked. ranked ≡ record row.now { rank = rank }) }
-{
-    let mut ranked = copy_row(alloc, row)?;
-    ranked.rank = rank;
-    Ok(ranked)
-}
-
-/// The rows of a plan with the ranks that are given first. The error is that these are others', or too few.
-fn ranked_rows(
-    alloc: Global,
-    dest: PointCode,
-    rows: &[Row],
-    ranks: &[RowRank],
-) -> Result<Vec<Row>, Reason>
-    ensures many { IfOk result (λ ranked. length rows.now ≤ length ranks.now) }
-    ensures same { IfOk result (λ ranked. map unranked_row ranked.items ≡ map unranked_row rows.now) }
-    ensures told { IfOk result (λ ranked. map (row_rank dest) ranked.items ≡ take (length rows.now) ranks.now) }
-    ensures err { IfErr result IsOrderFault }
-{
-    if ranks.len() < rows.len() {
-        return Err(Reason::RankOrder);
-    }
-    let mut ranked = Vec::new(alloc);
-    for (i, row) in rows.iter().enumerate() {
-        let given = &ranks[i];
-        if !is_of(given, dest, row.point) {
-            return Err(Reason::RankOrder);
-        }
-        let next = ranked_row(alloc, row, given.rank)?;
-        push(&mut ranked, next)?;
-    }
-    Ok(ranked)
-}
 
 /// A plan with the ranks that are given first. The error is that these are others', or too few.
 fn ranked_plan(alloc: Global, plan: &Plan, ranks: &[RowRank]) -> Result<Plan, Reason>
@@ -69,7 +26,9 @@ fn ranked_plan(alloc: Global, plan: &Plan, ranks: &[RowRank]) -> Result<Plan, Re
     ensures err { IfErr result IsOrderFault }
 {
     let dest = plan.dest;
-    let ranked = ranked_rows(alloc, dest, plan.rows.as_slice(), ranks)?;
+    let Some(ranked) = ranked_rows(alloc, dest, plan.rows.as_slice(), ranks)? else {
+        return Err(Reason::RankOrder);
+    };
     let rows = Rows::from_vec(alloc, ranked)?;
     Ok(Plan { dest, rows })
 }

@@ -1,4 +1,4 @@
-//! The laws of ranks and of texts.
+//! The law of texts.
 
 ghost use Rattle.std.specs.Prelude.{ℕ, Bool, List, map};
 ghost use Rattle.net_items.specs.declared.items.Point.{Point};
@@ -9,14 +9,7 @@ ghost use Rattle.net_data.specs.Network.{Network};
 ghost use Rattle.net_sheets.specs.About.{network_header, network_text, entry_record, entries_about};
 ghost use Rattle.net_sheets.specs.Records.{IsTable};
 ghost use Rattle.net_sheets.specs.Tables.{points_header, points_text, point_record, sets_header, sets_text, set_record, routes_header, routes_text, route_record, routes_of};
-ghost use Rattle.net_sheets.specs.Ranks.{IsRanked, IsLeast, with_ranks};
-
-/// The law: the ranks of a right plan of a network are ranks of its rows, and with the least ranks it is a right plan too. It
-/// does nothing when it runs.
-pub fn rank_law()
-    ensures ranked { (points : List Point) (sets : List LinkSet) (plan : Plan) → IsRightPlan points sets plan → IsRanked points plan.dest plan.rows (map (λ r. r.rank) plan.rows) }
-    ensures least { (points : List Point) (sets : List LinkSet) (plan : Plan) (ranks : List ℕ) → IsRightPlan points sets plan → IsLeast points plan.dest plan.rows ranks → IsRightPlan points sets (record plan { rows = with_ranks plan.rows ranks }) }
-{}
+ghost use Rattle.plan_ranks.specs.Ranks.{IsRanked, IsLeast, with_ranks};
 
 /// The law: as CSV, the tables of a network are their headers and the records of its own keys, of its points, of its sets and
 /// of the ways of its plans. It does nothing when it runs.

@@ -19,8 +19,8 @@
 //! 7. The first thing that is wrong is told with the table, the line and the column, as an editor counts them: a line feed ends
 //!    a line, and a column is a character (own).
 //!
-//! Stands on `net_building`, `tokens`, `csv`. A change here also changes specs/ (About, Events, Faults, Loops, Places, Ranks, Records,
-//! Tables, Values), proofs/, must-fail/ and wrong-bodies/.
+//! Stands on `net_building`, `plan_ranks`, `tokens`, `csv`. A change here also changes specs/ (About, Events, Faults, Places, Records, Tables,
+//! Values), proofs/ and wrong-bodies/.
 #![tactic(auto)]
 
 mod about;
@@ -30,11 +30,8 @@ mod faults;
 mod given;
 pub mod laws;
 mod lists;
-mod loops;
-mod needs;
 mod places;
 mod plans;
-mod ranks;
 mod reading;
 mod records;
 mod routes;
@@ -42,8 +39,7 @@ mod rows;
 mod values;
 mod writing;
 
-pub use faults::{RankFault, Reason, Sheet, SheetFault};
-pub use laws::{csv_law, rank_law};
-pub use ranks::least_ranks;
+pub use faults::{Reason, Sheet, SheetFault};
+pub use laws::csv_law;
 pub use reading::read_sheets;
 pub use writing::{write_network, write_points, write_routes, write_sets};

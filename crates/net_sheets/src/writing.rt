@@ -2,13 +2,15 @@
 
 ghost use Rattle.std.specs.Prelude.{◌≡◌, ◌++◌, IfOk, OnOk, string_bytes};
 ghost use Rattle.std.specs.List.{flat_map};
-ghost use Rattle.net_sheets.specs.About.{network_header, flag_text, entry_record, bare_dest, bare_of, row_rank, plan_ranks, ranks_of, ranks_told, network_text};
+ghost use Rattle.net_sheets.specs.About.{network_header, flag_text, entry_record, bare_dest, bare_of, plan_ranks, ranks_of, ranks_told, network_text};
+ghost use Rattle.plan_ranks.specs.Given.{row_rank};
 ghost use Rattle.net_sheets.specs.Tables.{line_text, point_record, set_record, route_record, class_routes, row_routes, plan_routes, routes_of, links_text, points_text, sets_text, routes_text};
 
-use crate::about::{Entry, RowRank};
+use crate::about::Entry;
 use crate::routes::Route;
 use net_data::{Net, Plans};
 use net_items::{Link, LinkSet, Plan, Point, Row, Vias};
+use plan_ranks::RowRank;
 use point_codes::PointCode;
 use std::alloc::{AllocError, Global};
 use tokens::{point_kind_word, put_links, write_marked};

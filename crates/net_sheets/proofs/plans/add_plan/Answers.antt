@@ -1,8 +1,8 @@
 use Rattle.std.proofs.Common.{◌∙◌, List, ap, subst}
 use Rattle.net_items.specs.declared.lists.Row.{Row}
 use Rattle.net_data.specs.declared.events.Event.TheVariants.{SetPlan}
-use Rattle.net_sheets.specs.Ranks.{IsLeast, with_ranks}
-use Rattle.net_sheets.specs.Loops.{IsRankFault}
+use Rattle.plan_ranks.specs.Ranks.{IsLeast, with_ranks}
+use Rattle.plan_ranks.specs.Loops.{IsRankFault}
 use Rattle.net_sheets.proofs.FaultLemmas.{plan_unranked, plan_told}
 use Rattle.net_sheets.proofs.plans.add_plan.Goals as goal
 

@@ -1,5 +1,5 @@
 use Rattle.std.proofs.Common.{◌≡◌, take, length}
-use Rattle.net_sheets.specs.Ranks.{with_ranks}
+use Rattle.plan_ranks.specs.Ranks.{with_ranks}
 use Rattle.net_sheets.proofs.plans.set_ranks.Given as goal
 
 abbrev pub invariant-loop-i : goal.invariant-loop-i

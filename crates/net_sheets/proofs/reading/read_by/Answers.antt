@@ -1,5 +1,5 @@
 use Rattle.std.proofs.Common.{List, option_map, subst}
-use Rattle.net_sheets.specs.declared.about.RowRank.{RowRank}
+use Rattle.plan_ranks.specs.declared.given.RowRank.{RowRank}
 use Rattle.net_sheets.specs.Events.{IsRankedBy}
 use Rattle.net_sheets.proofs.ReadingLemmas.{says_all}
 use Rattle.net_sheets.proofs.reading.read_by.Goals as goal

@@ -2,7 +2,8 @@ use Rattle.std.proofs.Common.{◌≡◌, ◌++◌, map, take, string_bytes}
 use Rattle.std.specs.List.{flat_map}
 use Rattle.net_sheets.specs.declared.about.Entry.TheVariants.{Rank}
 use Rattle.net_sheets.specs.Tables.{line_text}
-use Rattle.net_sheets.specs.About.{entry_record, row_rank}
+use Rattle.net_sheets.specs.About.{entry_record}
+use Rattle.plan_ranks.specs.Given.{row_rank}
 use Rattle.net_sheets.proofs.writing.put_plan_ranks.Given as goal
 
 abbrev pub invariant-loop-row : goal.invariant-loop-row

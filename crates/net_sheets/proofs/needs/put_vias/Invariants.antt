@@ -1,7 +1,0 @@
-use Rattle.std.proofs.Common.{◌≡◌, ◌++◌, take}
-use Rattle.std.specs.List.{flat_map}
-use Rattle.net_sheets.specs.Ranks.{via_needs}
-use Rattle.net_sheets.proofs.needs.put_vias.Given as goal
-
-abbrev pub invariant-loop-via : goal.invariant-loop-via
-invariant-loop-via l = l.needs.items ≡ l.fn.needs.items ++ flat_map (via_needs l.rows l.dest l.place) (take l.via-index l.vias)

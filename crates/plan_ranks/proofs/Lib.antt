@@ -1,0 +1,2 @@
+pub mod NeedLemmas
+pub mod LawLemmas
