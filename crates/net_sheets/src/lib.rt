@@ -20,7 +20,7 @@
 //!    a line, and a column is a character (own).
 //!
 //! Stands on `net_building`, `plan_ranks`, `tokens`, `csv`. A change here also changes specs/ (About, Events, Faults, Places, Records, Tables,
-//! Values), proofs/ and wrong-bodies/.
+//! Values), proofs/, must-fail/ and wrong-bodies/.
 #![tactic(auto)]
 
 mod about;
