@@ -11,9 +11,9 @@ use desk_core::{Desk, Refusal};
 use std::alloc::{AllocError, Global};
 use work_units::settle;
 
-/// Brings a desk up to date, by the calls that any worker makes, and tells the number of the published version then:
-/// that of the last accepted event. It fails if memory is refused; nothing that was accepted is lost then. Either way what
-/// it did is a run of the desk's steps, which accepts nothing.
+/// Brings a desk up to date, at once where that can be, else by the calls that any worker makes, and tells the number of the
+/// published version then: that of the last accepted event. It fails if memory is refused; nothing that was accepted is lost
+/// then. Either way a run of the desk's steps leads there, which accepts nothing.
 pub fn sync(alloc: Global, desk: &mut Desk) -> Result<u64, AllocError>
     ensures ok { IfOk result (λ number. (number ≡ accepted desk.old) × (desk.new ≡ synced desk.old)) }
     ensures published { IfOk result (λ number. desk.new.published.number ≡ number) }
@@ -43,7 +43,7 @@ fn close(alloc: Global, desk: &mut Desk) -> Result<(), AllocError>
     }
 }
 
-/// Publishes what is newer than the published version, if no target is open.
+/// Publishes what is newer than the published version, if no target is open: at once, or by a target.
 fn catch_up(alloc: Global, desk: &mut Desk) -> Result<(), AllocError>
     requires { desk.old.target ≡ None }
     ensures ok { OnOk result (desk.new ≡ caught_up desk.old) }
@@ -51,6 +51,9 @@ fn catch_up(alloc: Global, desk: &mut Desk) -> Result<(), AllocError>
     ensures run { IsRunOf desk.old [] desk.new }
 {
     if desk.accepted() == desk.published().number() {
+        return Ok(());
+    }
+    if desk.publish_at_once(alloc)? {
         return Ok(());
     }
     match desk.open(alloc) {

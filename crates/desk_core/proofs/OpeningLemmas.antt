@@ -138,13 +138,16 @@ excerpts_of : (net : Network) (touched : ℕ → Bool) (plans : List Plan) → m
 excerpts_of net touched [] = refl
 excerpts_of net touched (p ∷ ps) = ap (λ xs. excerpt_in net p ∷ xs) (excerpts_of net touched ps)
 
+-- the touched destinations are planned
+pub planned_dests : (net : Network) (touched : ℕ → Bool) → AllByRecursion (λ x. is_planned net x ≡ true) (filter touched (dests net.plans))
+planned_dests net touched = All-filter (λ x. is_planned net x ≡ true) touched (dests net.plans) (All-map (λ x. is_planned net x ≡ true) (λ (p : Plan). p.dest) net.plans (plans_found net.plans))
+
 -- the places of a target, of which the touched wait
 pub opened_filled : (net : Network) (touched : ℕ → Bool) → AreFilled net (all_waiting (filter touched (dests net.plans))) (map (routing_slot_of net touched) net.plans)
 opened_filled net touched = record {
   all = excerpts_of net touched net.plans;
   filled = places_filled net touched _ net.plans (touched_wait touched (dests net.plans));
-  planned = All-map (λ (t : Task). is_planned net t.dest ≡ true) waiting_task (filter touched (dests net.plans))
-      (All-filter (λ x. is_planned net x ≡ true) touched (dests net.plans) (All-map (λ x. is_planned net x ≡ true) (λ (p : Plan). p.dest) net.plans (plans_found net.plans)));
+  planned = All-map (λ (t : Task). is_planned net t.dest ≡ true) waiting_task (filter touched (dests net.plans)) (planned_dests net touched);
 }
 
 -- ---- what waits

@@ -8,6 +8,7 @@ ghost use Rattle.net_versions.specs.Versions.{settled_version};
 ghost use Rattle.desk_core.specs.Desk.{accepted, net_now, new_desk, no_post};
 ghost use Rattle.desk_core.specs.Steps.{IsNext, IsUnready, Opens, Posts, Publishes, Repeats, Takes, tasks_left, post_refusal, publish_refusal, with_post, with_version};
 
+mod at_once;
 mod reading;
 mod results;
 

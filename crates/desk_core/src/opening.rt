@@ -101,7 +101,7 @@ fn all_slots(
 }
 
 /// A copy of a network, frozen after the one before.
-fn frozen_copy(alloc: Global, net: &Net, before: &Frozen) -> Result<Frozen, AllocError>
+pub(crate) fn frozen_copy(alloc: Global, net: &Net, before: &Frozen) -> Result<Frozen, AllocError>
     ensures { IfOk result (λ frozen. frozen ≡ net.now) }
 {
     let copy = net.copy(alloc)?;

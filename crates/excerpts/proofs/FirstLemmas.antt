@@ -3,7 +3,7 @@ use Rattle.std.proofs.Common.{◌≡◌, ℕ, zero, suc, ◌+◌, ◌-◌, ◌*�
 use Rattle.std.specs.List.{AllByRecursion, AllWithin}
 use Rattle.std.proofs.Math.Seq.{get_or-append_seam}
 use Rattle.std.proofs.lemmas.Bool.{cases_eq, ltb-true, ltb-false, ne_eqb}
-use Rattle.std.proofs.lemmas.List.{get_or_append_left, get_or-drop, get_or_default, get_or_read}
+use Rattle.std.proofs.lemmas.List.{get_or_append_left, get_or-drop, get_or_default}
 use Rattle.net_items.specs.Keyed.{IsRising, at_key}
 use Rattle.net_sets.specs.Joints.{joint_of}
 use Rattle.excerpts.specs.declared.index.Joint.{Joint}
@@ -97,13 +97,11 @@ pub record IsAround (js : List Joint) (y from to : ℕ) : Type 0 where
   pub end : IsFirstJoint (joint_of (y + 1) 0) js to
   pub ordered : from ≤ to
 
-pub around : (js : List Joint) (firsts : List ℕ) (y position from to : ℕ) → y < 16384 → AreFirsts firsts js → position ≡ y → from ≡ get_or firsts position from → to ≡ get_or firsts (position + 1) to → IsAround js y from to
-around js firsts y position from to small are here is_from is_to =
-    let read_from : from ≡ slice_index firsts y = get_or_read firsts position from (omega (arith, are.long)) is_from 0 ∙ ap (slice_index firsts) here in
-    let read_to : to ≡ slice_index firsts (y + 1) = get_or_read firsts (position + 1) to (omega (arith, are.long)) is_to 0 ∙ ap (λ n. slice_index firsts (n + 1)) here in
-    let begin : IsFirstJoint (joint_of y 0) js from = subst (λ n. IsFirstJoint (joint_of y 0) js n) (sym read_from) (are.right y (omega arith)) in
-    let end : IsFirstJoint (joint_of (y + 1) 0) js to = subst (λ n. IsFirstJoint (joint_of (y + 1) 0) js n) (sym read_to) (are.right (y + 1) (omega arith)) in
-    record { begin = begin; end = end; ordered = in_order js (joint_of y 0) (joint_of (y + 1) 0) from to (omega arith) begin end }
+pub around : (js : List Joint) (firsts : List ℕ) (y position : ℕ) → y < 16384 → AreFirsts firsts js → position ≡ y → IsAround js y (slice_index firsts position) (slice_index firsts (position + 1))
+around js firsts y position small are here =
+    let begin : IsFirstJoint (joint_of y 0) js (slice_index firsts position) = subst (λ n. IsFirstJoint (joint_of y 0) js (slice_index firsts n)) (sym here) (are.right y (omega arith)) in
+    let end : IsFirstJoint (joint_of (y + 1) 0) js (slice_index firsts (position + 1)) = subst (λ n. IsFirstJoint (joint_of (y + 1) 0) js (slice_index firsts (n + 1))) (sym here) (are.right (y + 1) (omega arith)) in
+    record { begin = begin; end = end; ordered = in_order js (joint_of y 0) (joint_of (y + 1) 0) _ _ (omega arith) begin end }
 
 pub found_around : (js : List Joint) (y z from to : ℕ) → z < 16384 → IsAround js y from to
     → at_key (λ (j : Joint). j.pair) (joint_of y z) (take (to - from) (drop from js)) ≡ at_key (λ (j : Joint). j.pair) (joint_of y z) js

@@ -1,9 +1,9 @@
 -- The index of sets from that of other sets with the same ends.
-use Rattle.std.proofs.Common.{◌≡◌, ℕ, zero, suc, ◌+◌, ◌<◌, ◌≤◌, Bool, true, false, ◌||◌, cond, eqb, Option, Some, None, List, [], ◌∷◌, length, get_or, drop, map, slice_get, refl, ap, sym, ◌∙◌, subst, inl, inr}
+use Rattle.std.proofs.Common.{◌≡◌, ℕ, zero, suc, ◌+◌, ◌<◌, ◌≤◌, Bool, true, false, ◌||◌, cond, eqb, Option, Some, None, List, [], ◌∷◌, length, get_or, drop, map, slice_get, slice_index, refl, ap, sym, ◌∙◌, subst, inl, inr, arith}
 use Rattle.std.specs.Prelude.{find, is_some}
 use Rattle.std.specs.List.{AllByRecursion}
 use Rattle.std.specs.Option.{option_map, option_map_or}
-use Rattle.std.proofs.lemmas.List.{drop_all, drop_more}
+use Rattle.std.proofs.lemmas.List.{drop_all, drop_more, get_or-map, length-map}
 use Rattle.std.proofs.lemmas.Bool.{eq-eqb}
 use Rattle.std.proofs.lemmas.Option.{same_Some}
 use Rattle.net_items.specs.declared.items.LinkSet.{LinkSet}
@@ -13,7 +13,7 @@ use Rattle.net_sets.specs.Joints.{joint_of}
 use Rattle.net_sets.specs.Sets.{IsOnePerPair}
 use Rattle.link_sets.specs.Availability.{set_available}
 use Rattle.excerpts.specs.declared.index.Joint.{Joint}
-use Rattle.excerpts.specs.Index.{AreSameEnds, HasSameEnds, IsHeld, IsJointIndex, IsJointOf, renewed}
+use Rattle.excerpts.specs.Index.{AreFirsts, AreSameEnds, HasSameEnds, IsFirstJoint, IsHeld, IsJointIndex, IsJointOf, renewed}
 use Rattle.excerpts.proofs.TurnedLemmas.{ends_of_joint, place_found}
 
 -- one place more from which on the ends are the same
@@ -110,6 +110,27 @@ above_renewed sets n (j ∷ js) above = (above.0, above_renewed sets n js above.
 pub rise_renewed : (sets : List LinkSet) (joints : List Joint) → IsRising (λ (j : Joint). j.pair) joints → IsRising (λ (j : Joint). j.pair) (map (renewed sets) joints)
 rise_renewed sets [] rise = tt
 rise_renewed sets (j ∷ js) rise = (above_renewed sets j.pair js rise.0, rise_renewed sets js rise.1)
+
+-- the joints of smaller pairs still stand before that place
+first_renewed : (sets : List LinkSet) (pair : ℕ) (js : List Joint) (at : ℕ) → IsFirstJoint pair js at → IsFirstJoint pair (map (renewed sets) js) at
+first_renewed sets pair js at is =
+    let same : length (map (renewed sets) js) ≡ length js = length-map js (renewed sets) in
+    let pairs : (k : ℕ) (d : Joint) → k < length js → (get_or (map (renewed sets) js) k d).pair ≡ (get_or js k d).pair
+    = λ k d lt. ap (λ (j : Joint). j.pair) (get_or-map (renewed sets) js k d d lt) in
+    record {
+      within = omega (arith, is.within, same);
+      parts = (
+        (λ k d low lt. let here = pairs k d (omega (arith, lt, is.within)) in let less = is.parts.0 k d low lt in omega (arith, here, less)),
+        (λ k d low lt. let here = pairs k d (omega (arith, lt, same)) in let more = is.parts.1 k d low (omega (arith, lt, same)) in omega (arith, here, more)),
+      );
+    }
+
+-- where the joints of each point begin stays
+pub firsts_renewed : (sets : List LinkSet) (firsts : List ℕ) (js : List Joint) → AreFirsts firsts js → AreFirsts firsts (map (renewed sets) js)
+firsts_renewed sets firsts js are = record {
+  long = are.long;
+  right = λ y low. first_renewed sets (joint_of y 0) js (slice_index firsts y) (are.right y low);
+}
 
 none_found : (o : Option LinkSet) → is_some o ≡ false → o ≡ None
 none_found None e = refl

@@ -9,7 +9,6 @@ use Rattle.net_items.specs.declared.items.LinkSet.{LinkSet}
 use Rattle.net_items.specs.Lookups.{joins, set_between}
 use Rattle.link_sets.specs.Availability.{set_available, connected}
 use Rattle.profile.proofs.CertificateLemmas.{connected_back}
-use Rattle.excerpts.specs.declared.turned.Ends.{Ends}
 use Rattle.excerpts.specs.declared.turned.Pair.{Pair}
 use Rattle.net_items.specs.declared.items.Point.{Point}
 use Rattle.excerpts.specs.Index.{HasSameEnds}

@@ -1,15 +1,14 @@
 //! A network with its index.
 
-ghost use Rattle.std.specs.Prelude.{◌≡◌, IfOk, map};
+ghost use Rattle.std.specs.Prelude.{◌≡◌, IfOk};
 ghost use Rattle.std.specs.Option.{IfSome, option_copied};
 ghost use Rattle.net_items.specs.Lookups.{set_between as between};
 ghost use Rattle.net_data.specs.Valid.{IsValid};
 ghost use Rattle.link_sets.specs.Availability.{connected};
 ghost use Rattle.link_sets.specs.Neighbours.{next_from, IsCodeFrom};
-ghost use Rattle.net_items.specs.Keyed.{IsRising};
-ghost use Rattle.excerpts.specs.Index.{IsJointIndex, renewed};
+ghost use Rattle.excerpts.specs.Index.{IsJointIndex};
 
-use crate::index::{are_same_ends, find_joint, index_after, index_of, next_up};
+use crate::index::{are_same_ends, find_joint, index_of, next_up};
 use crate::joints::Joints;
 use crate::positions::PointOrder;
 use net_data::Net;
@@ -29,8 +28,7 @@ pub struct Indexed {
 
 impl Model for Indexed {
     ghost use Rattle.net_data.specs.Network.{Network};
-    ghost use Rattle.net_items.specs.Keyed.{IsRising};
-    ghost use Rattle.excerpts.specs.Index.{IsJointIndex, renewed};
+    ghost use Rattle.excerpts.specs.Index.{IsJointIndex};
 
     ghost Value = { Network };
 
@@ -44,15 +42,6 @@ fn joints_of(alloc: Global, sets: &[LinkSet]) -> Result<Joints, AllocError>
     ensures { IfOk result (λ joints. IsJointIndex joints sets.now) }
 {
     let list = index_of(alloc, sets)?;
-    Joints::new(alloc, list)
-}
-
-/// The joints of sets, from those of sets that join the same points.
-fn joints_after(alloc: Global, joints: &Joints, sets: &[LinkSet]) -> Result<Joints, AllocError>
-    requires { IsRising (λ j. j.pair) joints.now }
-    ensures { IfOk result (λ after. after ≡ map (renewed sets.now) joints.now) }
-{
-    let list = index_after(alloc, joints.as_slice(), sets)?;
     Joints::new(alloc, list)
 }
 
@@ -86,7 +75,7 @@ impl Indexed {
         if !are_same_ends(before.net.sets(), net.sets()) {
             return Indexed::new(alloc, net);
         }
-        let joints = joints_after(alloc, &before.joints, net.sets())?;
+        let joints = before.joints.over(alloc, net.sets())?;
         let order = Indexed::order_after(alloc, &net, before)?;
         Ok(Indexed { net, joints, order })
     }

@@ -1,26 +1,29 @@
 //! The index, with where the joints of each point begin.
 
-ghost use Rattle.std.specs.Prelude.{◌≡◌, ◌<◌, ◌≤◌, ℕ, IfOk, length};
+ghost use Rattle.std.specs.Prelude.{◌≡◌, ◌<◌, ◌≤◌, ℕ, IfOk, length, map};
 ghost use Rattle.std.specs.List.{AllWithin};
 ghost use Rattle.net_items.specs.Keyed.{IsRising, at_key};
 ghost use Rattle.net_sets.specs.Joints.{joint_of};
-ghost use Rattle.excerpts.specs.Index.{IsFirstJoint, AreFirsts};
+ghost use Rattle.excerpts.specs.Index.{IsFirstJoint, AreFirsts, renewed};
 
-use crate::index::Joint;
+use crate::index::{Joint, index_after};
+use net_items::LinkSet;
 use point_codes::PointCode;
 use std::alloc::{AllocError, Global};
 use std::marker::Model;
+use std::sync::Arc;
 
 /// The joints in rising number of the pair, so that those of a point stand together.
 #[derive(Drop)]
 pub struct Joints {
     list: Vec<Joint>,
-    /// How many joints have a pair before those of each point; the last number is that of all joints.
-    firsts: Vec<usize>,
+    /// How many joints have a pair before those of each point; the last number is that of all joints. Joints of the same pairs share it.
+    firsts: Arc<Vec<usize>>,
 }
 
 impl Model for Joints {
     ghost use Rattle.std.specs.Prelude.{List};
+    ghost use Rattle.std.specs.Arc.{arc_value};
     ghost use Rattle.net_items.specs.Keyed.{IsRising};
     ghost use Rattle.excerpts.specs.declared.index.Joint.{Joint};
     ghost use Rattle.excerpts.specs.Index.{AreFirsts};
@@ -29,7 +32,7 @@ impl Model for Joints {
 
     ghost view = { λ f. f.list.items };
 
-    ghost invariant = { λ f. IsRising (λ (j : Joint). j.pair) f.list.items × AreFirsts f.firsts.items f.list.items };
+    ghost invariant = { λ f. IsRising (λ (j : Joint). j.pair) f.list.items × AreFirsts (arc_value f.firsts).items f.list.items };
 }
 
 /// Where the joints from a pair on begin, if it is known of the first ones that they stand before.
@@ -60,6 +63,19 @@ fn firsts_of(alloc: Global, joints: &[Joint]) -> Result<Vec<usize>, AllocError>
     Ok(firsts)
 }
 
+/// Those joints of a list whose pairs have this first point, by where the joints of each point begin.
+fn joints_among<'a>(firsts: &[usize], list: &'a [Joint], point: PointCode) -> &'a [Joint]
+    requires firsts { AreFirsts firsts.now list.now }
+    requires rise { IsRising (λ j. j.pair) list.now }
+    ensures rise { IsRising (λ j. j.pair) result.now }
+    ensures tells { (z : ℕ) → z < 16384 → at_key (λ j. j.pair) (joint_of point z) result.now ≡ at_key (λ j. j.pair) (joint_of point z) list.entry.now }
+{
+    let at = usize::from(point.number());
+    let from = firsts[at];
+    let to = firsts[at + 1];
+    &list[from..to]
+}
+
 impl Joints {
     /// The joints of a list. It fails if memory is refused.
     pub fn new(alloc: Global, list: Vec<Joint>) -> Result<Joints, AllocError>
@@ -67,6 +83,19 @@ impl Joints {
         ensures { IfOk result (λ joints. joints ≡ list.items) }
     {
         let firsts = firsts_of(alloc, &list)?;
+        Ok(Joints {
+            list,
+            firsts: Arc::new(alloc, firsts)?,
+        })
+    }
+
+    /// The joints over sets that join the same points, one by one: each leads to the set at the same position. It fails if memory is
+    /// refused.
+    pub fn over(&self, alloc: Global, sets: &[LinkSet]) -> Result<Joints, AllocError>
+        ensures { IfOk result (λ joints. joints ≡ map (renewed sets.now) self.now) }
+    {
+        let list = index_after(alloc, &self.list, sets)?;
+        let firsts = Arc::try_clone(&self.firsts)?;
         Ok(Joints { list, firsts })
     }
 
@@ -82,9 +111,6 @@ impl Joints {
         ensures rise { IsRising (λ j. j.pair) result.now }
         ensures tells { (z : ℕ) → z < 16384 → at_key (λ j. j.pair) (joint_of point z) result.now ≡ at_key (λ j. j.pair) (joint_of point z) self.now }
     {
-        let at = usize::from(point.number());
-        let from = self.firsts[at];
-        let to = self.firsts[at + 1];
-        &self.list[from..to]
+        joints_among(self.firsts.as_slice(), self.list.as_slice(), point)
     }
 }

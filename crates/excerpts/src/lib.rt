@@ -32,4 +32,4 @@ pub use faults::ExcerptFault;
 pub use frozen::Frozen;
 pub use laws::same_table_law;
 pub use neighbours::Neighbours;
-pub use turned::Ends;
+pub use turned::{Ends, are_keeping};

@@ -115,8 +115,8 @@ fn is_keeping(event: &Event) -> bool
     }
 }
 
-/// Whether all events do so.
-fn are_keeping(events: &[Event]) -> bool
+/// Whether some events leave points, plans and the transfer-restricted option as they are.
+pub fn are_keeping(events: &[Event]) -> bool
     ensures { result ≡ list_all keeps_plans events.now }
 {
     events.iter().all(is_keeping)

@@ -1,15 +1,17 @@
 -- The routings of a network's planned destinations.
-use Rattle.std.proofs.Common.{◌≡◌, ℕ, zero, suc, ◌<◌, eqb, false, List, [], ◌∷◌, Option, Some, None, map, refl, sym, ap, ◌∙◌, length, get_or, arith}
+use Rattle.std.proofs.Common.{◌≡◌, ℕ, zero, suc, ◌<◌, eqb, false, List, [], ◌∷◌, Option, Some, None, map, refl, sym, ap, ◌∙◌, length, get_or, arith, subst}
 use Rattle.std.specs.Prelude.{Ok}
 use Rattle.std.specs.List.{AllByRecursion}
 use Rattle.std.specs.Option.{option_map}
-use Rattle.std.proofs.lemmas.Bool.{eq-eqb, ne_eqb}
+use Rattle.std.proofs.lemmas.Bool.{eq-eqb, eqb-true, ne_eqb}
+use Rattle.std.proofs.lemmas.Option.{same_Some}
 use Rattle.net_items.specs.declared.items.Plan.{Plan}
 use Rattle.net_items.specs.Keyed.{IsRising, at_key}
 use Rattle.net_items.specs.Lookups.{plan_at}
 use Rattle.net_data.specs.Network.{Network}
 use Rattle.profile.proofs.CertificateLemmas.{find-map}
 use Rattle.excerpts.specs.Excerpt.{ExcerptValue, excerpt_in, excerpt_at, IsExcerptAnswer}
+use Rattle.excerpts.proofs.TurnedLemmas.{place_found}
 use Rattle.transfer_state.proofs.SweepLemmas.{at_index}
 use Rattle.net_items.specs.declared.lists.Row.{Row}
 use Rattle.profile.specs.declared.tables.RowState.{RowState}
@@ -98,3 +100,18 @@ routings_map f (x ∷ xs) = ap (λ (rest : List RoutingValue). settled_routing (
 
 pub routings_by : {X : Type 0} (f : X → ExcerptValue) (net : Network) (xs : List X) → map f xs ≡ excerpts net → map (λ x. settled_routing (f x)) xs ≡ settled_routings net
 routings_by f net xs all = routings_map f xs ∙ ap (map settled_routing) all ∙ sym (routings_map (excerpt_in net) net.plans)
+
+-- the routing of a destination is towards it, and in the network
+pub record IsRoutingOf (net : Network) (x : ℕ) (r : RoutingValue) : Type 0 where
+  pub dest : r.excerpt.plan.dest ≡ x
+  pub network : r.excerpt.network ≡ net
+
+pub routing_of : (net : Network) (x : ℕ) (r : RoutingValue) → routing_at net x ≡ Some r → IsRoutingOf net x r
+routing_of net x r e = go (plan_at net.plans x) refl
+  where
+    go : (o : Option Plan) → plan_at net.plans x ≡ o → IsRoutingOf net x r
+    go None none = let bad : None ≡ Some r = rw none at e in cc
+    go (Some p) there =
+        let is : Some (settled_routing (excerpt_in net p)) ≡ Some r = rw there at e in
+        let same : settled_routing (excerpt_in net p) ≡ r = same_Some (settled_routing (excerpt_in net p)) r is in
+        subst (IsRoutingOf net x) same (record { dest = eqb-true p.dest x (place_found (λ (q : Plan). eqb q.dest x) net.plans p there).2; network = refl })

@@ -5,10 +5,11 @@ ghost use Rattle.std.specs.Option.{option_copied};
 ghost use Rattle.net_items.specs.declared.items.Plan.{Plan};
 ghost use Rattle.net_items.specs.Keyed.{IsRising, IsFoundAt, IsGapAt};
 ghost use Rattle.excerpts.specs.Excerpt.{excerpt_in, table_at};
+ghost use Rattle.excerpts.specs.Turned.{HasTurned};
 ghost use Rattle.transfer_state.specs.Routing.{settled_routing};
 ghost use Rattle.net_versions.specs.Versions.{IsSettledVersion, routing_at, settled_routings, settled_version};
 
-use excerpts::{Excerpt, Frozen};
+use excerpts::{Ends, Excerpt, Frozen};
 use net_data::{Event, Net};
 use point_codes::PointCode;
 use profile::Table;
@@ -60,18 +61,25 @@ fn dests_of(alloc: Global, routings: &[Routing]) -> Result<Vec<PointCode>, Alloc
     Ok(dests)
 }
 
+/// The excerpt of the plan in a place of a network's plans.
+fn excerpt_in_place(net: &Frozen, position: usize) -> Result<Excerpt, AllocError>
+    requires { position < length net.now.plans }
+    ensures { IfOk result (λ x. (d : Plan) → x ≡ excerpt_in net.now (slice_index_or net.now.plans position d)) }
+{
+    net.validity();
+    let dest = net.net().plans().at(position).dest;
+    match Excerpt::of(net, dest) {
+        Ok(excerpt) => Ok(excerpt),
+        Err(_) => Err(AllocError),
+    }
+}
+
 /// The settled routing of the plan in a place of a network's plans.
 fn routing_in(alloc: Global, net: &Frozen, position: usize) -> Result<Routing, AllocError>
     requires { position < length net.now.plans }
     ensures { IfOk result (λ r. (d : Plan) → r ≡ settled_routing (excerpt_in net.now (slice_index_or net.now.plans position d))) }
 {
-    net.validity();
-    let dest = net.net().plans().at(position).dest;
-    let excerpt = match Excerpt::of(net, dest) {
-        Ok(excerpt) => excerpt,
-        Err(_) => return Err(AllocError),
-    };
-    match Routing::of(alloc, excerpt) {
+    match Routing::of(alloc, excerpt_in_place(net, position)?) {
         Ok(routing) => Ok(routing),
         Err((_, refused)) => Err(refused),
     }
@@ -85,6 +93,45 @@ fn all_routings(alloc: Global, net: &Frozen) -> Result<Vec<Routing>, AllocError>
     let mut routings = Vec::with_capacity(alloc, plans.len())?;
     for position in 0..plans.len() {
         routings.push(routing_in(alloc, net, position)?)?;
+    }
+    Ok(routings)
+}
+
+/// The settled routing of an excerpt, followed from that of the same destination in a version before, if it has one.
+fn follow_from(
+    alloc: Global,
+    excerpt: Excerpt,
+    before: &Version,
+    turned: &[Ends],
+) -> Result<Routing, AllocError>
+    requires { HasTurned before.now.network excerpt.network turned.now }
+    ensures { IfOk result (λ r. r ≡ settled_routing excerpt) }
+{
+    let followed = match before.routing(excerpt.dest()) {
+        Some(routing) => Routing::follow(alloc, excerpt, routing, turned),
+        None => Routing::of(alloc, excerpt),
+    };
+    match followed {
+        Ok(routing) => Ok(routing),
+        Err((_, refused)) => Err(refused),
+    }
+}
+
+/// The settled routing of each planned destination of a network, in rising code, followed from those of a version before.
+fn followed_routings(
+    alloc: Global,
+    net: &Frozen,
+    before: &Version,
+    turned: &[Ends],
+) -> Result<Vec<Routing>, AllocError>
+    requires { HasTurned before.now.network net.now turned.now }
+    ensures { IfOk result (λ v. v.items ≡ settled_routings net.now) }
+{
+    let plans = net.net().plans();
+    let mut routings = Vec::with_capacity(alloc, plans.len())?;
+    for position in 0..plans.len() {
+        let excerpt = excerpt_in_place(net, position)?;
+        routings.push(follow_from(alloc, excerpt, before, turned)?)?;
     }
     Ok(routings)
 }
@@ -116,6 +163,24 @@ impl Version {
             net,
             routings,
         }
+    }
+
+    /// The version of that number, with the events since the one before, and a network that differs from that one's in sets alone: the
+    /// routings are followed from those of the version before. `turned` has the ends of each set that became available since, or is so
+    /// no longer.
+    pub fn followed(
+        alloc: Global,
+        number: u64,
+        batch: Vec<Event>,
+        net: Frozen,
+        before: &Version,
+        turned: &[Ends],
+    ) -> Result<Version, AllocError>
+        requires { HasTurned before.now.network net turned.now }
+        ensures { IfOk result (λ v. v ≡ settled_version number batch.items net) }
+    {
+        let routings = followed_routings(alloc, &net, before, turned)?;
+        Ok(Version::new(number, batch, net, routings))
     }
 
     /// Its number.

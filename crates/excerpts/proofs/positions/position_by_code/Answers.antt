@@ -1,4 +1,4 @@
-use Rattle.std.proofs.Common.{◌≡◌, ◌∙◌, ap, sym, List, ℕ, Some, slice_get}
+use Rattle.std.proofs.Common.{◌∙◌, ap, sym, List, ℕ, slice_get}
 use Rattle.excerpts.proofs.PlaceLemmas.{found_by_code}
 use Rattle.excerpts.proofs.positions.position_by_code.Goals as goal
 
