@@ -1,15 +1,12 @@
 -- Which texts say a number of workers.
-use Rattle.std.proofs.Common.{◌≡◌, ℕ, ◌<◌, ◌≤◌, List, length, get_or, Result, Ok, sym, ap, subst, ◌∙◌, arith, inl, inr, length-drop, Option, Some, None}
+use Rattle.std.proofs.Common.{◌≡◌, ℕ, ◌<◌, ◌≤◌, List, length, get_or, Result, Ok, sym, ap, subst, ◌∙◌, arith, inl, inr, length-drop}
 use Rattle.std.specs.Fmt.{decimal}
 use Rattle.std.specs.Str.Parse.{AllDigits, ParsesUnsigned, digits_value}
 use Rattle.std.proofs.lemmas.Bool.{cases_eq, cases_lt}
 use Rattle.std.proofs.lemmas.Fmt.{decimal_digit, decimal-digits_value, first_decimal, parse-decimal}
 use Rattle.std.proofs.lemmas.Result.{OkIff-at_ok}
 use Rattle.std.proofs.lemmas.Str.Parse.{IsNumeralModel, numerals_by_value, parse_plain, parse_plus, tells_digits}
-use Rattle.clap.specs.Words.{Row, Text}
-use Rattle.command_line.specs.declared.words.Order.{Order}
-use Rattle.command_line.specs.declared.words.Order.TheVariants.{Run, Play, Serve, Check, Survey, Picture, Report, Import, Export, Explain}
-use Rattle.command_line.specs.Words.{IsOrder, IsPadded, IsWithin, IsWorkers}
+use Rattle.command_line.specs.Words.{IsPadded}
 
 own : IsNumeralModel (AllDigits 10) (digits_value 10)
 own = numerals_by_value _ tells_digits
@@ -46,20 +43,3 @@ module _ {E : Type 0} (text : List ℕ) (r : Result ℕ E) (parsed : ParsesUnsig
         ] in
         sym (decimal-digits_value own text read.0.0 read.0.1 lead (omega (arith, read.0.2))) ∙ ap decimal (sym read.1)
   ]
-
--- an order has at most 32 workers
-count_within : (otherwise : ℕ) (text : Option Text) (n : ℕ) → otherwise ≤ 32 → IsWorkers otherwise text n → n ≤ 32
-count_within otherwise None n few is = omega arith
-count_within otherwise (Some text) n few is = is.1
-
-pub order_within : (order : Order) (found : Option (Text × List Row)) → IsOrder order found → IsWithin order
-order_within (Run net workers save explained json strict no_files) found is = count_within 0 _ workers (omega arith) is.3
-order_within (Play net steps save explained json strict no_files) found is = tt
-order_within (Serve net seats workers save explained json no_files) found is = count_within 1 _ workers (omega arith) is.4
-order_within (Check net warned explained json) found is = tt
-order_within (Survey net points explained json) found is = tt
-order_within (Picture net about svg explained) found is = tt
-order_within (Report net about explained) found is = tt
-order_within (Import dir explained) found is = tt
-order_within (Export net dir ranks explained) found is = tt
-order_within (Explain what json) found is = tt

@@ -20,7 +20,8 @@
 //! 11. With the flag `--json` the commands run, play, serve, check, survey and explain write JSON objects.
 //! 12. With the flag `--strict` the commands run and play save nothing, and end with status 1, if a line was refused.
 //! 13. With the flag `--no-files` the commands run, play and serve refuse what would write a file for a script.
-//! 14. NET is a file, or in `run` alone `-` for standard input. An N that is no such number is refused by a fault of its own,
+//! 14. An order is a task, one for each command, with its options; what a command hasn't is `None` or `false`.
+//! 15. NET is a file, or in `run` alone `-` for standard input. An N that is no such number is refused by a fault of its own,
 //!     whose `explained` is true exactly if the flag `--explain` is given. Any other words are told by `clap`, as are `--help`
 //!     and `--version`.
 //!
@@ -33,4 +34,4 @@ mod orders;
 pub mod words;
 
 pub use laws::version_law;
-pub use words::{Order, WordFault, read_words};
+pub use words::{Options, Order, Task, WordFault, read_words};

@@ -1,11 +1,11 @@
 //! The order that matches say.
 
-ghost use Rattle.std.specs.Prelude.{◌≡◌, ◌≤◌, ◌↔◌, Bool, IsTrue, Some, codes, IfOk, IfSome, option_map, false};
+ghost use Rattle.std.specs.Prelude.{◌≡◌, ◌≤◌, ◌↔◌, Bool, IsTrue, Some, codes, IfOk, IfErr, IfSome, IsSomeAnd, option_map, false};
 ghost use Rattle.std.specs.Fmt.{decimal};
 ghost use Rattle.clap.specs.Words.{first_of, found_of, rows_of, subcommand_rows_of};
-ghost use Rattle.command_line.specs.Words.{HasFlag, IsOrder, IsWorkers, IsPadded, IsNoCount, HasBadCount, HasBadWorkers, is_whole};
+ghost use Rattle.command_line.specs.Words.{HasBadCount, HasBadWorkers, HasFlag, HasOptions, IsNoCount, IsOrder, IsPadded, IsWithin, IsWorkers, Tells, has_value, is_whole};
 
-use crate::words::Order;
+use crate::words::{Options, Order, Task};
 use clap::ArgMatches;
 
 /// Why matches are no order.
@@ -55,17 +55,6 @@ fn worker_count(text: &str) -> Option<u32>
     }
 }
 
-/// The number of workers that matches say, which is another one if they say none.
-fn workers_at(matches: &ArgMatches, otherwise: u32) -> Option<u32>
-    ensures some { IfSome result (IsWorkers otherwise (first_of (codes "workers") (rows_of (found_of matches.now)))) }
-    ensures none { result ≡ None → HasBadCount (rows_of (found_of matches.now)) }
-{
-    match value_at(matches, "workers") {
-        Some(text) => worker_count(text),
-        None => Some(otherwise),
-    }
-}
-
 /// Whether the matches have a flag.
 fn flag_at(matches: &ArgMatches, id: &str) -> bool
     ensures { IsTrue result ↔ HasFlag id.now (rows_of (found_of matches.now)) }
@@ -74,197 +63,160 @@ fn flag_at(matches: &ArgMatches, id: &str) -> bool
     value_at(matches, id) == Some("true")
 }
 
-/// What the matches of `run` order.
-fn run_order<'a>(matches: &ArgMatches<'a>) -> Result<Order<'a>, NoOrder>
-    ensures order { IfOk result (λ order. IsOrder order (Some (codes "run", rows_of (found_of matches.now)))) }
-    ensures not_whole { result ≡ Err NoOrder.NotWhole → is_whole (codes "run", rows_of (found_of matches.now)) ≡ false }
-    ensures workers { (explained : Bool) → result ≡ Err (NoOrder.Workers explained) → HasBadWorkers explained (Some (codes "run", rows_of (found_of matches.now))) }
+/// The first value of an argument that is needed.
+fn needed<'a>(matches: &ArgMatches<'a>, id: &str) -> Result<&'a str, NoOrder>
+    ensures some { IfOk result (λ s. first_of id.now (rows_of (found_of matches.now)) ≡ Some s.now) }
+    ensures none { IfErr result (λ e. (e ≡ NoOrder.NotWhole) × (has_value id.now (rows_of (found_of matches.now)) ≡ false)) }
 {
-    let Some(net) = value_at(matches, "net") else {
-        return Err(NoOrder::NotWhole);
+    value_at(matches, id).ok_or(NoOrder::NotWhole)
+}
+
+/// The number of workers that matches say, which is another one if they say none.
+fn workers_at(matches: &ArgMatches, otherwise: u32) -> Result<u32, NoOrder>
+    requires { otherwise ≤ 32 }
+    ensures some { IfOk result (λ n. IsWorkers otherwise (first_of (codes "workers") (rows_of (found_of matches.now))) n × (n ≤ 32)) }
+    ensures none { IfErr result (λ e. (explained : Bool) × (e ≡ NoOrder.Workers explained) × HasBadCount explained (rows_of (found_of matches.now))) }
+{
+    let count = match value_at(matches, "workers") {
+        Some(text) => worker_count(text),
+        None => Some(otherwise),
     };
     let explained = flag_at(matches, "explain");
-    let Some(workers) = workers_at(matches, 0) else {
-        return Err(NoOrder::Workers { explained });
-    };
-    let save = value_at(matches, "save");
-    let json = flag_at(matches, "json");
-    let strict = flag_at(matches, "strict");
-    let no_files = flag_at(matches, "no-files");
-    Ok(Order::Run {
+    count.ok_or(NoOrder::Workers { explained })
+}
+
+/// The task that the matches of `run` say.
+fn run_task<'a>(matches: &ArgMatches<'a>) -> Result<Task<'a>, NoOrder>
+    ensures { Tells result (codes "run", rows_of (found_of matches.now)) }
+{
+    let net = needed(matches, "net")?;
+    let workers = workers_at(matches, 0)?;
+    Ok(Task::Run { net, workers })
+}
+
+/// The task that the matches of `play` say.
+fn play_task<'a>(matches: &ArgMatches<'a>) -> Result<Task<'a>, NoOrder>
+    ensures { Tells result (codes "play", rows_of (found_of matches.now)) }
+{
+    let net = needed(matches, "net")?;
+    let steps = needed(matches, "steps")?;
+    Ok(Task::Play { net, steps })
+}
+
+/// The task that the matches of `serve` say.
+fn serve_task<'a>(matches: &ArgMatches<'a>) -> Result<Task<'a>, NoOrder>
+    ensures { Tells result (codes "serve", rows_of (found_of matches.now)) }
+{
+    let net = needed(matches, "net")?;
+    let seats = needed(matches, "seats")?;
+    let workers = workers_at(matches, 1)?;
+    Ok(Task::Serve {
         net,
+        seats,
         workers,
-        save,
-        explained,
-        json,
-        strict,
-        no_files,
     })
 }
 
-/// What the matches of `play` order.
-fn play_order<'a>(matches: &ArgMatches<'a>) -> Option<Order<'a>>
-    ensures some { IfSome result (λ order. IsOrder order (Some (codes "play", rows_of (found_of matches.now)))) }
-    ensures none { result ≡ None → is_whole (codes "play", rows_of (found_of matches.now)) ≡ false }
+/// The task that the matches of `check` say.
+fn check_task<'a>(matches: &ArgMatches<'a>) -> Result<Task<'a>, NoOrder>
+    ensures { Tells result (codes "check", rows_of (found_of matches.now)) }
 {
-    let net = value_at(matches, "net")?;
-    let steps = value_at(matches, "steps")?;
-    Some(Order::Play {
-        net,
-        steps,
+    let net = needed(matches, "net")?;
+    let warned = flag_at(matches, "warn");
+    Ok(Task::Check { net, warned })
+}
+
+/// The task that the matches of `survey` say.
+fn survey_task<'a>(matches: &ArgMatches<'a>) -> Result<Task<'a>, NoOrder>
+    ensures { Tells result (codes "survey", rows_of (found_of matches.now)) }
+{
+    let net = needed(matches, "net")?;
+    let points = flag_at(matches, "points");
+    Ok(Task::Survey { net, points })
+}
+
+/// The task that the matches of `picture` say.
+fn picture_task<'a>(matches: &ArgMatches<'a>) -> Result<Task<'a>, NoOrder>
+    ensures { Tells result (codes "picture", rows_of (found_of matches.now)) }
+{
+    let net = needed(matches, "net")?;
+    let about = value_at(matches, "about");
+    let svg = flag_at(matches, "svg");
+    Ok(Task::Picture { net, about, svg })
+}
+
+/// The task that the matches of `report` say.
+fn report_task<'a>(matches: &ArgMatches<'a>) -> Result<Task<'a>, NoOrder>
+    ensures { Tells result (codes "report", rows_of (found_of matches.now)) }
+{
+    let net = needed(matches, "net")?;
+    let about = value_at(matches, "about");
+    Ok(Task::Report { net, about })
+}
+
+/// The task that the matches of `import` say.
+fn import_task<'a>(matches: &ArgMatches<'a>) -> Result<Task<'a>, NoOrder>
+    ensures { Tells result (codes "import", rows_of (found_of matches.now)) }
+{
+    let dir = needed(matches, "dir")?;
+    Ok(Task::Import { dir })
+}
+
+/// The task that the matches of `export` say.
+fn export_task<'a>(matches: &ArgMatches<'a>) -> Result<Task<'a>, NoOrder>
+    ensures { Tells result (codes "export", rows_of (found_of matches.now)) }
+{
+    let net = needed(matches, "net")?;
+    let dir = needed(matches, "dir")?;
+    let ranks = flag_at(matches, "ranks");
+    Ok(Task::Export { net, dir, ranks })
+}
+
+/// The task that the matches of the subcommand of this name say.
+fn task_of<'a>(name: &str, matches: &ArgMatches<'a>) -> Result<Task<'a>, NoOrder>
+    ensures { Tells result (name.now, rows_of (found_of matches.now)) }
+{
+    match name {
+        "run" => run_task(matches),
+        "play" => play_task(matches),
+        "serve" => serve_task(matches),
+        "check" => check_task(matches),
+        "survey" => survey_task(matches),
+        "picture" => picture_task(matches),
+        "report" => report_task(matches),
+        "import" => import_task(matches),
+        "export" => export_task(matches),
+        "explain" => Ok(Task::Explain {
+            what: value_at(matches, "what"),
+        }),
+        _ => Err(NoOrder::NotWhole),
+    }
+}
+
+/// What the matches say is wanted with the task.
+fn options_of<'a>(matches: &ArgMatches<'a>) -> Options<'a>
+    ensures { HasOptions result (rows_of (found_of matches.now)) }
+{
+    Options {
         save: value_at(matches, "save"),
         explained: flag_at(matches, "explain"),
         json: flag_at(matches, "json"),
         strict: flag_at(matches, "strict"),
         no_files: flag_at(matches, "no-files"),
-    })
-}
-
-/// What the matches of `serve` order.
-fn serve_order<'a>(matches: &ArgMatches<'a>) -> Result<Order<'a>, NoOrder>
-    ensures order { IfOk result (λ order. IsOrder order (Some (codes "serve", rows_of (found_of matches.now)))) }
-    ensures not_whole { result ≡ Err NoOrder.NotWhole → is_whole (codes "serve", rows_of (found_of matches.now)) ≡ false }
-    ensures workers { (explained : Bool) → result ≡ Err (NoOrder.Workers explained) → HasBadWorkers explained (Some (codes "serve", rows_of (found_of matches.now))) }
-{
-    let (Some(net), Some(seats)) = (value_at(matches, "net"), value_at(matches, "seats")) else {
-        return Err(NoOrder::NotWhole);
-    };
-    let explained = flag_at(matches, "explain");
-    let Some(workers) = workers_at(matches, 1) else {
-        return Err(NoOrder::Workers { explained });
-    };
-    let no_files = flag_at(matches, "no-files");
-    Ok(Order::Serve {
-        net,
-        seats,
-        workers,
-        save: value_at(matches, "save"),
-        explained,
-        json: flag_at(matches, "json"),
-        no_files,
-    })
-}
-
-/// What the matches of `check` order.
-fn check_order<'a>(matches: &ArgMatches<'a>) -> Option<Order<'a>>
-    ensures some { IfSome result (λ order. IsOrder order (Some (codes "check", rows_of (found_of matches.now)))) }
-    ensures none { result ≡ None → is_whole (codes "check", rows_of (found_of matches.now)) ≡ false }
-{
-    let net = value_at(matches, "net")?;
-    let warned = flag_at(matches, "warn");
-    let explained = flag_at(matches, "explain");
-    let json = flag_at(matches, "json");
-    Some(Order::Check {
-        net,
-        warned,
-        explained,
-        json,
-    })
-}
-
-/// What the matches of `survey` order.
-fn survey_order<'a>(matches: &ArgMatches<'a>) -> Option<Order<'a>>
-    ensures some { IfSome result (λ order. IsOrder order (Some (codes "survey", rows_of (found_of matches.now)))) }
-    ensures none { result ≡ None → is_whole (codes "survey", rows_of (found_of matches.now)) ≡ false }
-{
-    let net = value_at(matches, "net")?;
-    let points = flag_at(matches, "points");
-    let explained = flag_at(matches, "explain");
-    let json = flag_at(matches, "json");
-    Some(Order::Survey {
-        net,
-        points,
-        explained,
-        json,
-    })
-}
-
-/// What the matches of `picture` order.
-fn picture_order<'a>(matches: &ArgMatches<'a>) -> Option<Order<'a>>
-    ensures some { IfSome result (λ order. IsOrder order (Some (codes "picture", rows_of (found_of matches.now)))) }
-    ensures none { result ≡ None → is_whole (codes "picture", rows_of (found_of matches.now)) ≡ false }
-{
-    let net = value_at(matches, "net")?;
-    let about = value_at(matches, "about");
-    let svg = flag_at(matches, "svg");
-    let explained = flag_at(matches, "explain");
-    Some(Order::Picture {
-        net,
-        about,
-        svg,
-        explained,
-    })
-}
-
-/// What the matches of `report` order.
-fn report_order<'a>(matches: &ArgMatches<'a>) -> Option<Order<'a>>
-    ensures some { IfSome result (λ order. IsOrder order (Some (codes "report", rows_of (found_of matches.now)))) }
-    ensures none { result ≡ None → is_whole (codes "report", rows_of (found_of matches.now)) ≡ false }
-{
-    let net = value_at(matches, "net")?;
-    Some(Order::Report {
-        net,
-        about: value_at(matches, "about"),
-        explained: flag_at(matches, "explain"),
-    })
-}
-
-/// What the matches of `import` order.
-fn import_order<'a>(matches: &ArgMatches<'a>) -> Option<Order<'a>>
-    ensures some { IfSome result (λ order. IsOrder order (Some (codes "import", rows_of (found_of matches.now)))) }
-    ensures none { result ≡ None → is_whole (codes "import", rows_of (found_of matches.now)) ≡ false }
-{
-    let dir = value_at(matches, "dir")?;
-    let explained = flag_at(matches, "explain");
-    Some(Order::Import { dir, explained })
-}
-
-/// What the matches of `export` order.
-fn export_order<'a>(matches: &ArgMatches<'a>) -> Option<Order<'a>>
-    ensures some { IfSome result (λ order. IsOrder order (Some (codes "export", rows_of (found_of matches.now)))) }
-    ensures none { result ≡ None → is_whole (codes "export", rows_of (found_of matches.now)) ≡ false }
-{
-    let net = value_at(matches, "net")?;
-    let dir = value_at(matches, "dir")?;
-    let ranks = flag_at(matches, "ranks");
-    let explained = flag_at(matches, "explain");
-    Some(Order::Export {
-        net,
-        dir,
-        ranks,
-        explained,
-    })
-}
-
-/// What the matches of `explain` order.
-fn explain_order<'a>(matches: &ArgMatches<'a>) -> Order<'a>
-    ensures { IsOrder result (Some (codes "explain", rows_of (found_of matches.now))) }
-{
-    let what = value_at(matches, "what");
-    let json = flag_at(matches, "json");
-    Order::Explain { what, json }
+    }
 }
 
 /// What the matches order.
 pub(crate) fn order_of<'a>(matches: &ArgMatches<'a>) -> Result<Order<'a>, NoOrder>
     ensures order { IfOk result (λ order. IsOrder order (subcommand_rows_of matches.now)) }
+    ensures within { IfOk result IsWithin }
     ensures not_whole { result ≡ Err NoOrder.NotWhole → IfSome (subcommand_rows_of matches.now) (λ found. is_whole found ≡ false) }
-    ensures workers { (explained : Bool) → result ≡ Err (NoOrder.Workers explained) → HasBadWorkers explained (subcommand_rows_of matches.now) }
+    ensures workers { (explained : Bool) → result ≡ Err (NoOrder.Workers explained) → IsSomeAnd (subcommand_rows_of matches.now) (HasBadWorkers explained) }
 {
     let Some((name, inner)) = entered(matches) else {
         return Err(NoOrder::NotWhole);
     };
-    match name {
-        "run" => run_order(inner),
-        "play" => play_order(inner).ok_or(NoOrder::NotWhole),
-        "serve" => serve_order(inner),
-        "check" => check_order(inner).ok_or(NoOrder::NotWhole),
-        "survey" => survey_order(inner).ok_or(NoOrder::NotWhole),
-        "picture" => picture_order(inner).ok_or(NoOrder::NotWhole),
-        "report" => report_order(inner).ok_or(NoOrder::NotWhole),
-        "import" => import_order(inner).ok_or(NoOrder::NotWhole),
-        "export" => export_order(inner).ok_or(NoOrder::NotWhole),
-        "explain" => Ok(explain_order(inner)),
-        _ => Err(NoOrder::NotWhole),
-    }
+    let task = task_of(name, inner)?;
+    let options = options_of(inner);
+    Ok(Order { task, options })
 }

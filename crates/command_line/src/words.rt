@@ -11,95 +11,86 @@ use clap::error::ErrorKind;
 use clap::{ArgMatches, Command, Error};
 use std::alloc::Global;
 
-/// What a command line orders.
+/// What a command line orders: a task, and what is wanted with it.
 #[derive(Clone, Copy)]
-pub enum Order<'a> {
-    /// To answer the script on standard input from the network of a file, or of standard input itself where the file's
-    /// name is `-`, with this many worker threads beside it, 0 to 32, to write the network to a file then, if one is named,
-    /// to explain refused lines and faults, if that is wanted, to answer with JSON objects, if that is wanted, and to save
-    /// nothing and to end with status 1 if a line was refused, if that is wanted, and to write no files for the script, if that is wanted.
+pub struct Order<'a> {
+    /// What is to be done.
+    pub task: Task<'a>,
+    /// What is wanted with it.
+    pub options: Options<'a>,
+}
+
+/// What is to be done. `net` is always the file with the network.
+#[derive(Clone, Copy)]
+pub enum Task<'a> {
+    /// To answer the script on standard input with this many worker threads beside it, 0 to 32. The network is read from standard
+    /// input itself, in front of the script, where `net` is `-`.
     Run {
         net: &'a str,
         workers: u32,
-        save: Option<&'a str>,
-        explained: bool,
-        json: bool,
-        strict: bool,
-        no_files: bool,
     },
-    /// To answer the script of the file STEPS from the network of a file, to write the network to a file then, if one is named,
-    /// to explain refused lines and faults, if that is wanted, to answer with JSON objects, if that is wanted, and to save
-    /// nothing and to end with status 1 if a line was refused, if that is wanted, and to write no files for the script, if that is wanted.
+    /// To answer the script of the file `steps`.
     Play {
         net: &'a str,
         steps: &'a str,
-        save: Option<&'a str>,
-        explained: bool,
-        json: bool,
-        strict: bool,
-        no_files: bool,
     },
-    /// To answer the sessions that the file SEATS says at one desk over the network of a file, with this many worker threads beside
-    /// them, 0 to 32, to write the network to a file then, if one is named, to explain faults, if that is wanted, to answer with
-    /// JSON objects where a session doesn't say otherwise, if that is wanted, and to write no files for them, if that is wanted.
+    /// To answer the sessions that the file `seats` says at one desk, with this many worker threads beside them, 0 to 32.
     Serve {
         net: &'a str,
         seats: &'a str,
         workers: u32,
-        save: Option<&'a str>,
-        explained: bool,
-        json: bool,
-        no_files: bool,
     },
-    /// To check the settled tables of the network of a file, to warn of what a planner should look at, if that is wanted, to explain a
-    /// fault, if that is wanted, and to tell what was found as JSON objects, if that is wanted.
+    /// To check the settled tables of the network, and to warn of what a planner should look at, if that is wanted.
     Check {
         net: &'a str,
         warned: bool,
-        explained: bool,
-        json: bool,
     },
-    /// To survey the single failures of the network of a file, of its link sets or else of its transfer points, if that is wanted, to
-    /// explain a fault, if that is wanted, and to tell what was found as a JSON object, if that is wanted.
+    /// To survey the single failures of the network's link sets, or else of its transfer points, if `points`.
     Survey {
         net: &'a str,
         points: bool,
-        explained: bool,
-        json: bool,
     },
-    /// To draw the network of a file, as an SVG text or else as a Graphviz DOT text, with the traffic to this destination if
-    /// one is named, and to explain a fault, if that is wanted.
+    /// To draw the network, with the traffic to the destination `about` if there is one: as an SVG text if `svg`, else as a Graphviz
+    /// DOT text.
     Picture {
         net: &'a str,
         about: Option<&'a str>,
         svg: bool,
-        explained: bool,
     },
-    /// To write a report of the network of a file, with a picture of the traffic to this destination if one is named, and to explain a
-    /// fault, if that is wanted.
+    /// To write a report of the network, with a picture of the traffic to the destination `about` if there is one.
     Report {
         net: &'a str,
         about: Option<&'a str>,
-        explained: bool,
     },
-    /// To make a network text from the tables of a folder, and to explain a fault, if that is wanted.
+    /// To make a network text from the tables of the folder `dir`.
     Import {
         dir: &'a str,
-        explained: bool,
     },
-    /// To write the network of a file as tables in a folder, with the ranks of its rows, if that is wanted, and to explain a fault, if that
-    /// is wanted.
+    /// To write the network as tables in the folder `dir`, with the ranks of its rows if `ranks`.
     Export {
         net: &'a str,
         dir: &'a str,
         ranks: bool,
-        explained: bool,
     },
-    /// To tell what this number or name means, or what each of them means if none is given, in JSON objects if that is wanted.
+    /// To tell what the number or name `what` means, or what each of them means if there is none.
     Explain {
         what: Option<&'a str>,
-        json: bool,
     },
+}
+
+/// What is wanted with a task; what its subcommand hasn't is `None` or `false`.
+#[derive(Clone, Copy)]
+pub struct Options<'a> {
+    /// The file to which the network is written in the end, if one is named.
+    pub save: Option<&'a str>,
+    /// Whether to explain what is refused, and faults.
+    pub explained: bool,
+    /// Whether to answer with JSON objects.
+    pub json: bool,
+    /// Whether to save nothing and to end with status 1 if a line was refused.
+    pub strict: bool,
+    /// Whether to refuse what would write a file for a script.
+    pub no_files: bool,
 }
 
 /// Why a command line isn't read.
@@ -146,7 +137,6 @@ fn missing(alloc: Global) -> Error
 
 /// Reads the words of a command line, the program's name first. Words are refused for a fault of theirs that `clap` tells, for
 /// want of memory, or, if they have no fault, for a missing subcommand, or for a text that says no number of workers.
-#[tactic(auto, using(crate::proofs::CountLemmas::order_within))]
 pub fn read_words<'a>(alloc: Global, words: &'a [&'a str]) -> Result<Order<'a>, WordFault>
     ensures order { IfOk result (λ order. IsOrder order (subcommand_of desk_app (map (λ w. w.now) words.entry.now))) }
     ensures within { IfOk result IsWithin }

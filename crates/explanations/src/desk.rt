@@ -5,7 +5,7 @@ ghost use Rattle.answers.specs.DeskRefusals.{desk_name};
 ghost use Rattle.explanations.specs.Titles.{is_listed};
 
 use crate::edits::explain_edit;
-use crate::explanation::Explanation;
+use crate::explanation::{Explanation, PLAIN};
 use crate::faults::OUT_OF_MEMORY;
 use work_units::Refusal;
 
@@ -19,10 +19,9 @@ pub(crate) const OLD: Explanation = Explanation {
 
 pub(crate) const CLASH: Explanation = Explanation {
     title: "42 Clash",
-    values: "",
-    legend: "",
     meaning: "The sequence number is the collector's last, with another event.",
     action: "Look for two sources that post under one collector's number.",
+    ..PLAIN
 };
 
 pub(crate) const GAP: Explanation = Explanation {
@@ -35,34 +34,30 @@ pub(crate) const GAP: Explanation = Explanation {
 
 pub(crate) const END_OF_NUMBERS: Explanation = Explanation {
     title: "51 EndOfNumbers",
-    values: "",
-    legend: "",
     meaning: "The greatest number, 2^64 - 1, is taken.",
     action: "Start again from a saved network.",
+    ..PLAIN
 };
 
 pub(crate) const BACKLOG_FULL: Explanation = Explanation {
     title: "43 BacklogFull",
-    values: "",
-    legend: "",
     meaning: "65,536 accepted events are not yet published.",
     action: "Use `sync`, then send it again.",
+    ..PLAIN
 };
 
 pub(crate) const BUSY: Explanation = Explanation {
     title: "46 Busy",
-    values: "",
-    legend: "",
     meaning: "A target is open.",
     action: "Use `publish` first, or `sync`.",
+    ..PLAIN
 };
 
 pub(crate) const NOTHING: Explanation = Explanation {
     title: "45 Nothing",
-    values: "",
-    legend: "",
     meaning: "After `open`: no event is newer than the published version; after `take`: no target is open, or nothing waits.",
     action: "After `open`: do nothing; after `take`: use `open`, or `publish`.",
+    ..PLAIN
 };
 
 pub(crate) const STALE: Explanation = Explanation {
@@ -75,26 +70,23 @@ pub(crate) const STALE: Explanation = Explanation {
 
 pub(crate) const UNASKED: Explanation = Explanation {
     title: "48 Unasked",
-    values: "",
-    legend: "",
     meaning: "The destination of the result is not out: it was given or abandoned before.",
     action: "Drop it.",
+    ..PLAIN
 };
 
 pub(crate) const DIFFERS: Explanation = Explanation {
     title: "49 Differs",
-    values: "",
-    legend: "",
     meaning: "The result was worked out of something else than the target's network has.",
     action: "Drop it, and use `take` again.",
+    ..PLAIN
 };
 
 pub(crate) const NOT_OPEN: Explanation = Explanation {
     title: "52 NotOpen",
-    values: "",
-    legend: "",
     meaning: "No target is open.",
     action: "Use `open` first.",
+    ..PLAIN
 };
 
 pub(crate) const NOT_READY: Explanation = Explanation {

@@ -4,80 +4,71 @@ ghost use Rattle.std.specs.Prelude.{◌≡◌, true};
 ghost use Rattle.answers.specs.Refusals.{refusal_name};
 ghost use Rattle.explanations.specs.Titles.{is_listed};
 
-use crate::explanation::Explanation;
+use crate::explanation::{Explanation, PLAIN};
 use crate::faults::OUT_OF_MEMORY;
 use net_data::Refusal;
 
 pub(crate) const NO_POINT: Explanation = Explanation {
     title: "10 NoPoint",
-    values: "",
-    legend: "",
     meaning: "A point that is named is not in the network.",
     action: "Use `point add` first, or mend the code.",
+    ..PLAIN
 };
 
 pub(crate) const POINT_THERE: Explanation = Explanation {
     title: "11 PointThere",
-    values: "",
-    legend: "",
     meaning: "There is a point with that code.",
     action: "Do nothing, or take another code.",
+    ..PLAIN
 };
 
 pub(crate) const POINT_USED: Explanation = Explanation {
     title: "12 PointUsed",
-    values: "",
-    legend: "",
     meaning: "The point is an end of a set, or has a plan or a row.",
     action: "Drop its sets and plans, and its rows (`plan set` without them).",
+    ..PLAIN
 };
 
 pub(crate) const NOT_STP: Explanation = Explanation {
     title: "13 NotStp",
-    values: "",
-    legend: "",
     meaning: "One of the two is no transfer point.",
     action: "Name two transfer points: only they have mates.",
+    ..PLAIN
 };
 
 pub(crate) const PAIRED: Explanation = Explanation {
     title: "14 Paired",
-    values: "",
-    legend: "",
     meaning: "The point has a mate already.",
     action: "Use `unpair` first.",
+    ..PLAIN
 };
 
 pub(crate) const NOT_PAIRED: Explanation = Explanation {
     title: "15 NotPaired",
-    values: "",
-    legend: "",
     meaning: "The point has no mate.",
     action: "Do nothing.",
+    ..PLAIN
 };
 
 pub(crate) const PAIR_USED: Explanation = Explanation {
     title: "16 PairUsed",
-    values: "",
-    legend: "",
     meaning: "With `pair`: a row of one leads over the other towards a third point; with `unpair`: a row of one of them has the mate flag.",
     action: "Change those plans first.",
+    ..PLAIN
 };
 
 pub(crate) const NO_SET: Explanation = Explanation {
     title: "17 NoSet",
-    values: "",
-    legend: "",
     meaning: "There is no link set with that id.",
     action: "Mend the id.",
+    ..PLAIN
 };
 
 pub(crate) const SET_THERE: Explanation = Explanation {
     title: "18 SetThere",
-    values: "",
-    legend: "",
     meaning: "There is a link set with that id.",
     action: "Take another id.",
+    ..PLAIN
 };
 
 pub(crate) const JOINED: Explanation = Explanation {
@@ -90,58 +81,51 @@ pub(crate) const JOINED: Explanation = Explanation {
 
 pub(crate) const SAME_ENDS: Explanation = Explanation {
     title: "20 SameEnds",
-    values: "",
-    legend: "",
     meaning: "The two points are one.",
     action: "Mend the codes.",
+    ..PLAIN
 };
 
 pub(crate) const BAD_LINKS: Explanation = Explanation {
     title: "21 BadLinks",
-    values: "",
-    legend: "",
     meaning: "No link is named, more than 16 are, a code is above 15, or one code stands twice.",
     action: "Mend the codes.",
+    ..PLAIN
 };
 
 pub(crate) const NO_LINK: Explanation = Explanation {
     title: "22 NoLink",
-    values: "",
-    legend: "",
     meaning: "The set has no link with that code.",
     action: "Mend the code.",
+    ..PLAIN
 };
 
 pub(crate) const LINK_THERE: Explanation = Explanation {
     title: "23 LinkThere",
-    values: "",
-    legend: "",
     meaning: "The set has a link with that code.",
     action: "Take another code.",
+    ..PLAIN
 };
 
 pub(crate) const LAST_LINK: Explanation = Explanation {
     title: "24 LastLink",
-    values: "",
-    legend: "",
     meaning: "It is the set's only link.",
     action: "Use `set drop` instead.",
+    ..PLAIN
 };
 
 pub(crate) const SET_USED: Explanation = Explanation {
     title: "25 SetUsed",
-    values: "",
-    legend: "",
     meaning: "A row of one end leads over the other end, or relies on it as its mate.",
     action: "Change those plans first.",
+    ..PLAIN
 };
 
 pub(crate) const NO_PLAN: Explanation = Explanation {
     title: "26 NoPlan",
-    values: "",
-    legend: "",
     meaning: "The destination of the event or the question has no plan.",
     action: "Use `plan set` first.",
+    ..PLAIN
 };
 
 pub(crate) const BAD_ROW: Explanation = Explanation {
@@ -154,10 +138,9 @@ pub(crate) const BAD_ROW: Explanation = Explanation {
 
 pub(crate) const LIMIT: Explanation = Explanation {
     title: "28 Limit",
-    values: "",
-    legend: "",
     meaning: "There are more than 1,024 points, a set id is above 4,095, a rank is 0, there are more than four classes, or a class has no via or more than two.",
     action: "Stay within the limits.",
+    ..PLAIN
 };
 
 /// What a refusal of an event means.

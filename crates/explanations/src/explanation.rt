@@ -20,6 +20,15 @@ pub struct Explanation {
     pub action: &'static str,
 }
 
+/// What an explanation without values leaves empty.
+pub(crate) const PLAIN: Explanation = Explanation {
+    title: "",
+    values: "",
+    legend: "",
+    meaning: "",
+    action: "",
+};
+
 /// What stands between a title and its values.
 fn gap_before(values: &str) -> &'static str
     ensures { result.now ≡ the_gap values.now }

@@ -5,25 +5,23 @@ ghost use Rattle.explanations.specs.Names.{load_name, fault_name};
 ghost use Rattle.explanations.specs.Titles.{is_listed};
 
 use crate::edits::explain_edit;
-use crate::explanation::Explanation;
+use crate::explanation::{Explanation, PLAIN};
 use crate::lines::BAD_LINE;
 use net_text::LoadFault;
 use sessions::Fault;
 
 pub(crate) const OUT_OF_MEMORY: Explanation = Explanation {
     title: "1 OutOfMemory",
-    values: "",
-    legend: "",
     meaning: "Memory was refused.",
     action: "Give it more memory; nothing that was accepted is half done.",
+    ..PLAIN
 };
 
 pub(crate) const NOT_TOML: Explanation = Explanation {
     title: "60 NotToml",
-    values: "",
-    legend: "",
     meaning: "The network text is no TOML document.",
     action: "Mend the text.",
+    ..PLAIN
 };
 
 pub(crate) const BAD_KEY: Explanation = Explanation {
@@ -36,26 +34,23 @@ pub(crate) const BAD_KEY: Explanation = Explanation {
 
 pub(crate) const READ: Explanation = Explanation {
     title: "63 Read",
-    values: "",
-    legend: "",
     meaning: "A file or standard input can't be read, or a network text is longer than 134,217,728 bytes.",
     action: "Mend the name or the file.",
+    ..PLAIN
 };
 
 pub(crate) const WRITE: Explanation = Explanation {
     title: "64 Write",
-    values: "",
-    legend: "",
     meaning: "Standard output, the file of `--save` or that of a line can't be written.",
     action: "Make room for it, or name another file.",
+    ..PLAIN
 };
 
 pub(crate) const NO_PLACE: Explanation = Explanation {
     title: "50 NoPlace",
-    values: "",
-    legend: "",
     meaning: "Beside workers alone: there was no memory for the places of readers, or a version could be shared no further.",
     action: "Give it more memory; without `--workers` it doesn't come.",
+    ..PLAIN
 };
 
 /// What a fault of a network text means; of an entry that is refused, what that refusal means.

@@ -8,7 +8,7 @@ use route_state::excerpt::Frozen;
 use route_state::nets::{Kind, Net};
 use route_state::pools::Plain;
 use route_state::scripts::{
-    Channel, Order, Rules, ScriptEnd, SessionEnd, Silent, check_given, check_net, check_tables,
+    Channel, Rules, ScriptEnd, SessionEnd, Silent, Task, check_given, check_net, check_tables,
     read_net, read_words, run_beside, run_input, run_input_beside, run_script, run_seats,
     tables_of,
 };
@@ -192,8 +192,8 @@ fn runs_session<R: Threads + Wait + Sync>(rt: &R, alloc: Global) -> Option<bool>
 /// The words of a command line.
 fn reads_order(alloc: Global) -> Option<bool> {
     let words = ["route_desk", "run", "net.toml", "--workers", "4"];
-    match read_words(alloc, &words).ok()? {
-        Order::Run { net, workers, .. } => Some((net, workers) == ("net.toml", 4)),
+    match read_words(alloc, &words).ok()?.task {
+        Task::Run { net, workers } => Some((net, workers) == ("net.toml", 4)),
         _ => Some(false),
     }
 }

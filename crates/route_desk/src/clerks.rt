@@ -4,13 +4,13 @@ use crate::files::{Devices, save_text};
 use crate::notes::Notes;
 use crate::reasons::write_reason;
 use crate::streams::Seen;
-use crate::targets::{leads_to_any, own_file};
+use crate::targets::{is_same_file, leads_to_any, own_file};
 use answers::{Answer, Asked, Reason};
 use json_answers::{Clerk, Content, Outcome};
 use net_data::Net;
 use net_saving::save;
 use std::alloc::{AllocError, Global};
-use std::cell::RefCell;
+use std::cell::{RefCell, RefMut};
 use std::io;
 use std::io::ErrorKind;
 use std::path::Path;
@@ -18,17 +18,21 @@ use std::path::Path;
 /// Where the lines of a script come from, and where its answers go, if no files are named for them.
 const STREAMS: &[&str] = &["/dev/stdin", "/dev/stdout"];
 
+/// Which files a run reads or writes itself.
+#[derive(Clone, Copy)]
+pub struct OwnFiles<'a> {
+    /// The file of its network, if it has one.
+    net: Option<&'a str>,
+    /// The other names.
+    others: &'a [&'a str],
+}
+
 /// Which files the lines of a script may have written.
 #[derive(Clone, Copy)]
 pub enum Files<'a> {
-    /// All but those that the run reads or writes itself: the file of its network, in whose place a network goes if that is named as the
-    /// run was given it, and those of other names.
-    Allowed {
-        /// The file of the network, if it has one.
-        net: Option<&'a str>,
-        /// The other names.
-        others: &'a [&'a str],
-    },
+    /// All but those that the run reads or writes itself. In the place of its network a network goes, if that is named as the run was
+    /// given it.
+    Allowed(OwnFiles<'a>),
     /// None.
     Forbidden,
 }
@@ -39,16 +43,16 @@ impl<'a> Files<'a> {
         if no_files {
             return Files::Forbidden;
         }
-        Files::Allowed {
+        Files::Allowed(OwnFiles {
             net: None,
             others: &[],
-        }
+        })
     }
 
     /// The same for a run over the network of this file, which reads or writes those of other names itself.
     pub fn over(self, net: Option<&'a str>, others: &'a [&'a str]) -> Files<'a> {
         match self {
-            Files::Allowed { .. } => Files::Allowed { net, others },
+            Files::Allowed(_) => Files::Allowed(OwnFiles { net, others }),
             Files::Forbidden => Files::Forbidden,
         }
     }
@@ -67,60 +71,53 @@ fn is_picture(file: &str) -> bool {
     }
 }
 
-/// Writes a text to a file, unless the run reads or writes that itself: it has one of these names, or is that of standard input or output.
-fn write_sparing(rt: &HostRuntime, names: &[&str], file: &str, text: &str) -> io::Result<()> {
-    if leads_to_any(rt, file, names) || leads_to_any(rt, file, STREAMS) {
-        return Err(own_file());
+impl<'a> OwnFiles<'a> {
+    /// Whether a file is that of the run's network.
+    fn has_as_net(self, rt: &HostRuntime, file: &str) -> bool {
+        match self.net {
+            Some(net) => is_same_file(rt, file, net),
+            None => false,
+        }
     }
-    save_text(rt, file, text, Devices::Refused)
-}
 
-/// Writes a picture to its file, unless that has another ending or the run reads or writes it itself.
-fn write_picture(
-    rt: &HostRuntime,
-    net: Option<&str>,
-    others: &[&str],
-    file: &str,
-    picture: &str,
-) -> io::Result<()> {
-    if !is_picture(file) {
-        return Err(io::Error::new(
-            ErrorKind::InvalidInput,
-            "a picture's name ends in .svg, .dot or .gv",
-        ));
+    /// Writes a text to a file, unless it has one of the other names, or is that of standard input or output.
+    fn write_sparing(self, rt: &HostRuntime, file: &str, text: &str) -> io::Result<()> {
+        if leads_to_any(rt, file, self.others) || leads_to_any(rt, file, STREAMS) {
+            return Err(own_file());
+        }
+        save_text(rt, file, text, Devices::Refused)
     }
-    if net.is_some_and(|net| leads_to_any(rt, file, &[net])) {
-        return Err(own_file());
-    }
-    write_sparing(rt, others, file, picture)
-}
 
-/// Writes a network to its file, unless the run reads or writes that itself; in the place of the run's own network it goes by that name alone.
-fn write_net(
-    rt: &HostRuntime,
-    own: Option<&str>,
-    others: &[&str],
-    file: &str,
-    net: &Net,
-) -> io::Result<()> {
-    if own.is_some_and(|own| own != file && leads_to_any(rt, file, &[own])) {
-        return Err(own_file());
+    /// Writes a picture to its file, unless that has another ending or the run reads or writes it itself.
+    fn write_picture(self, rt: &HostRuntime, file: &str, picture: &str) -> io::Result<()> {
+        if !is_picture(file) {
+            return Err(io::Error::new(
+                ErrorKind::InvalidInput,
+                "a picture's name ends in .svg, .dot or .gv",
+            ));
+        }
+        if self.has_as_net(rt, file) {
+            return Err(own_file());
+        }
+        self.write_sparing(rt, file, picture)
     }
-    let text = save(rt.alloc(), net)?;
-    write_sparing(rt, others, file, text.as_str())
-}
 
-/// Puts what a line asks for into a file, where files may be written.
-fn write_content(
-    rt: &HostRuntime,
-    net: Option<&str>,
-    others: &[&str],
-    file: &str,
-    content: Content<'_>,
-) -> io::Result<()> {
-    match content {
-        Content::Picture(picture) => write_picture(rt, net, others, file, picture),
-        Content::Net(held) => write_net(rt, net, others, file, held),
+    /// Writes a network to its file, unless the run reads or writes that itself; in the place of the run's own network it goes by that
+    /// name alone.
+    fn write_net(self, rt: &HostRuntime, file: &str, net: &Net) -> io::Result<()> {
+        if self.net.is_some_and(|own| own != file) && self.has_as_net(rt, file) {
+            return Err(own_file());
+        }
+        let text = save(rt.alloc(), net)?;
+        self.write_sparing(rt, file, text.as_str())
+    }
+
+    /// Puts what a line asks for into a file.
+    fn write_content(self, rt: &HostRuntime, file: &str, content: Content<'_>) -> io::Result<()> {
+        match content {
+            Content::Picture(picture) => self.write_picture(rt, file, picture),
+            Content::Net(net) => self.write_net(rt, file, net),
+        }
     }
 }
 
@@ -140,13 +137,13 @@ pub fn put_content(
     file: &str,
     content: Content<'_>,
 ) -> Result<Filed, AllocError> {
-    let Files::Allowed { net, others } = files else {
+    let Files::Allowed(own) = files else {
         return Ok(Filed {
             outcome: Outcome::Forbidden,
             reason: Some(String::from_str(rt.alloc(), "no file is written: --no-files is given")),
         });
     };
-    match write_content(rt, net, others, file, content) {
+    match own.write_content(rt, file, content) {
         Ok(()) => Ok(Filed {
             outcome: Outcome::Written,
             reason: None,
@@ -172,13 +169,20 @@ pub struct ScriptClerk<'a> {
     pub notes: Option<&'a RefCell<Notes>>,
 }
 
+impl<'a> ScriptClerk<'a> {
+    /// The notes of the script, if its lines are explained.
+    fn notes(&self) -> Option<RefMut<'a, Notes>> {
+        self.notes?.try_borrow_mut().ok()
+    }
+}
+
 impl<'a> Clerk for ScriptClerk<'a> {
     fn explains(&self) -> bool {
         self.notes.is_some()
     }
 
     fn explain(&self, _alloc: Global, asked: Asked<'_>, why: Reason, net: &Net) {
-        if let Some(Ok(mut notes)) = self.notes.map(|notes| notes.try_borrow_mut()) {
+        if let Some(mut notes) = self.notes() {
             notes.explain(asked, why, net);
         }
     }
@@ -191,10 +195,7 @@ impl<'a> Clerk for ScriptClerk<'a> {
         content: Content<'_>,
     ) -> Result<Outcome, AllocError> {
         let filed = put_content(self.rt, self.allowed, file, content)?;
-        if let (Some(reason), Some(Ok(mut notes))) = (
-            filed.reason,
-            self.notes.map(|notes| notes.try_borrow_mut()),
-        ) {
+        if let (Some(reason), Some(mut notes)) = (filed.reason, self.notes()) {
             notes.give_reason(asked, reason);
         }
         Ok(filed.outcome)
@@ -204,7 +205,7 @@ impl<'a> Clerk for ScriptClerk<'a> {
         if let (Answer::Refused(_), Some(seen)) = (answer, self.counted) {
             seen.count_refusal();
         }
-        if let Some(Ok(mut notes)) = self.notes.map(|notes| notes.try_borrow_mut()) {
+        if let Some(mut notes) = self.notes() {
             notes.see(asked, answer);
         }
     }

@@ -1,64 +1,52 @@
-//! The picture of a network.
+//! The order `picture`: the picture of a network.
 
+use crate::loading::load_file;
+use crate::reports::{Done, Stop, Teller};
 use console::Fault;
 use excerpts::Frozen;
-use net_data::Net;
 use pictures::{PictureFault, write_dot, write_svg};
-use point_codes::{BadCode, PointCode};
-use std::alloc::Global;
+use point_codes::PointCode;
 
-/// Why there is no picture.
-#[derive(Clone, Copy)]
-pub enum NoPicture {
-    /// The network isn't loaded, or memory is wanting.
-    Fault(Fault),
-    /// It is asked about a destination without a plan.
-    NoPlan,
-}
-
-impl From<Fault> for NoPicture {
-    fn from(fault: Fault) -> NoPicture {
-        NoPicture::Fault(fault)
-    }
-}
-
-impl From<PictureFault> for NoPicture {
-    fn from(fault: PictureFault) -> NoPicture {
-        match fault {
-            PictureFault::NoPlan => NoPicture::NoPlan,
-            PictureFault::OutOfMemory => NoPicture::Fault(Fault::OutOfMemory),
+/// The destination that a picture is asked about, if one is named.
+pub fn read_about(teller: Teller<'_>, word: Option<&str>) -> Result<Option<PointCode>, Stop> {
+    let Some(word) = word else {
+        return Ok(None);
+    };
+    match PointCode::parse(word.as_bytes()) {
+        Ok(code) => Ok(Some(code)),
+        Err(_) => {
+            teller.say(&[
+                word,
+                ": a code is z-a-p, as 2-1-1: z 0 to 7, a 0 to 255, p 0 to 7",
+            ]);
+            Err(Stop::NoCode)
         }
     }
 }
 
-/// The destination that a picture is asked about, if one is named.
-pub fn read_about(word: Option<&str>) -> Result<Option<PointCode>, BadCode> {
-    match word {
-        Some(word) => Ok(Some(PointCode::parse(word.as_bytes())?)),
-        None => Ok(None),
-    }
+/// Why there is no picture about a destination without a plan, which is said if faults are explained.
+pub fn no_plan(teller: Teller<'_>, about: Option<&str>) -> Stop {
+    teller.say(&[
+        "the network has no plan of ",
+        about.unwrap_or(""),
+        "; a picture shows the traffic to a destination that has one",
+    ]);
+    Stop::NoPlan
 }
 
-/// A network that can be drawn.
-fn frozen(alloc: Global, net: Net) -> Result<Frozen, Fault> {
-    match Frozen::new(alloc, net) {
-        Ok(net) => Ok(net),
-        Err(_) => Err(Fault::OutOfMemory),
-    }
-}
-
-/// The picture of a network, as an SVG text or as a DOT text.
-pub fn picture_of(
-    alloc: Global,
-    net: Result<Net, Fault>,
-    about: Option<PointCode>,
-    svg: bool,
-) -> Result<String, NoPicture> {
-    let net = frozen(alloc, net?)?;
-    let text = if svg {
-        write_svg(alloc, &net, about, None)?
+/// Draws the network of a file, about a destination if one is named, as an SVG text or as a DOT text.
+pub fn draw(teller: Teller<'_>, net: &str, about: Option<&str>, svg: bool) -> Done {
+    let alloc = teller.alloc();
+    let code = read_about(teller, about)?;
+    let net = Frozen::new(alloc, load_file(teller, net)?)?;
+    let picture = if svg {
+        write_svg(alloc, &net, code, None)
     } else {
-        write_dot(alloc, &net, about, None)?
+        write_dot(alloc, &net, code, None)
     };
-    Ok(text)
+    match picture {
+        Ok(text) => teller.tell(Ok(text)),
+        Err(PictureFault::NoPlan) => Err(no_plan(teller, about)),
+        Err(PictureFault::OutOfMemory) => Err(Stop::Fault(Fault::OutOfMemory)),
+    }
 }

@@ -1,47 +1,38 @@
 //! The sections of a report that tell what surveys found.
 
+use crate::net_sentences::set_of;
 use crate::page::Page;
 use crate::sections::put_ends;
-use crate::standing::set_of;
 use answers::{name_of_warning, put_warning};
 use explanations::explain_warning;
 use net_data::Net;
-use std::alloc::{AllocError, Global};
-use what_if::{Effect, Single, Survey, Warning, Warnings};
+use std::alloc::AllocError;
+use what_if::{Effect, Single, Survey, Warning};
 
 /// Adds what failed alone, and between which points it is, if it is a set.
-fn put_single(alloc: Global, page: &mut Page, net: &Net, single: Single) -> Result<(), AllocError> {
+fn put_single(page: &mut Page, net: &Net, single: Single) -> Result<(), AllocError> {
     match single {
         Single::SetFails(id) | Single::SetRestored(id) => {
             page.put_number_cell(usize::from(id))?;
             match set_of(net, id) {
-                Some(set) => put_ends(alloc, page, set),
+                Some(set) => put_ends(page, set),
                 None => page.put_cell(""),
             }
         }
-        Single::PointFails(code) => {
-            let code = format!(in alloc; "{code}")?;
-            page.put_cell(code.as_str())
-        }
+        Single::PointFails(code) => page.put_code_cell(code),
     }
 }
 
 /// Adds what a single failure takes.
-fn put_effect(
-    alloc: Global,
-    page: &mut Page,
-    net: &Net,
-    effect: &Effect,
-) -> Result<(), AllocError> {
+fn put_effect(page: &mut Page, net: &Net, effect: &Effect) -> Result<(), AllocError> {
     page.put("<tr>")?;
-    put_single(alloc, page, net, effect.single)?;
+    put_single(page, net, effect.single)?;
     page.put_number_cell(effect.pairs)?;
     page.put("</tr>\n")
 }
 
 /// Adds what a survey found, below the heads of its table.
 fn put_survey(
-    alloc: Global,
     page: &mut Page,
     net: &Net,
     survey: &Survey,
@@ -50,22 +41,22 @@ fn put_survey(
 ) -> Result<(), AllocError> {
     let effects = survey.effects.as_slice();
     let (count, tried) = (effects.len(), survey.tried);
-    let text = format!(in alloc; "{count} of {tried} {kind} take something if they fail alone.")?;
+    let text = format!(in page.alloc;
+        "{count} of {tried} {kind} take something if they fail alone."
+    )?;
     page.put_paragraph(text.as_str())?;
     if effects.is_empty() {
         return Ok(());
     }
-    page.put("<div class=\"wide\"><table>\n")?;
-    page.put(heads)?;
+    page.begin_table(heads)?;
     for effect in effects {
-        put_effect(alloc, page, net, effect)?;
+        put_effect(page, net, effect)?;
     }
     page.end_table()
 }
 
 /// Adds what single failures take.
 pub fn put_failures(
-    alloc: Global,
     page: &mut Page,
     net: &Net,
     sets: &Survey,
@@ -76,7 +67,6 @@ pub fn put_failures(
         "What is taken is told in pairs of a point and a destination: the point leads its traffic there, and would lead it no more.",
     )?;
     put_survey(
-        alloc,
         page,
         net,
         sets,
@@ -84,7 +74,6 @@ pub fn put_failures(
         "link sets",
     )?;
     put_survey(
-        alloc,
         page,
         net,
         points,
@@ -99,29 +88,23 @@ fn is_of_shape(warning: &Warning) -> bool {
 }
 
 /// Adds a warning.
-fn put_warned(alloc: Global, page: &mut Page, warning: &Warning) -> Result<(), AllocError> {
-    let mut told = String::new(alloc);
+fn put_warned(page: &mut Page, warning: &Warning) -> Result<(), AllocError> {
+    let mut told = String::new(page.alloc);
     put_warning(&mut told, warning)?;
-    page.put("<tr>")?;
-    page.put_cell(told.as_str())?;
-    page.put("</tr>\n")
+    page.put_element("<tr><td>", told.as_str(), "</td></tr>\n")
 }
 
 /// Adds what a kind of warning means.
 fn put_meaning(page: &mut Page, warning: &Warning) -> Result<(), AllocError> {
     let explanation = explain_warning(warning);
-    page.put("<dt>")?;
-    page.put_words(explanation.title)?;
-    page.put(" ")?;
+    page.put_element("<dt>", explanation.title, " ")?;
     page.put_words(explanation.values)?;
-    page.put("</dt><dd>")?;
-    page.put_words(explanation.meaning)?;
-    page.put("</dd>\n")
+    page.put_element("</dt><dd>", explanation.meaning, "</dd>\n")
 }
 
 /// Adds what each kind of warning means that is among these, once.
-fn put_meanings(alloc: Global, page: &mut Page, warnings: &[Warning]) -> Result<(), AllocError> {
-    let mut told = Vec::new(alloc);
+fn put_meanings(page: &mut Page, warnings: &[Warning]) -> Result<(), AllocError> {
+    let mut told = Vec::new(page.alloc);
     page.put("<dl>\n")?;
     for warning in warnings {
         let name = name_of_warning(warning);
@@ -134,23 +117,22 @@ fn put_meanings(alloc: Global, page: &mut Page, warnings: &[Warning]) -> Result<
 }
 
 /// Adds what a planner should look at, besides single failures.
-pub fn put_warnings(alloc: Global, page: &mut Page, warnings: &Warnings) -> Result<(), AllocError> {
-    let warnings = warnings.as_slice();
+pub fn put_warnings(page: &mut Page, warnings: &[Warning]) -> Result<(), AllocError> {
     let count = warnings
         .iter()
         .filter(|warning| is_of_shape(*warning))
         .count();
-    let text = format!(in alloc; "{count} warnings besides the single failures.")?;
+    let text = format!(in page.alloc; "{count} warnings besides the single failures.")?;
     page.put_heading("Warnings")?;
     page.put_paragraph(text.as_str())?;
     if count == 0 {
         return Ok(());
     }
-    put_meanings(alloc, page, warnings)?;
-    page.put("<div class=\"wide\"><table>\n")?;
+    put_meanings(page, warnings)?;
+    page.begin_table("")?;
     for warning in warnings {
         if is_of_shape(warning) {
-            put_warned(alloc, page, warning)?;
+            put_warned(page, warning)?;
         }
     }
     page.end_table()

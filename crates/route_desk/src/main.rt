@@ -55,9 +55,9 @@ mod fresh;
 mod held_lines;
 mod keys;
 mod loading;
-mod missing;
+mod meanings;
+mod net_sentences;
 mod notes;
-mod orders;
 mod page;
 mod places;
 mod planning;
@@ -90,17 +90,18 @@ ghost use Rattle.command_line.specs.Words.{IsWithin};
 use checks::check;
 use clap::Error;
 use clerks::Files;
-use command_line::{Order, WordFault, read_words};
+use command_line::{Options, Order, Task, WordFault, read_words};
 use console::Fault;
-use endings::{Saving, finish};
+use drawing::draw;
 use json_answers::Form;
+use meanings::explain;
 use net_building::Surveyed;
-use orders::{draw, explain, export, import};
 use planning::report_net;
-use reports::{report, tell_bytes};
-use runs::{Manner, play_file, run_net};
-use saying::{say, write_lines};
-use seating::{SeatManner, serve_seats};
+use reports::{Done, Stop, Teller, end};
+use runs::{Manner, play, run};
+use saying::write_lines;
+use seating::serve_seats;
+use sheets::{export, import};
 use std::alloc::{AllocError, Global};
 use std::io::ErrorKind;
 use std::process::ExitCode;
@@ -134,7 +135,8 @@ fn text_of(alloc: Global, error: &Error) -> Result<Vec<u8>, AllocError> {
 fn refuse(rt: &HostRuntime, error: &Error) -> io::Result<ExitCode> {
     let text = text_of(rt.alloc(), error);
     if !error.use_stderr() {
-        return tell_bytes(rt, text, false);
+        let teller = Teller::brief(rt);
+        return end(teller, teller.tell_bytes(text));
     }
     match text {
         Ok(text) => rt.eprint(str::from_utf8(text.as_slice()).unwrap_or(""))?,
@@ -143,41 +145,19 @@ fn refuse(rt: &HostRuntime, error: &Error) -> io::Result<ExitCode> {
     Ok(ExitCode::from(2))
 }
 
-/// Runs the script on standard input, saves the network if a file is named, and says how the run ended.
-fn run(
-    rt: &HostRuntime,
-    threads: &(impl Threads + Wait + Sync),
-    net: &str,
-    workers: u32,
-    manner: Manner<'_>,
-) -> io::Result<ExitCode>
-    requires { workers ≤ 32 }
-{
-    match Saving::new(rt, manner.saved, manner.explained) {
-        Ok(saving) => finish(
-            rt,
-            run_net(rt, threads, net, workers, manner),
-            saving,
-            manner,
-        ),
-        Err(fault) => report(rt, Some(fault)),
+/// How a script or the answer to a question is told, by what the command line wants.
+fn manner_of<'a>(teller: Teller<'a>, options: Options<'a>) -> Manner<'a> {
+    Manner {
+        teller,
+        form: if options.json {
+            Form::Objects
+        } else {
+            Form::Text
+        },
+        strict: options.strict,
+        saved: options.save,
+        allowed: Files::of(options.no_files),
     }
-}
-
-/// The same for the script of a file.
-fn play(rt: &HostRuntime, net: &str, steps: &str, manner: Manner<'_>) -> io::Result<ExitCode> {
-    match Saving::new(rt, manner.saved, manner.explained) {
-        Ok(saving) => finish(rt, play_file(rt, net, steps, manner), saving, manner),
-        Err(fault) => report(rt, Some(fault)),
-    }
-}
-
-/// The form of the answers, by whether they are to be objects of JSON.
-fn form_of(json: bool) -> Form {
-    if json {
-        return Form::Objects;
-    }
-    Form::Text
 }
 
 /// What is surveyed, by whether it is to be transfer points.
@@ -189,117 +169,34 @@ fn surveyed_of(points: bool) -> Surveyed {
 }
 
 /// Does what the words of the command line ask for; a check, workers and sessions take threads.
-fn obey(
-    rt: &HostRuntime,
-    threads: &(impl Threads + Wait + Sync),
-    order: Order,
-) -> io::Result<ExitCode>
+fn obey(teller: Teller<'_>, threads: &(impl Threads + Wait + Sync), order: Order<'_>) -> Done
     requires { IsWithin order }
 {
-    match order {
-        Order::Run {
-            net,
-            workers,
-            save,
-            explained,
-            json,
-            strict,
-            no_files,
-        } => {
-            let manner = Manner {
-                explained,
-                form: form_of(json),
-                strict,
-                saved: save,
-                allowed: Files::of(no_files),
-            };
-            run(rt, threads, net, workers, manner)
-        }
-        Order::Play {
-            net,
-            steps,
-            save,
-            explained,
-            json,
-            strict,
-            no_files,
-        } => {
-            let manner = Manner {
-                explained,
-                form: form_of(json),
-                strict,
-                saved: save,
-                allowed: Files::of(no_files),
-            };
-            play(rt, net, steps, manner)
-        }
-        Order::Serve {
+    let manner = manner_of(teller, order.options);
+    match order.task {
+        Task::Run { net, workers } => run(threads, net, workers, manner),
+        Task::Play { net, steps } => play(net, steps, manner),
+        Task::Serve {
             net,
             seats,
             workers,
-            save,
-            explained,
-            json,
-            no_files,
-        } => {
-            let manner = SeatManner {
-                explained,
-                form: form_of(json),
-                allowed: Files::of(no_files),
-            };
-            serve_seats(rt, threads, net, seats, workers, save, manner)
+        } => serve_seats(threads, net, seats, workers, manner),
+        Task::Check { net, warned } => check(teller, threads, net, warned, manner.form),
+        Task::Survey { net, points } => {
+            survey(teller, threads, net, surveyed_of(points), manner.form)
         }
-        Order::Check {
-            net,
-            warned,
-            explained,
-            json,
-        } => check(rt, threads, net, warned, explained, json),
-        Order::Survey {
-            net,
-            points,
-            explained,
-            json,
-        } => survey(
-            rt,
-            threads,
-            net,
-            surveyed_of(points),
-            explained,
-            form_of(json),
-        ),
-        Order::Picture {
-            net,
-            about,
-            svg,
-            explained,
-        } => draw(rt, net, about, svg, explained),
-        Order::Report {
-            net,
-            about,
-            explained,
-        } => report_net(rt, threads, net, about, explained),
-        Order::Import { dir, explained } => import(rt, dir, explained),
-        Order::Export {
-            net,
-            dir,
-            ranks,
-            explained,
-        } => export(rt, net, dir, ranks, explained),
-        Order::Explain { what, json } => explain(rt, what, json),
+        Task::Picture { net, about, svg } => draw(teller, net, about, svg),
+        Task::Report { net, about } => report_net(teller, threads, net, about),
+        Task::Import { dir } => import(teller, dir),
+        Task::Export { net, dir, ranks } => export(teller, net, dir, ranks),
+        Task::Explain { what } => explain(teller, what, order.options.json),
     }
 }
 
-/// Says that the number of workers is none, and which numbers there are if that is wanted.
-fn refuse_workers(rt: &HostRuntime, explained: bool) -> io::Result<ExitCode> {
-    if explained {
-        say(
-            rt,
-            &["N is a number from 0 to 32, without sign or leading zeros, as --workers 4"],
-        );
-    }
-    eprintln!(rt; "route_desk: workers")?;
-    Ok(ExitCode::from(2))
+/// Why the number of workers is none: which numbers there are is said if faults are explained.
+fn no_workers(teller: Teller<'_>) -> Stop {
+    teller.say(&["N is a number from 0 to 32, without sign or leading zeros, as --workers 4"]);
+    Stop::NoWorkers
 }
 
 /// Reads the words of the command line, and does what they ask for.
@@ -309,28 +206,34 @@ fn follow(
     words: &[&str],
 ) -> io::Result<ExitCode> {
     match read_words(rt.alloc(), words) {
-        Ok(order) => obey(rt, threads, order),
+        Ok(order) => {
+            let explained = order.options.explained;
+            let teller = Teller { rt, explained };
+            end(teller, obey(teller, threads, order))
+        }
         Err(WordFault::Clap(error)) => refuse(rt, &error),
-        Err(WordFault::Workers { explained }) => refuse_workers(rt, explained),
+        Err(WordFault::Workers { explained }) => {
+            let teller = Teller { rt, explained };
+            end(teller, Err(no_workers(teller)))
+        }
     }
 }
 
-/// Says why the words of the command line can't be fetched.
-fn report_unread(rt: &HostRuntime, error: &io::Error) -> io::Result<ExitCode> {
+/// Why the words of the command line can't be fetched.
+fn unfetched(error: &io::Error) -> Stop {
     if error.kind() == ErrorKind::InvalidData {
-        eprintln!(rt; "route_desk: an argument isn't UTF-8")?;
-        return Ok(ExitCode::from(2));
+        return Stop::NotUtf8;
     }
-    report(rt, Some(Fault::OutOfMemory))
+    Stop::Fault(Fault::OutOfMemory)
 }
 
 fn main(rt: HostRuntime) -> io::Result<ExitCode> {
     let words = match fetch_words(&rt) {
         Ok(words) => words,
-        Err(error) => return report_unread(&rt, &error),
+        Err(error) => return end(Teller::brief(&rt), Err(unfetched(&error))),
     };
     match texts(rt.alloc(), words.as_slice()) {
         Ok(texts) => follow(&rt, &rt, texts.as_slice()),
-        Err(_) => report(&rt, Some(Fault::OutOfMemory)),
+        Err(refused) => end(Teller::brief(&rt), Err(refused.into())),
     }
 }

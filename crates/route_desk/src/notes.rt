@@ -1,9 +1,11 @@
 //! What there is to say of the lines of a script that are refused.
 
+use crate::reports::Teller;
 use crate::sentences::{sentence_of, write_sentence};
 use answers::{Answer, Asked, Reason};
 use net_data::Net;
 use std::alloc::{AllocError, Global};
+use std::cell::RefCell;
 use std::mem::replace;
 
 /// Notes of a script: what there is to say of its refused lines.
@@ -39,24 +41,27 @@ fn text_in(read: &[u8]) -> &[u8] {
 }
 
 impl Notes {
-    /// Notes of a script.
-    pub fn of_script(alloc: Global) -> Notes {
-        Notes {
-            alloc,
-            read: None,
-            sentence: None,
-            unsaid: String::new(alloc),
+    /// Notes of a script or of an input of which this was read, if refused lines are to be explained.
+    fn of(teller: Teller<'_>, read: Option<Vec<u8>>) -> Option<RefCell<Notes>> {
+        if !teller.explained {
+            return None;
         }
+        Some(RefCell::new(Notes {
+            alloc: teller.alloc(),
+            read,
+            sentence: None,
+            unsaid: String::new(teller.alloc()),
+        }))
     }
 
-    /// Notes of an input that starts with a network text.
-    pub fn of_input(alloc: Global) -> Notes {
-        Notes {
-            alloc,
-            read: Some(Vec::new(alloc)),
-            sentence: None,
-            unsaid: String::new(alloc),
-        }
+    /// Notes of a script, if refused lines are to be explained.
+    pub fn of_script(teller: Teller<'_>) -> Option<RefCell<Notes>> {
+        Notes::of(teller, None)
+    }
+
+    /// Notes of an input that starts with a network text, if refused lines are to be explained.
+    pub fn of_input(teller: Teller<'_>) -> Option<RefCell<Notes>> {
+        Notes::of(teller, Some(Vec::new(teller.alloc())))
     }
 
     /// The network text of an input, of which no line was answered.

@@ -1,5 +1,6 @@
 //! A page of HTML as it grows. It has no script, and needs no file beside it.
 
+use point_codes::PointCode;
 use std::alloc::{AllocError, Global};
 
 /// How the page looks on a screen, on a phone and on paper. A picture keeps its size on a phone, where it is moved sideways, and that of
@@ -22,7 +23,8 @@ footer { border-top: 1px solid #999999; margin-top: 2rem; font-size: 0.85rem }
 /// A page as far as it is written.
 #[derive(Drop)]
 pub struct Page {
-    alloc: Global,
+    /// Where its memory comes from.
+    pub alloc: Global,
     text: String,
 }
 
@@ -60,46 +62,27 @@ impl Page {
         Ok(())
     }
 
-    /// Adds a number.
-    pub fn put_number(&mut self, number: usize) -> Result<(), AllocError> {
-        let digits = format!(in self.alloc; "{number}")?;
-        self.text.push_str(digits.as_str())
+    /// Adds words between the marks of an element.
+    pub fn put_element(&mut self, begin: &str, words: &str, end: &str) -> Result<(), AllocError> {
+        self.put(begin)?;
+        self.put_words(words)?;
+        self.put(end)
     }
 
     /// Adds a heading of a section.
     pub fn put_heading(&mut self, words: &str) -> Result<(), AllocError> {
-        self.put("<h2>")?;
-        self.put_words(words)?;
-        self.put("</h2>\n")
+        self.put_element("<h2>", words, "</h2>\n")
     }
 
     /// Adds a paragraph.
     pub fn put_paragraph(&mut self, words: &str) -> Result<(), AllocError> {
-        self.put("<p>")?;
-        self.put_words(words)?;
-        self.put("</p>\n")
+        self.put_element("<p>", words, "</p>\n")
     }
 
-    /// Begins a table with these heads, of which the last stand over numbers, from a place on.
-    pub fn begin_table(
-        &mut self,
-        caption: &str,
-        heads: &[&str],
-        numbers_from: usize,
-    ) -> Result<(), AllocError> {
-        self.put("<div class=\"wide\"><table><caption>")?;
-        self.put_words(caption)?;
-        self.put("</caption>\n<tr>")?;
-        for (at, head) in heads.iter().enumerate() {
-            self.put(if at < numbers_from {
-                "<th>"
-            } else {
-                "<th class=\"n\">"
-            })?;
-            self.put_words(*head)?;
-            self.put("</th>")?;
-        }
-        self.put("</tr>\n")
+    /// Begins a table with these heads, as markup.
+    pub fn begin_table(&mut self, heads: &str) -> Result<(), AllocError> {
+        self.put("<div class=\"wide\"><table>\n")?;
+        self.put(heads)
     }
 
     /// Ends a table.
@@ -109,38 +92,39 @@ impl Page {
 
     /// Adds a cell with words.
     pub fn put_cell(&mut self, words: &str) -> Result<(), AllocError> {
-        self.put("<td>")?;
-        self.put_words(words)?;
-        self.put("</td>")
+        self.put_element("<td>", words, "</td>")
+    }
+
+    /// Adds a cell with the code of a point.
+    pub fn put_code_cell(&mut self, code: PointCode) -> Result<(), AllocError> {
+        let words = format!(in self.alloc; "{code}")?;
+        self.put_cell(words.as_str())
     }
 
     /// Adds a cell with a number.
     pub fn put_number_cell(&mut self, number: usize) -> Result<(), AllocError> {
-        self.put("<td class=\"n\">")?;
-        self.put_number(number)?;
-        self.put("</td>")
+        let digits = format!(in self.alloc; "{number}")?;
+        self.put_element("<td class=\"n\">", digits.as_str(), "</td>")
     }
 
     /// Begins the page of a title.
     pub fn begin(&mut self, title: &str) -> Result<(), AllocError> {
         self.put("<!DOCTYPE html>\n<html lang=\"en\">\n<head>\n<meta charset=\"utf-8\">\n")?;
-        self.put(
+        self.put_element(
             "<meta name=\"viewport\" content=\"width=device-width, initial-scale=1\">\n<title>",
+            title,
+            "</title>\n<style>\n",
         )?;
-        self.put_words(title)?;
-        self.put("</title>\n<style>\n")?;
         self.put(STYLE)?;
-        self.put("</style>\n</head>\n<body>\n<h1>")?;
-        self.put_words(title)?;
-        self.put("</h1>\n")
+        self.put_element("</style>\n</head>\n<body>\n<h1>", title, "</h1>\n")
     }
 
     /// Ends the page.
     pub fn end(&mut self) -> Result<(), AllocError> {
-        self.put("<footer><p>")?;
-        self.put_words(
+        self.put_element(
+            "<footer><p>",
             "Written by route_desk from the network text alone. The numbers are those that the words show, statuses, survey and warn of a script tell.",
-        )?;
-        self.put("</p></footer>\n</body>\n</html>\n")
+            "</p></footer>\n</body>\n</html>\n",
+        )
     }
 }

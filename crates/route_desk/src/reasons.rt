@@ -2,7 +2,7 @@
 
 use crate::keys::{KeyForm, Keys, entry_at, entry_without_text, form_of, name_of, nearest};
 use crate::places::{Place, place_at, place_of};
-use crate::saying::say;
+use crate::reports::Teller;
 use crate::sentences::front_of;
 use console::Fault;
 use explanations::{explain_cause, explain_edit};
@@ -22,16 +22,16 @@ pub struct Wrong {
 }
 
 /// Says what is wrong with a text, and where, if that is known.
-pub fn tell(rt: &HostRuntime, name: &str, wrong: Result<Wrong, AllocError>) {
+pub fn tell(teller: Teller<'_>, name: &str, wrong: Result<Wrong, AllocError>) {
     let Ok(wrong) = wrong else {
         return;
     };
     let sentence = wrong.sentence.as_str();
     let Some(Place { line, column }) = wrong.place else {
-        return say(rt, &[name, ": ", sentence]);
+        return teller.say(&[name, ": ", sentence]);
     };
-    if let Ok(place) = format!(in rt.alloc(); ": line {line}, column {column}: ") {
-        say(rt, &[name, place.as_str(), sentence]);
+    if let Ok(place) = format!(in teller.alloc(); ": line {line}, column {column}: ") {
+        teller.say(&[name, place.as_str(), sentence]);
     }
 }
 
@@ -128,12 +128,17 @@ pub fn write_value(alloc: Global, table: &Table, form: &KeyForm) -> Result<Strin
     }
 }
 
+/// The document of a text that is one.
+pub fn table_of(alloc: Global, bytes: &[u8]) -> Result<Table, AllocError> {
+    match toml::table_from_slice(alloc, bytes) {
+        Ok(table) => Ok(table),
+        Err(_) => Err(AllocError),
+    }
+}
+
 /// What is wrong with a key of a text.
 fn wrong_key(alloc: Global, bytes: &[u8], key: Key) -> Result<Wrong, AllocError> {
-    let table = match toml::table_from_slice(alloc, bytes) {
-        Ok(table) => table,
-        Err(_) => return Err(AllocError),
-    };
+    let table = table_of(alloc, bytes)?;
     let Some(form) = name_of(key).and_then(|name| form_of(Keys::Network, name)) else {
         return wrong_name(alloc, Keys::Network, bytes, &table);
     };
@@ -147,11 +152,7 @@ fn wrong_key(alloc: Global, bytes: &[u8], key: Key) -> Result<Wrong, AllocError>
 fn write_row(alloc: Global, point: PointCode, cause: Cause) -> Result<String, AllocError> {
     let explained = explain_cause(cause);
     let (meaning, action) = (explained.meaning, explained.action);
-    let mut text = String::from_str(alloc, "the row of ")?;
-    point.put_text(alloc, &mut text)?;
-    let rest = format!(in alloc; " can't be in that plan. {meaning} {action}")?;
-    text.push_str(rest.as_str())?;
-    Ok(text)
+    format!(in alloc; "the row of {point} can't be in that plan. {meaning} {action}")
 }
 
 /// What an entry of a network text, or a line of a table, is refused for, and what to do there.
@@ -187,14 +188,8 @@ fn wrong_entry(
 ) -> Result<Wrong, AllocError> {
     let sentence = sentence?;
     let (name, sentence) = (name_of(key).unwrap_or(""), sentence.as_str());
-    let entry = match toml::table_from_slice(alloc, bytes) {
-        Ok(table) => String::from_str(
-            alloc,
-            front_of(entry_at(&table, name, place).unwrap_or("")),
-        )?,
-        Err(_) => return Err(AllocError),
-    };
-    let entry = entry.as_str();
+    let table = table_of(alloc, bytes)?;
+    let entry = front_of(entry_at(&table, name, place).unwrap_or(""));
     Ok(Wrong {
         place: place_of(bytes, name, place),
         sentence: format!(in alloc; "{name} {place} (\"{entry}\"): {sentence}")?,
@@ -209,20 +204,28 @@ fn write_unread(alloc: Global, key: Key) -> Result<String, AllocError> {
 }
 
 /// Says what is wrong with a network text, where, and what to do.
-pub fn explain_text(rt: &HostRuntime, name: &str, bytes: &[u8], fault: Fault) {
-    let alloc = rt.alloc();
+pub fn explain_text(teller: Teller<'_>, name: &str, bytes: &[u8], fault: Fault) {
+    let alloc = teller.alloc();
     match fault {
-        Fault::Load(LoadFault::NotToml) => tell(rt, name, wrong_document(alloc, bytes)),
-        Fault::Load(LoadFault::BadKey(key)) => tell(rt, name, wrong_key(alloc, bytes, key)),
+        Fault::Load(LoadFault::NotToml) => tell(teller, name, wrong_document(alloc, bytes)),
+        Fault::Load(LoadFault::BadKey(key)) => tell(teller, name, wrong_key(alloc, bytes, key)),
         Fault::Load(LoadFault::BadLine(key, place)) => {
             let sentence = write_unread(alloc, key);
-            tell(rt, name, wrong_entry(alloc, bytes, key, place, sentence))
+            tell(
+                teller,
+                name,
+                wrong_entry(alloc, bytes, key, place, sentence),
+            )
         }
         Fault::Load(LoadFault::Refused(key, place, refusal)) => {
             let sentence = write_refused(alloc, &refusal);
-            tell(rt, name, wrong_entry(alloc, bytes, key, place, sentence))
+            tell(
+                teller,
+                name,
+                wrong_entry(alloc, bytes, key, place, sentence),
+            )
         }
-        _ => explain_fault(rt, fault),
+        _ => teller.explain_fault(fault),
     }
 }
 
@@ -239,16 +242,4 @@ pub fn write_reason(alloc: Global, name: &str, error: &io::Error) -> Result<Stri
     let text = format!(in alloc; "{error}")?;
     let reason = reason_in(text.as_str());
     format!(in alloc; "{name}: {reason}")
-}
-
-/// Says why a file can't be read or written.
-pub fn explain_file(rt: &HostRuntime, name: &str, error: &io::Error) {
-    if let Ok(text) = write_reason(rt.alloc(), name, error) {
-        say(rt, &[text.as_str()]);
-    }
-}
-
-/// Says what a fault of a run means.
-pub fn explain_fault(rt: &HostRuntime, fault: Fault) {
-    say(rt, &[explanations::explain_fault(&fault).meaning]);
 }

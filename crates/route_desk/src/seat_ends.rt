@@ -1,5 +1,6 @@
 //! How the sessions of seats end, which is told at once while others go on.
 
+use crate::reports::Teller;
 use crate::seat_reports::tell_end;
 use crate::seat_text::SeatEntry;
 use crate::streams::Seen;
@@ -50,6 +51,10 @@ impl<'a, T: Wait> Farewell for SeatEnds<'a, T> {
             return;
         };
         let mut is_any = self.is_any.lock(self.threads);
-        *is_any |= tell_end(self.rt, entry, seen, fault, self.explained);
+        let teller = Teller {
+            rt: self.rt,
+            explained: self.explained,
+        };
+        *is_any |= tell_end(teller, entry, seen, fault);
     }
 }

@@ -1,7 +1,7 @@
 //! What is wrong with the text SEATS, and how it is told.
 
 use crate::seat_text::SeatEntry;
-use std::alloc::{AllocError, Global};
+use std::alloc::{AllocError, AllocFailed, Global};
 
 /// So many seats there are at most.
 pub const MOST_SEATS: usize = 60;
@@ -44,6 +44,12 @@ pub enum SeatsFault {
     BadLine(usize, Flaw),
     /// 1: memory was refused.
     OutOfMemory,
+}
+
+impl<T: Drop> From<AllocFailed<T>> for SeatsFault {
+    fn from(_refused: AllocFailed<T>) -> SeatsFault {
+        SeatsFault::OutOfMemory
+    }
 }
 
 /// The fault of an entry that is wrong, by its place from 0.

@@ -3,7 +3,8 @@
 use crate::seat_faults::Flaw;
 use crate::seat_text::SeatEntry;
 use crate::targets::{Target, leads_to_any, own_file, target_of};
-use std::alloc::AllocError;
+use console::Fault;
+use std::alloc::{AllocError, AllocFailed};
 use std::fs::{File, Metadata, OpenOptions};
 use std::io::ErrorKind;
 use std::os::fd::AsRawFd;
@@ -37,10 +38,8 @@ pub enum OutputKind {
 pub enum StreamFault {
     /// The entry in this place, counted from 0, is wrong.
     Entry(usize, Flaw),
-    /// The input of the seat in this place can't be read, for what the system says.
-    Read(usize, io::Error),
-    /// The output of the seat in this place can't be written, for what the system says.
-    Write(usize, io::Error),
+    /// The input or the output of the seat in this place fails with this fault, for what the system says.
+    File(usize, Fault, io::Error),
     /// Memory was refused.
     OutOfMemory,
 }
@@ -51,21 +50,19 @@ impl From<AllocError> for StreamFault {
     }
 }
 
-impl StreamFault {
-    /// The fault of the seat in this place whose input can't be read, or of the want of memory for that.
-    fn of_input(place: usize, error: io::Error) -> StreamFault {
-        if error.kind() == ErrorKind::OutOfMemory {
-            return StreamFault::OutOfMemory;
-        }
-        StreamFault::Read(place, error)
+impl<T: Drop> From<AllocFailed<T>> for StreamFault {
+    fn from(_refused: AllocFailed<T>) -> StreamFault {
+        StreamFault::OutOfMemory
     }
+}
 
-    /// The fault of the seat in this place whose output can't be written, or of the want of memory for that.
-    fn of_output(place: usize, error: io::Error) -> StreamFault {
+impl StreamFault {
+    /// The fault of the seat in this place whose input or output fails so, or of the want of memory for that.
+    fn of(place: usize, fault: Fault, error: io::Error) -> StreamFault {
         if error.kind() == ErrorKind::OutOfMemory {
             return StreamFault::OutOfMemory;
         }
-        StreamFault::Write(place, error)
+        StreamFault::File(place, fault, error)
     }
 }
 
@@ -106,9 +103,7 @@ pub fn hold_closed(rt: &HostRuntime) -> Result<Vec<File>, AllocError> {
             Err(error) if error.kind() == ErrorKind::OutOfMemory => return Err(AllocError),
             _ => break,
         };
-        if held.push(file).is_err() {
-            return Err(AllocError);
-        }
+        held.push(file)?;
     }
     Ok(held)
 }
@@ -159,31 +154,23 @@ fn kind_of(entry: &SeatEntry, is_fifo: bool) -> Result<InputKind, Flaw> {
     }
 }
 
-/// What the input of the entry in a place is, if it can be read as far as that is known.
-fn input_of(rt: &HostRuntime, place: usize, entry: &SeatEntry) -> Result<InputKind, StreamFault> {
-    let name = entry.input.as_str();
-    if let Err(error) = try_input(rt, name) {
-        return Err(StreamFault::of_input(place, error));
-    }
-    match is_fifo(rt, name) {
-        Ok(is_fifo) => kind_of(entry, name != "-" && is_fifo).map_err(|flaw| StreamFault::Entry(
-            place, flaw,
-        )),
-        Err(error) => Err(StreamFault::of_input(place, error)),
-    }
+/// Whether an input is a FIFO, if it can be read as far as that is known.
+fn tried_input(rt: &HostRuntime, name: &str) -> io::Result<bool> {
+    try_input(rt, name)?;
+    Ok(name != "-" && is_fifo(rt, name)?)
 }
 
 /// What the inputs of all entries are.
 pub fn inputs_of(rt: &HostRuntime, entries: &[SeatEntry]) -> Result<Vec<InputKind>, StreamFault> {
     let mut kinds = Vec::with_capacity(rt.alloc(), entries.len())?;
     for (place, entry) in entries.iter().enumerate() {
-        match input_of(rt, place, entry) {
-            Ok(kind) => {
-                if kinds.push(kind).is_err() {
-                    return Err(StreamFault::OutOfMemory);
-                }
-            }
-            Err(fault) => return Err(fault),
+        let is_fifo = match tried_input(rt, entry.input.as_str()) {
+            Ok(is_fifo) => is_fifo,
+            Err(error) => return Err(StreamFault::of(place, Fault::Read, error)),
+        };
+        match kind_of(entry, is_fifo) {
+            Ok(kind) => kinds.push(kind)?,
+            Err(flaw) => return Err(StreamFault::Entry(place, flaw)),
         }
     }
     Ok(kinds)
@@ -220,12 +207,8 @@ fn open_outputs(rt: &HostRuntime, entries: &[SeatEntry]) -> Result<Vec<OutputKin
     let mut outputs = Vec::with_capacity(rt.alloc(), entries.len())?;
     for (place, entry) in entries.iter().enumerate() {
         match open_output(rt, entry.output.as_str()) {
-            Ok(output) => {
-                if outputs.push(output).is_err() {
-                    return Err(StreamFault::OutOfMemory);
-                }
-            }
-            Err(error) => return Err(StreamFault::of_output(place, error)),
+            Ok(output) => outputs.push(output)?,
+            Err(error) => return Err(StreamFault::of(place, Fault::Write, error)),
         }
     }
     Ok(outputs)
@@ -259,16 +242,14 @@ fn identity_of(rt: &HostRuntime, name: &str) -> Result<Option<Identity>, AllocEr
 }
 
 /// Notes which file a name leads to; whether that was noted before.
-fn is_noted(rt: &HostRuntime, noted: &mut Vec<Identity>, name: &str) -> Result<bool, StreamFault> {
+fn is_noted(rt: &HostRuntime, noted: &mut Vec<Identity>, name: &str) -> Result<bool, AllocError> {
     let Some(identity) = identity_of(rt, name)? else {
         return Ok(false);
     };
     if noted.as_slice().contains(&identity) {
         return Ok(true);
     }
-    if noted.push(identity).is_err() {
-        return Err(StreamFault::OutOfMemory);
-    }
+    noted.push(identity)?;
     Ok(false)
 }
 
@@ -291,7 +272,7 @@ fn find_own(rt: &HostRuntime, entries: &[SeatEntry], own: &[&str]) -> Result<(),
     for (place, entry) in entries.iter().enumerate() {
         let name = entry.output.as_str();
         if name != "-" && leads_to_any(rt, name, own) {
-            return Err(StreamFault::Write(place, own_file()));
+            return Err(StreamFault::File(place, Fault::Write, own_file()));
         }
     }
     Ok(())
@@ -302,7 +283,7 @@ fn cut(outputs: &[OutputKind]) -> Result<(), StreamFault> {
     for (place, output) in outputs.iter().enumerate() {
         if let OutputKind::File(file) = output {
             if let Err(error) = file.set_len(0) {
-                return Err(StreamFault::of_output(place, error));
+                return Err(StreamFault::of(place, Fault::Write, error));
             }
         }
     }
@@ -316,7 +297,10 @@ pub fn outputs_of(
     entries: &[SeatEntry],
     own: &[&str],
 ) -> Result<Vec<OutputKind>, StreamFault> {
-    let outputs = open_outputs(rt, entries)?;
+    let outputs = match open_outputs(rt, entries) {
+        Ok(outputs) => outputs,
+        Err(fault) => return Err(fault),
+    };
     if let Err(fault) = find_doubled(rt, entries) {
         return Err(fault);
     }

@@ -2,20 +2,13 @@
 
 use crate::keys::{Keys, form_of};
 use crate::places::{Place, place_of, section_of};
-use crate::reasons::{Wrong, explain_fault, tell, write_value, wrong_document, wrong_name};
+use crate::reasons::{Wrong, table_of, tell, write_value, wrong_document, wrong_name};
+use crate::reports::Teller;
 use crate::seat_faults::{Flaw, SeatsFault};
 use crate::sentences::front_of;
 use console::Fault;
 use std::alloc::{AllocError, Global};
 use toml::Table;
-
-/// The document of a text that is one.
-fn table_of(alloc: Global, bytes: &[u8]) -> Result<Table, AllocError> {
-    match toml::table_from_slice(alloc, bytes) {
-        Ok(table) => Ok(table),
-        Err(_) => Err(AllocError),
-    }
-}
 
 /// The table of a seat, by its position.
 fn seat_at(table: &Table, position: usize) -> Option<&Table> {
@@ -146,15 +139,15 @@ fn wrong_seat(
 }
 
 /// Says what is wrong with the text SEATS, where, and what to do.
-pub fn explain_seats(rt: &HostRuntime, name: &str, bytes: &[u8], fault: &SeatsFault) {
-    let alloc = rt.alloc();
+pub fn explain_seats(teller: Teller<'_>, name: &str, bytes: &[u8], fault: &SeatsFault) {
+    let alloc = teller.alloc();
     match fault {
-        SeatsFault::NotToml => tell(rt, name, wrong_document(alloc, bytes)),
-        SeatsFault::NoSeats => tell(rt, name, wrong_list(alloc, bytes)),
-        SeatsFault::UnknownKey => tell(rt, name, wrong_key(alloc, bytes)),
+        SeatsFault::NotToml => tell(teller, name, wrong_document(alloc, bytes)),
+        SeatsFault::NoSeats => tell(teller, name, wrong_list(alloc, bytes)),
+        SeatsFault::UnknownKey => tell(teller, name, wrong_key(alloc, bytes)),
         SeatsFault::BadLine(position, flaw) => {
-            tell(rt, name, wrong_seat(alloc, bytes, *position, flaw))
+            tell(teller, name, wrong_seat(alloc, bytes, *position, flaw))
         }
-        SeatsFault::OutOfMemory => explain_fault(rt, Fault::OutOfMemory),
+        SeatsFault::OutOfMemory => teller.explain_fault(Fault::OutOfMemory),
     }
 }

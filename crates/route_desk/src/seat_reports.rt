@@ -1,14 +1,12 @@
 //! What is told of seats: why they can't be run, and why one ended early.
 
-use crate::reasons::{explain_fault, explain_file};
-use crate::reports::report;
-use crate::seat_faults::{SeatsFault, fault_at, write_seats_fault};
+use crate::reports::{Done, Stop, Teller};
+use crate::seat_faults::{SeatsFault, fault_at};
 use crate::seat_files::StreamFault;
 use crate::seat_reasons::explain_seats;
 use crate::seat_text::SeatEntry;
 use crate::streams::Seen;
 use console::{Fault, write_fault};
-use std::alloc::AllocError;
 use std::io;
 use std::process::ExitCode;
 
@@ -19,26 +17,12 @@ pub struct SeatsText<'a> {
     pub bytes: &'a [u8],
 }
 
-/// Says why a desk isn't run, by the text of its fault.
-fn refuse(rt: &HostRuntime, text: Result<String, AllocError>) -> io::Result<ExitCode> {
-    let Ok(text) = text else {
-        return report(rt, Some(Fault::OutOfMemory));
-    };
-    eprintln!(rt; "route_desk: {text}")?;
-    Ok(ExitCode::from(1))
-}
-
-/// Says what is wrong with the text SEATS.
-pub fn refuse_text(
-    rt: &HostRuntime,
-    text: SeatsText<'_>,
-    fault: &SeatsFault,
-    explained: bool,
-) -> io::Result<ExitCode> {
-    if explained {
-        explain_seats(rt, text.name, text.bytes, fault);
+/// Why a desk isn't run whose text SEATS is wrong. What is wrong with it is said if faults are explained.
+pub fn wrong_text(teller: Teller<'_>, text: SeatsText<'_>, fault: SeatsFault) -> Stop {
+    if teller.explained {
+        explain_seats(teller, text.name, text.bytes, &fault);
     }
-    refuse(rt, write_seats_fault(rt.alloc(), fault))
+    Stop::Seats(fault)
 }
 
 /// Says which fault ended a seat. Its name has nothing that could steer a terminal.
@@ -62,74 +46,46 @@ fn file_of<'a>(entry: &'a SeatEntry, fault: &Fault) -> &'a str {
 
 /// Says that a seat can't be run, since one of its files can't be read or written.
 fn refuse_seat(
-    rt: &HostRuntime,
+    teller: Teller<'_>,
     entry: Option<&SeatEntry>,
-    fault: Fault,
+    fault: &Fault,
     error: &io::Error,
-    explained: bool,
-) -> io::Result<ExitCode> {
+) -> Done {
     let Some(entry) = entry else {
-        return report(rt, Some(fault));
+        return Err(Stop::Fault(*fault));
     };
-    if explained {
-        explain_file(rt, file_of(entry, &fault), error);
-    }
-    tell_seat(rt, entry, &fault);
+    teller.explain_file(file_of(entry, fault), error);
+    tell_seat(teller.rt, entry, fault);
     Ok(ExitCode::from(1))
 }
 
 /// Says why the seats of a text can't be run.
 pub fn refuse_streams(
-    rt: &HostRuntime,
+    teller: Teller<'_>,
     text: SeatsText<'_>,
     entries: &[SeatEntry],
     fault: &StreamFault,
-    explained: bool,
-) -> io::Result<ExitCode> {
+) -> Done {
     match fault {
         StreamFault::Entry(place, flaw) => {
-            refuse_text(rt, text, &fault_at(*place, *flaw), explained)
+            Err(wrong_text(teller, text, fault_at(*place, *flaw)))
         }
-        StreamFault::Read(place, error) => {
-            refuse_seat(rt, entries.get(*place), Fault::Read, error, explained)
+        StreamFault::File(place, fault, error) => {
+            refuse_seat(teller, entries.get(*place), fault, error)
         }
-        StreamFault::Write(place, error) => {
-            refuse_seat(rt, entries.get(*place), Fault::Write, error, explained)
-        }
-        StreamFault::OutOfMemory => report(rt, Some(Fault::OutOfMemory)),
+        StreamFault::OutOfMemory => Err(Stop::Fault(Fault::OutOfMemory)),
     }
 }
 
-/// Says why a seat ended early: the system's reason, or what its fault means.
-fn explain_end(rt: &HostRuntime, entry: &SeatEntry, seen: &Seen, fault: &Fault) {
-    match seen.error_of(fault) {
-        Some(error) => explain_file(rt, file_of(entry, fault), &error),
-        None => explain_fault(rt, *fault),
-    }
-}
-
-/// Says why a seat ended early, if it did; whether it did.
-pub fn tell_end(
-    rt: &HostRuntime,
-    entry: &SeatEntry,
-    seen: &Seen,
-    fault: Option<Fault>,
-    explained: bool,
-) -> bool {
+/// Says why a seat ended early, if it did: the system's reason, or what its fault means. Gives whether it did.
+pub fn tell_end(teller: Teller<'_>, entry: &SeatEntry, seen: &Seen, fault: Option<Fault>) -> bool {
     let Some(fault) = seen.fault_of(fault) else {
         return false;
     };
-    if explained {
-        explain_end(rt, entry, seen, &fault);
+    match seen.error_of(&fault) {
+        Some(error) => teller.explain_file(file_of(entry, &fault), &error),
+        None => teller.explain_fault(fault),
     }
-    tell_seat(rt, entry, &fault);
+    tell_seat(teller.rt, entry, &fault);
     true
-}
-
-/// Says which fault ended the desk as a whole.
-pub fn refuse_desk(rt: &HostRuntime, fault: &Fault, explained: bool) -> io::Result<ExitCode> {
-    if explained {
-        explain_fault(rt, *fault);
-    }
-    report(rt, Some(*fault))
 }

@@ -89,12 +89,12 @@ fn collector_of(table: &Table) -> Result<u8, Flaw> {
     let Some(value) = table.get("collector") else {
         return Ok(0);
     };
-    match value.as_integer() {
-        Some(number) => match u8::try_from(number) {
-            Ok(number) => Ok(number),
-            Err(_) => Err(Flaw::Value("collector")),
-        },
-        None => Err(Flaw::Value("collector")),
+    let Some(number) = value.as_integer() else {
+        return Err(Flaw::Value("collector"));
+    };
+    match u8::try_from(number) {
+        Ok(number) => Ok(number),
+        Err(_) => Err(Flaw::Value("collector")),
     }
 }
 
@@ -150,11 +150,7 @@ fn read_entries(alloc: Global, list: &[Value]) -> Result<Vec<SeatEntry>, SeatsFa
             return Err(SeatsFault::NoSeats);
         };
         match read_next(alloc, entries.as_slice(), table) {
-            Ok(entry) => {
-                if entries.push(entry).is_err() {
-                    return Err(SeatsFault::OutOfMemory);
-                }
-            }
+            Ok(entry) => entries.push(entry)?,
             Err(flaw) => return Err(fault_at(entries.len(), flaw)),
         }
     }

@@ -3,16 +3,16 @@
 ghost use Rattle.std.specs.Prelude.{◌≤◌};
 
 use crate::clerks::Files;
-use crate::endings::{Saving, save_net};
+use crate::endings::Saving;
 use crate::loading::load_file;
 use crate::notes::Notes;
-use crate::reasons::explain_file;
-use crate::reports::report;
+use crate::reports::{Done, Stop, Teller};
+use crate::runs::Manner;
 use crate::seat_ends::SeatEnds;
 use crate::seat_files::{InputKind, OutputKind, hold_closed, inputs_of, outputs_of};
 use crate::seat_inputs::SeatInput;
 use crate::seat_outputs::{SeatClerk, SeatOutput};
-use crate::seat_reports::{SeatsText, refuse_desk, refuse_streams, refuse_text};
+use crate::seat_reports::{SeatsText, refuse_streams, wrong_text};
 use crate::seat_text::{SeatEntry, read_seats};
 use crate::streams::{Seen, SeenReader, SeenWriter};
 use answers::{SeatNames, Text};
@@ -22,23 +22,22 @@ use net_data::Net;
 use serving::{Channel, DeskEnd, Farewell, Rules, run_seats};
 use sessions::UntilQuit;
 use std::alloc::{AllocError, Global};
-use std::cell::RefCell;
+use std::fs;
 use std::io::ErrorKind;
 use std::process::ExitCode;
 use std::sync::Wait;
 use std::thread::Threads;
-use std::{fs, io};
 use worker_pool::Plain;
 
-/// How the sessions of a desk tell what they do.
+/// How the sessions of a desk are answered.
 #[derive(Clone, Copy)]
-pub struct SeatManner<'a> {
+struct SeatManner<'a> {
     /// Whether each refused line and a fault is explained on standard error.
-    pub explained: bool,
+    explained: bool,
     /// The form of the answers, if a seat doesn't say it otherwise.
-    pub form: Form,
+    form: Form,
     /// Which files may be written.
-    pub allowed: Files<'a>,
+    allowed: Files<'a>,
 }
 
 /// The lines of a seat up to its line `quit`, of which it is seen why they can't be read.
@@ -50,32 +49,14 @@ type Output<'a> = SeenWriter<'a, SeatOutput<'a>>;
 /// The session of a seat.
 type SeatChannel<'a> = Channel<Lines<'a>, Output<'a>, Filing<SeatClerk<'a>>>;
 
-/// The lines of a seat.
-fn lines_of<'a>(
-    rt: &'a HostRuntime,
-    entry: &'a SeatEntry,
-    kind: InputKind,
-    seen: &'a Seen,
-) -> Lines<'a> {
-    UntilQuit::new(SeenReader::new(seen, SeatInput::new(rt, entry, kind)))
-}
-
-/// Where the answers of a seat go.
-fn output_of<'a>(
-    rt: &'a HostRuntime,
-    entry: &'a SeatEntry,
-    kind: OutputKind,
-    seen: &'a Seen,
-) -> Output<'a> {
-    SeenWriter::new(seen, SeatOutput::new(rt, entry, kind))
-}
-
-/// Notes of the script of a seat, if refused lines are to be explained.
-fn notes_of(alloc: Global, manner: SeatManner<'_>) -> Option<RefCell<Notes>> {
-    if manner.explained {
-        return Some(RefCell::new(Notes::of_script(alloc)));
+/// The names of all seats.
+fn seat_names(alloc: Global, entries: &[SeatEntry]) -> Result<SeatNames, AllocError> {
+    let mut names = Vec::with_capacity(alloc, entries.len())?;
+    for entry in entries {
+        let name = String::from_str(alloc, entry.name.as_str())?;
+        names.push(Text::from_string(name))?;
     }
-    None
+    SeatNames::from_vec(alloc, names)
 }
 
 /// Who tells the answers of a seat.
@@ -84,27 +65,16 @@ fn telling_of<'a>(
     entry: &'a SeatEntry,
     manner: SeatManner<'a>,
 ) -> Filing<SeatClerk<'a>> {
+    let explained = manner.explained;
     Filing {
         form: entry.form.unwrap_or(manner.form),
         clerk: SeatClerk {
             rt,
             allowed: manner.allowed,
             seat: entry.name.as_str(),
-            notes: notes_of(rt.alloc(), manner),
+            notes: Notes::of_script(Teller { rt, explained }),
         },
     }
-}
-
-/// The names of all seats.
-fn seat_names(alloc: Global, entries: &[SeatEntry]) -> Result<SeatNames, AllocError> {
-    let mut names = Vec::with_capacity(alloc, entries.len())?;
-    for entry in entries {
-        let name = String::from_str(alloc, entry.name.as_str())?;
-        if names.push(Text::from_string(name)).is_err() {
-            return Err(AllocError);
-        }
-    }
-    SeatNames::from_vec(alloc, names)
 }
 
 /// The session of a seat.
@@ -118,8 +88,8 @@ fn channel_of<'a>(
     names: SeatNames,
 ) -> SeatChannel<'a> {
     Channel {
-        reader: lines_of(rt, entry, input, seen),
-        writer: output_of(rt, entry, output, seen),
+        reader: UntilQuit::new(SeenReader::new(seen, SeatInput::new(rt, entry, input))),
+        writer: SeenWriter::new(seen, SeatOutput::new(rt, entry, output)),
         telling: telling_of(rt, entry, manner),
         rules: Rules {
             posts: entry.posts,
@@ -161,25 +131,9 @@ fn channels_of<'a>(
 fn unseen(alloc: Global, count: usize) -> Result<Vec<Seen>, AllocError> {
     let mut seen = Vec::with_capacity(alloc, count)?;
     for _ in 0..count {
-        if seen.push(Seen::new()).is_err() {
-            return Err(AllocError);
-        }
+        seen.push(Seen::new())?;
     }
     Ok(seen)
-}
-
-/// Saves the network of a desk that was run, if a file is named, and says why it can't.
-fn save_end(
-    rt: &HostRuntime,
-    net: Option<&Net>,
-    saving: Option<Saving<'_>>,
-    explained: bool,
-) -> io::Result<ExitCode> {
-    match (net, saving) {
-        (_, None) => Ok(ExitCode::SUCCESS),
-        (Some(net), Some(saving)) => save_net(rt, net, saving, explained),
-        (None, Some(_)) => report(rt, Some(Fault::OutOfMemory)),
-    }
 }
 
 /// Ends a desk that was run, of whose seats some may have ended early: saves its network if a file is named.
@@ -189,17 +143,28 @@ fn finish_seats(
     is_any: bool,
     saving: Option<Saving<'_>>,
     explained: bool,
-) -> io::Result<ExitCode> {
-    let saved = save_end(rt, net, saving, explained)?;
+) -> Done {
+    let saved = match (net, saving) {
+        (_, None) => ExitCode::SUCCESS,
+        (Some(net), Some(saving)) => saving.save(Teller { rt, explained }, net)?,
+        (None, Some(_)) => return Err(Stop::Fault(Fault::OutOfMemory)),
+    };
     if is_any {
         return Ok(ExitCode::from(1));
     }
     Ok(saved)
 }
 
+/// Why a desk ends with a fault, which is explained if that is wanted.
+fn stop_of(rt: &HostRuntime, fault: &Fault, explained: bool) -> Stop {
+    let teller = Teller { rt, explained };
+    teller.explain_fault(*fault);
+    Stop::Fault(*fault)
+}
+
 /// Runs the sessions of all seats at a desk over a network, beside that many workers.
 fn run_channels<'a>(
-    rt: &HostRuntime,
+    alloc: Global,
     threads: &(impl Threads + Wait + Sync),
     farewell: &(impl Farewell + Sync),
     net: Net,
@@ -214,15 +179,7 @@ fn run_channels<'a>(
     if channels.is_empty() {
         return Err(Fault::OutOfMemory);
     }
-    run_seats(
-        threads,
-        rt.alloc(),
-        workers,
-        &Plain,
-        farewell,
-        net,
-        channels,
-    )
+    run_seats(threads, alloc, workers, &Plain, farewell, net, channels)
 }
 
 /// Runs the seats of a text whose files are open, and ends the desk.
@@ -236,16 +193,14 @@ fn run_open(
     workers: u32,
     saving: Option<Saving<'_>>,
     manner: SeatManner<'_>,
-) -> io::Result<ExitCode>
+) -> Done
     requires { workers ≤ 32 }
 {
-    let Ok(seen) = unseen(rt.alloc(), entries.len()) else {
-        return report(rt, Some(Fault::OutOfMemory));
-    };
+    let seen = unseen(rt.alloc(), entries.len())?;
     let seen = seen.as_slice();
     let channels = channels_of(rt, entries, inputs, outputs, seen, manner);
     let ends = SeatEnds::new(rt, threads, entries, seen, manner.explained);
-    match run_channels(rt, threads, &ends, net, workers, channels) {
+    match run_channels(rt.alloc(), threads, &ends, net, workers, channels) {
         Ok(end) => finish_seats(
             rt,
             end.net.as_ref(),
@@ -253,17 +208,16 @@ fn run_open(
             saving,
             manner.explained,
         ),
-        Err(fault) => refuse_desk(rt, &fault, manner.explained),
+        Err(fault) => Err(stop_of(rt, &fault, manner.explained)),
     }
 }
 
 /// The names of the files that a desk itself reads, or saves to.
 fn own_names<'a>(net: &'a str, text: &'a str, saving: Option<Saving<'a>>) -> [&'a str; 3] {
-    let saved = match saving {
-        Some(saving) => saving.name,
-        None => net,
-    };
-    [net, text, saved]
+    match saving {
+        Some(saving) => [net, text, saving.name],
+        None => [net, text, net],
+    }
 }
 
 /// Runs the seats of a text over the network of a file, once their inputs are known. Outputs are cut once the network is loaded.
@@ -277,19 +231,17 @@ fn run_over(
     workers: u32,
     saving: Option<Saving<'_>>,
     manner: SeatManner<'_>,
-) -> io::Result<ExitCode>
+) -> Done
     requires { workers ≤ 32 }
 {
-    let loaded = match load_file(rt, net, manner.explained) {
-        Ok(loaded) => loaded,
-        Err(fault) => return report(rt, Some(fault)),
-    };
+    let explained = manner.explained;
+    let loaded = load_file(Teller { rt, explained }, net)?;
     let own = own_names(net, text.name, saving);
     match outputs_of(rt, entries, &own) {
         Ok(outputs) => run_open(
             rt, threads, entries, inputs, outputs, loaded, workers, saving, manner,
         ),
-        Err(fault) => refuse_streams(rt, text, entries, &fault, manner.explained),
+        Err(fault) => refuse_streams(Teller { rt, explained }, text, entries, &fault),
     }
 }
 
@@ -322,17 +274,16 @@ fn run_text(
     workers: u32,
     saving: Option<Saving<'_>>,
     manner: SeatManner<'_>,
-) -> io::Result<ExitCode>
+) -> Done
     requires { workers ≤ 32 }
 {
+    let explained = manner.explained;
     let entries = match read_seats(rt.alloc(), text.bytes) {
         Ok(entries) => entries,
-        Err(fault) => return refuse_text(rt, text, &fault, manner.explained),
+        Err(fault) => return Err(wrong_text(Teller { rt, explained }, text, fault)),
     };
     let entries = entries.as_slice();
-    let Ok(names) = names_of(rt.alloc(), saving, text.name, entries) else {
-        return report(rt, Some(Fault::OutOfMemory));
-    };
+    let names = names_of(rt.alloc(), saving, text.name, entries)?;
     let manner = SeatManner {
         allowed: manner.allowed.over(Some(net), names.as_slice()),
         ..manner
@@ -349,19 +300,17 @@ fn run_text(
             saving,
             manner,
         ),
-        Err(fault) => refuse_streams(rt, text, entries, &fault, manner.explained),
+        Err(fault) => refuse_streams(Teller { rt, explained }, text, entries, &fault),
     }
 }
 
 /// The bytes of the text SEATS.
-fn read_text(rt: &HostRuntime, name: &str, explained: bool) -> Result<Vec<u8>, Fault> {
-    match fs::read(rt, name) {
+fn read_text(teller: Teller<'_>, name: &str) -> Result<Vec<u8>, Fault> {
+    match fs::read(teller.rt, name) {
         Ok(bytes) => Ok(bytes),
         Err(error) if error.kind() == ErrorKind::OutOfMemory => Err(Fault::OutOfMemory),
         Err(error) => {
-            if explained {
-                explain_file(rt, name, &error);
-            }
+            teller.explain_file(name, &error);
             Err(Fault::Read)
         }
     }
@@ -369,30 +318,26 @@ fn read_text(rt: &HostRuntime, name: &str, explained: bool) -> Result<Vec<u8>, F
 
 /// Answers the sessions that the text of a file says, at one desk over the network of another.
 pub fn serve_seats(
-    rt: &HostRuntime,
     threads: &(impl Threads + Wait + Sync),
     net: &str,
     seats: &str,
     workers: u32,
-    save: Option<&str>,
-    manner: SeatManner<'_>,
-) -> io::Result<ExitCode>
+    manner: Manner<'_>,
+) -> Done
     requires { workers ≤ 32 }
 {
-    let Ok(_held) = hold_closed(rt) else {
-        return report(rt, Some(Fault::OutOfMemory));
-    };
-    let saving = match Saving::new(rt, save, manner.explained) {
-        Ok(saving) => saving,
-        Err(fault) => return report(rt, Some(fault)),
-    };
-    let bytes = match read_text(rt, seats, manner.explained) {
-        Ok(bytes) => bytes,
-        Err(fault) => return report(rt, Some(fault)),
-    };
+    let teller = manner.teller;
+    let _held = hold_closed(teller.rt)?;
+    let saving = Saving::new(teller, manner.saved)?;
+    let bytes = read_text(teller, seats)?;
     let text = SeatsText {
         name: seats,
         bytes: bytes.as_slice(),
     };
-    run_text(rt, threads, net, text, workers, saving, manner)
+    let manner = SeatManner {
+        explained: teller.explained,
+        form: manner.form,
+        allowed: manner.allowed,
+    };
+    run_text(teller.rt, threads, net, text, workers, saving, manner)
 }

@@ -1,15 +1,14 @@
 //! The sentence for a line that was refused.
 
-use crate::missing::{put_missing_row, put_missing_shown};
+use crate::net_sentences::NetSentence;
 use crate::saying::write_bytes;
-use crate::standing::put_standing;
-use crate::tried::{write_missing_whole, write_tried};
+use crate::tried::write_tried;
 use answers::{Asked, Reason};
 use explanations::explain_reason;
 use net_building::Whole;
 use net_data::{Event, Net, Refusal as EditRefusal};
 use point_codes::PointCode;
-use script_words::{Command, Events, Form, Show, form_of, read_line};
+use script_words::{Command, Events, Show, form_of, read_line};
 use std::alloc::{AllocError, Global};
 use work_units::Refusal;
 
@@ -96,17 +95,13 @@ fn misfit_of<'a>(form: &'a str, line: &str) -> Option<Misfit<'a>> {
 
 /// Which word doesn't fit, and what is expected there.
 fn write_misfit(alloc: Global, misfit: Misfit<'_>) -> Result<String, AllocError> {
-    match misfit {
-        Misfit::Missing(count, place) => {
-            let wanted = meaning_of(place).unwrap_or(place);
-            format!(in alloc; "word {count} is missing, {wanted}")
-        }
-        Misfit::Wrong(count, place) => {
-            let wanted = meaning_of(place).unwrap_or(place);
-            format!(in alloc; "word {count} has to be {wanted}")
-        }
-        Misfit::TooMany(count) => format!(in alloc; "word {count} is one too many"),
-    }
+    let (count, place, relation) = match misfit {
+        Misfit::Missing(count, place) => (count, place, "is missing,"),
+        Misfit::Wrong(count, place) => (count, place, "has to be"),
+        Misfit::TooMany(count) => return format!(in alloc; "word {count} is one too many"),
+    };
+    let wanted = meaning_of(place).unwrap_or(place);
+    format!(in alloc; "word {count} {relation} {wanted}")
 }
 
 /// Whether each word of a form stands for one word of a line.
@@ -124,27 +119,15 @@ fn write_expected(alloc: Global, form: &str, line: &str) -> Result<String, Alloc
     format!(in alloc; "the form is {form}")
 }
 
-/// What was expected of a line whose first word has this form in the table of words, with the form's example.
-fn write_by_form(
-    alloc: Global,
-    form: Option<&Form>,
-    word: &str,
-    line: &str,
-) -> Result<String, AllocError> {
-    match form {
-        Some(form) => {
-            let expected = write_expected(alloc, form.form, line)?;
-            let expected = expected.as_str();
-            let example = form.example;
-            format!(in alloc; "{expected}, as {example}")
-        }
-        None => format!(in alloc; "no command begins with {word}; help tells the words"),
-    }
-}
-
-/// What was expected of a line that begins with a word.
+/// What was expected of a line that begins with a word, with an example.
 fn write_by_word(alloc: Global, word: &str, line: &str) -> Result<String, AllocError> {
-    write_by_form(alloc, form_of(word.as_bytes()), front_of(word), line)
+    let Some(form) = form_of(word.as_bytes()) else {
+        let word = front_of(word);
+        return format!(in alloc; "no command begins with {word}; help tells the words");
+    };
+    let expected = write_expected(alloc, form.form, line)?;
+    let (expected, example) = (expected.as_str(), form.example);
+    format!(in alloc; "{expected}, as {example}")
 }
 
 /// Why a line is no command.
@@ -185,36 +168,6 @@ fn event_in(command: &Command) -> Option<&Event> {
     }
 }
 
-/// What stands in a network against an event, if there is one, in text; empty if that can't be told.
-fn write_standing(alloc: Global, net: &Net, event: Option<&Event>) -> Result<String, AllocError> {
-    let mut text = String::new(alloc);
-    if let Some(event) = event {
-        if let Some(refusal) = net.refusal_of(event) {
-            put_standing(alloc, &mut text, net, event, refusal)?;
-        }
-    }
-    Ok(text)
-}
-
-/// What a question about a point and a destination finds missing, in text.
-fn write_missing(
-    alloc: Global,
-    net: &Net,
-    point: PointCode,
-    dest: PointCode,
-) -> Result<String, AllocError> {
-    let mut text = String::new(alloc);
-    put_missing_row(alloc, &mut text, net, point, dest)?;
-    Ok(text)
-}
-
-/// What is to be shown of a network and isn't in it, in text.
-fn write_missing_shown(alloc: Global, net: &Net, what: Show) -> Result<String, AllocError> {
-    let mut text = String::new(alloc);
-    put_missing_shown(alloc, &mut text, net, what)?;
-    Ok(text)
-}
-
 /// The point and the destination that a question is about.
 fn asked_in(command: &Command) -> Option<(PointCode, PointCode)> {
     match command {
@@ -243,14 +196,41 @@ fn shown_in(command: &Command) -> Option<Show> {
     }
 }
 
-/// What stands in a network against the change of a whole set or point, in text; empty if that can't be told.
-fn write_whole(alloc: Global, net: &Net, whole: &Whole, why: Reason) -> Result<String, AllocError> {
-    match (whole, why) {
-        (Whole::Point(code, _), Reason::Desk(Refusal::Edit(EditRefusal::NoSet))) => {
-            let code = *code;
-            format!(in alloc; "{code} is an end of no link set")
+impl<'a> NetSentence<'a> {
+    /// Adds what stands in the network against the change of a whole set or point.
+    fn put_whole(&mut self, whole: &Whole, why: Reason) -> Result<(), AllocError> {
+        match (whole, why) {
+            (Whole::Point(code, _), Reason::Desk(Refusal::Edit(EditRefusal::NoSet))) => {
+                self.put_about("", *code)?;
+                self.put(" is an end of no link set")
+            }
+            _ => self.put_missing_whole(whole),
         }
-        _ => write_missing_whole(alloc, net, whole),
+    }
+
+    /// Adds what stands in the network against the event of a command, if it has just one.
+    fn put_event(&mut self, command: &Command) -> Result<(), AllocError> {
+        let Some(event) = event_in(command) else {
+            return Ok(());
+        };
+        match self.net.refusal_of(event) {
+            Some(refusal) => self.put_standing(event, refusal),
+            None => Ok(()),
+        }
+    }
+
+    /// Adds what stands in the network against a command that is refused, if that can be told.
+    fn put_command(&mut self, command: &Command, why: Reason) -> Result<(), AllocError> {
+        if let Command::Whole(whole) = command {
+            return self.put_whole(whole, why);
+        }
+        if let Some(what) = shown_in(command) {
+            return self.put_missing_shown(what);
+        }
+        match asked_in(command) {
+            Some((point, dest)) => self.put_missing_row(point, dest),
+            None => self.put_event(command),
+        }
     }
 }
 
@@ -264,16 +244,9 @@ fn write_about(
     if let (Some(events), Reason::Event(refused)) = (tried_in(command), why) {
         return write_tried(alloc, net, events.as_slice(), &refused);
     }
-    if let Command::Whole(whole) = command {
-        return write_whole(alloc, net, whole, why);
-    }
-    if let Some(what) = shown_in(command) {
-        return write_missing_shown(alloc, net, what);
-    }
-    match asked_in(command) {
-        Some((point, dest)) => write_missing(alloc, net, point, dest),
-        None => write_standing(alloc, net, event_in(command)),
-    }
+    let mut sentence = NetSentence::new(alloc, net);
+    sentence.put_command(command, why)?;
+    Ok(sentence.into_text())
 }
 
 /// What stands in a network against a refused line, in text; empty if that can't be told.
@@ -284,23 +257,7 @@ fn write_against(alloc: Global, net: &Net, line: &str, why: Reason) -> Result<St
     }
 }
 
-/// What stands against a refused line, or what its refusal means.
-fn write_refused(
-    alloc: Global,
-    line: &str,
-    why: Reason,
-    net: Option<&Net>,
-) -> Result<String, AllocError> {
-    if let Some(net) = net {
-        let standing = write_against(alloc, net, line, why)?;
-        if !standing.is_empty() {
-            return Ok(standing);
-        }
-    }
-    String::from_str(alloc, explain_reason(&why).meaning)
-}
-
-/// What is wrong with a refused line, by why it is refused.
+/// What is wrong with a refused line: why it is no command, what stands against it, or what its refusal means.
 fn write_reason(
     alloc: Global,
     line: &str,
@@ -310,7 +267,13 @@ fn write_reason(
     if let Reason::BadLine = why {
         return write_bad_line(alloc, line);
     }
-    write_refused(alloc, line, why, net)
+    if let Some(net) = net {
+        let standing = write_against(alloc, net, line, why)?;
+        if !standing.is_empty() {
+            return Ok(standing);
+        }
+    }
+    String::from_str(alloc, explain_reason(&why).meaning)
 }
 
 /// The sentence for the line of a number.

@@ -1,17 +1,19 @@
-//! The tables of a folder, which a spreadsheet reads and writes.
+//! The orders `import` and `export`: the tables of a folder, which a spreadsheet reads and writes.
 
-use crate::files::{FileText, NotSaved, fault_of, save_together};
-use crate::reasons::{explain_file, write_refused};
-use crate::saying::say;
+use crate::files::{FileText, fault_of, save_together};
+use crate::loading::load_file;
+use crate::reasons::write_refused;
+use crate::reports::{Done, Teller};
 use answers::put_refusal;
-use console::Fault;
 use net_data::Net;
+use net_saving::save;
 use net_sheets::{
     Reason, Sheet, SheetFault, read_sheets, write_network, write_points, write_routes, write_sets,
 };
 use point_codes::PointCode;
 use std::alloc::{AllocError, Global};
 use std::io::ErrorKind;
+use std::process::ExitCode;
 use std::{fs, io};
 
 /// Why the tables of a folder say no network.
@@ -23,6 +25,15 @@ pub enum FolderFault {
     OutOfMemory,
     /// What the tables say is wrong.
     Wrong(SheetFault),
+}
+
+impl From<SheetFault> for FolderFault {
+    fn from(fault: SheetFault) -> FolderFault {
+        match fault.reason {
+            Reason::OutOfMemory => FolderFault::OutOfMemory,
+            _ => FolderFault::Wrong(fault),
+        }
+    }
 }
 
 /// The name of a table's file.
@@ -58,18 +69,8 @@ fn read_sheet(rt: &HostRuntime, dir: &str, sheet: Sheet) -> Result<Vec<u8>, Fold
     };
     match fs::read(rt, path.as_str()) {
         Ok(bytes) => Ok(bytes),
-        Err(error) => match error.kind() {
-            ErrorKind::OutOfMemory => Err(FolderFault::OutOfMemory),
-            _ => Err(FolderFault::Read(sheet, error)),
-        },
-    }
-}
-
-/// What is wrong with tables, if it isn't the want of memory.
-fn wrong(fault: SheetFault) -> FolderFault {
-    match fault.reason {
-        Reason::OutOfMemory => FolderFault::OutOfMemory,
-        _ => FolderFault::Wrong(fault),
+        Err(error) if error.kind() == ErrorKind::OutOfMemory => Err(FolderFault::OutOfMemory),
+        Err(error) => Err(FolderFault::Read(sheet, error)),
     }
 }
 
@@ -85,17 +86,13 @@ fn is_missing(fault: &FolderFault) -> bool {
 fn read_network(rt: &HostRuntime, dir: &str) -> Result<Option<Vec<u8>>, FolderFault> {
     match read_sheet(rt, dir, Sheet::Network) {
         Ok(bytes) => Ok(Some(bytes)),
-        Err(fault) => {
-            if is_missing(&fault) {
-                return Ok(None);
-            }
-            Err(fault)
-        }
+        Err(fault) if is_missing(&fault) => Ok(None),
+        Err(fault) => Err(fault),
     }
 }
 
 /// The network that the tables of a folder say.
-pub fn read_folder(rt: &HostRuntime, dir: &str) -> Result<Net, FolderFault> {
+fn read_folder(rt: &HostRuntime, dir: &str) -> Result<Net, FolderFault> {
     let network = read_network(rt, dir)?;
     let points = read_sheet(rt, dir, Sheet::Points)?;
     let sets = read_sheet(rt, dir, Sheet::Sets)?;
@@ -108,7 +105,7 @@ pub fn read_folder(rt: &HostRuntime, dir: &str) -> Result<Net, FolderFault> {
         routes.as_slice(),
     ) {
         Ok(net) => Ok(net),
-        Err(fault) => Err(wrong(fault)),
+        Err(fault) => Err(fault.into()),
     }
 }
 
@@ -133,31 +130,17 @@ fn texts_of(alloc: Global, net: &Net, dir: &str, ranks: bool) -> Result<Vec<File
     Ok(texts)
 }
 
-/// Says why a table can't be written.
-fn explain_unsaved(rt: &HostRuntime, texts: &[FileText], fault: &NotSaved) {
-    if let Some(text) = texts.get(fault.place) {
-        explain_file(rt, text.name.as_str(), &fault.error);
-    }
-}
-
-/// Writes a network as the tables of a folder, all of them or none, with the ranks of its rows if they are wanted.
-pub fn write_folder(
-    rt: &HostRuntime,
-    net: &Net,
-    dir: &str,
-    ranks: bool,
-    explained: bool,
-) -> Result<(), Fault> {
-    let Ok(texts) = texts_of(rt.alloc(), net, dir, ranks) else {
-        return Err(Fault::OutOfMemory);
-    };
-    match save_together(rt, texts.as_slice()) {
-        Ok(()) => Ok(()),
+/// Writes the network of a file as the tables of a folder, all of them or none, with the ranks of its rows if they are wanted.
+pub fn export(teller: Teller<'_>, net: &str, dir: &str, ranks: bool) -> Done {
+    let net = load_file(teller, net)?;
+    let texts = texts_of(teller.alloc(), &net, dir, ranks)?;
+    match save_together(teller.rt, texts.as_slice()) {
+        Ok(()) => Ok(ExitCode::SUCCESS),
         Err(fault) => {
-            if explained {
-                explain_unsaved(rt, texts.as_slice(), &fault);
+            if let Some(text) = texts.get(fault.place) {
+                teller.explain_file(text.name.as_str(), &fault.error);
             }
-            Err(fault_of(&fault.error))
+            Err(fault_of(&fault.error).into())
         }
     }
 }
@@ -329,30 +312,42 @@ fn write_wrong(alloc: Global, fault: &SheetFault) -> Result<String, AllocError> 
     }
 }
 
-/// Says what is wrong at a place of a table, and where.
-fn explain_line(rt: &HostRuntime, path: &str, fault: &SheetFault) {
+/// What is wrong at a place of a table, and where, behind the name of its file.
+fn write_place(alloc: Global, fault: &SheetFault) -> Result<String, AllocError> {
     let (line, column) = (fault.line, fault.column);
-    if let (Ok(place), Ok(wrong)) = (
-        format!(in rt.alloc(); ": line {line}, column {column}: "),
-        write_wrong(rt.alloc(), fault),
-    ) {
-        say(rt, &[path, place.as_str(), wrong.as_str()]);
-    }
+    let wrong = write_wrong(alloc, fault)?;
+    let wrong = wrong.as_str();
+    format!(in alloc; ": line {line}, column {column}: {wrong}")
 }
 
 /// Says why the tables of a folder say no network: the system's reason, or what is wrong at which place, and what to do.
-pub fn explain_folder(rt: &HostRuntime, dir: &str, fault: &FolderFault) {
+fn explain_folder(teller: Teller<'_>, dir: &str, fault: &FolderFault) -> Result<(), AllocError> {
+    let alloc = teller.alloc();
     match fault {
         FolderFault::OutOfMemory => {}
         FolderFault::Read(sheet, error) => {
-            if let Ok(path) = path_of(rt.alloc(), dir, *sheet) {
-                explain_file(rt, path.as_str(), error);
-            }
+            let path = path_of(alloc, dir, *sheet)?;
+            teller.explain_file(path.as_str(), error);
         }
         FolderFault::Wrong(fault) => {
-            if let Ok(path) = path_of(rt.alloc(), dir, fault.sheet) {
-                explain_line(rt, path.as_str(), fault);
+            let path = path_of(alloc, dir, fault.sheet)?;
+            let wrong = write_place(alloc, fault)?;
+            teller.say(&[path.as_str(), wrong.as_str()]);
+        }
+    }
+    Ok(())
+}
+
+/// Writes the text of the network that the tables of a folder say, or what is wrong with them.
+pub fn import(teller: Teller<'_>, dir: &str) -> Done {
+    match read_folder(teller.rt, dir) {
+        Ok(net) => teller.tell(save(teller.alloc(), &net)),
+        Err(fault) => {
+            if teller.explained {
+                // where there is no memory for the reason, it isn't said
+                let _ = explain_folder(teller, dir, &fault);
             }
+            Err(fault.into())
         }
     }
 }

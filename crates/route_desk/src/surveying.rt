@@ -1,16 +1,14 @@
-//! The survey of single failures, by as many threads as there are processors.
+//! The order `survey`: the survey of single failures, by as many threads as there are processors.
 
 use crate::loading::load_file;
-use crate::reports::{report, tell};
+use crate::reports::{Done, Stop, Teller};
 use crate::terminal::is_terminal;
 use answers::{Answer, NetAnswer};
-use console::{Fault, Watch, survey_by};
+use console::{Watch, survey_by};
 use json_answers::Form;
 use net_building::Surveyed;
 use net_versions::Version;
 use std::alloc::{AllocError, Global};
-use std::io;
-use std::process::ExitCode;
 use std::sync::atomic::{AtomicU64, Ordering};
 use std::thread::Threads;
 use what_if::Survey;
@@ -62,25 +60,9 @@ impl<'a> Watch for Progress<'a> {
 }
 
 /// The network of a file as a version.
-pub fn open(rt: &HostRuntime, net: &str, explained: bool) -> Result<Version, Fault> {
-    let net = load_file(rt, net, explained)?;
-    match Version::opening(rt.alloc(), net) {
-        Ok(version) => Ok(version),
-        Err(_) => Err(Fault::OutOfMemory),
-    }
-}
-
-/// The survey of a version's network.
-fn survey_version(
-    rt: &HostRuntime,
-    threads: &(impl Threads + Sync),
-    version: &Version,
-    what: Surveyed,
-) -> Result<Survey, AllocError> {
-    let progress = Progress::new(rt);
-    let survey = survey_by(threads, rt.alloc(), version, what, &progress)?;
-    progress.end();
-    Ok(survey)
+pub fn open(teller: Teller<'_>, net: &str) -> Result<Version, Stop> {
+    let net = load_file(teller, net)?;
+    Ok(Version::opening(teller.alloc(), net)?)
 }
 
 /// An answer as a form has it, on a line.
@@ -98,19 +80,15 @@ fn line_of(alloc: Global, survey: Survey, form: Form) -> Result<String, AllocErr
 
 /// Surveys the network of a file.
 pub fn survey(
-    rt: &HostRuntime,
+    teller: Teller<'_>,
     threads: &(impl Threads + Sync),
     net: &str,
     what: Surveyed,
-    explained: bool,
     form: Form,
-) -> io::Result<ExitCode> {
-    let version = match open(rt, net, explained) {
-        Ok(version) => version,
-        Err(fault) => return report(rt, Some(fault)),
-    };
-    match survey_version(rt, threads, &version, what) {
-        Ok(survey) => tell(rt, line_of(rt.alloc(), survey, form), explained),
-        Err(_) => report(rt, Some(Fault::OutOfMemory)),
-    }
+) -> Done {
+    let version = open(teller, net)?;
+    let progress = Progress::new(teller.rt);
+    let survey = survey_by(threads, teller.alloc(), &version, what, &progress)?;
+    progress.end();
+    teller.tell(line_of(teller.alloc(), survey, form))
 }

@@ -45,7 +45,7 @@ pub fn stamp_of(rt: &HostRuntime, name: &str) -> Option<Stamp> {
 }
 
 /// Whether two names lead to the same file.
-fn is_same_file(rt: &HostRuntime, one: &str, other: &str) -> bool {
+pub fn is_same_file(rt: &HostRuntime, one: &str, other: &str) -> bool {
     match (stamp_of(rt, one), stamp_of(rt, other)) {
         (Some(one), Some(other)) => one.device == other.device && one.node == other.node,
         _ => false,

@@ -1,9 +1,8 @@
 //! What stands against an entry of a what-if, which is refused once those before it are made.
 
-use crate::missing::put_lacking;
-use crate::standing::put_standing;
+use crate::net_sentences::NetSentence;
 use net_building::{Listed, Whole, apply_each, events_of_listed};
-use net_data::{Event, Net};
+use net_data::Net;
 use script_words::Show;
 use std::alloc::{AllocError, Global};
 use what_if::Refused;
@@ -27,58 +26,32 @@ fn with_made(alloc: Global, net: &Net, entries: &[Listed]) -> Option<Box<Net>> {
     Some(made)
 }
 
-/// Whether a network refuses an event so.
-fn is_refused_so(net: &Net, event: &Event, refused: &Refused) -> bool {
-    let told = refused.refusal;
-    match net.refusal_of(event) {
-        Some(refusal) => refusal == told,
-        None => false,
-    }
-}
-
-/// What stands in a network against an event, if that refuses it so; empty if it doesn't.
-fn write_standing(
-    alloc: Global,
-    net: &Net,
-    event: &Event,
-    refused: &Refused,
-) -> Result<String, AllocError> {
-    let mut text = String::new(alloc);
-    if is_refused_so(net, event, refused) {
-        let refusal = refused.refusal;
-        put_standing(alloc, &mut text, net, event, refusal)?;
-    }
-    Ok(text)
-}
-
-/// The set or the point that is missing where the change of a whole one is refused, in text; empty if it is there.
-pub fn write_missing_whole(alloc: Global, net: &Net, whole: &Whole) -> Result<String, AllocError> {
-    let what = match whole {
-        Whole::Set(id, _) => Show::Set(*id),
-        Whole::Point(code, _) => Show::Point(*code),
-    };
-    let mut text = String::new(alloc);
-    put_lacking(alloc, &mut text, net, what)?;
-    Ok(text)
-}
-
-/// What stands in a network against an entry of a list, if that refuses it so; empty if it doesn't.
-fn write_against(
-    alloc: Global,
-    net: &Net,
-    entry: &Listed,
-    refused: &Refused,
-) -> Result<String, AllocError> {
-    match entry {
-        Listed::Event(event) => write_standing(alloc, net, event, refused),
-        Listed::Whole(whole) => write_missing_whole(alloc, net, whole),
-    }
-}
-
 /// The entries before the one in a place, counted from 1, and that one.
 fn parted(entries: &[Listed], place: u64) -> Option<(&[Listed], &Listed)> {
     let position = usize::try_from(place).ok()?.checked_sub(1)?;
     Some((entries.get(..position)?, entries.get(position)?))
+}
+
+impl<'a> NetSentence<'a> {
+    /// Adds the set or the point that is missing where the change of a whole one is refused; nothing if it is there.
+    pub fn put_missing_whole(&mut self, whole: &Whole) -> Result<(), AllocError> {
+        self.put_lacking(match whole {
+            Whole::Set(id, _) => Show::Set(*id),
+            Whole::Point(code, _) => Show::Point(*code),
+        })
+    }
+
+    /// Adds what stands in the network against an entry of a list, if that refuses it so.
+    fn put_against(&mut self, entry: &Listed, refused: &Refused) -> Result<(), AllocError> {
+        let told = refused.refusal;
+        match entry {
+            Listed::Event(event) => match self.net.refusal_of(event) {
+                Some(refusal) if refusal == told => self.put_standing(event, told),
+                _ => Ok(()),
+            },
+            Listed::Whole(whole) => self.put_missing_whole(whole),
+        }
+    }
 }
 
 /// What stands against the refused entry once those before it are made, with its place; empty if that can't be told.
@@ -88,12 +61,13 @@ fn write_at(
     entry: &Listed,
     refused: &Refused,
 ) -> Result<String, AllocError> {
-    let standing = write_against(alloc, made, entry, refused)?;
+    let mut sentence = NetSentence::new(alloc, made);
+    sentence.put_against(entry, refused)?;
+    let standing = sentence.into_text();
     if standing.is_empty() {
         return Ok(standing);
     }
-    let place = refused.place;
-    let standing = standing.as_str();
+    let (place, standing) = (refused.place, standing.as_str());
     format!(in alloc; "event {place}: {standing}")
 }
 

@@ -2,7 +2,7 @@
 
 pub use all_tables::{Wrong, check_tables, tables_of};
 pub use beside::{BesideEnd, run_beside, run_input_beside};
-pub use command_line::{Order, WordFault, read_words};
+pub use command_line::{Options, Order, Task, WordFault, read_words};
 pub use console::{
     CheckEnd, Fault, ScriptEnd, check_given, check_net, read_net, run_input, run_script,
     write_fault,
