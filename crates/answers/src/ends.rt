@@ -55,7 +55,8 @@ pub(crate) fn put_link(
 pub(crate) fn put_links_of(text: &mut String, set: &LinkSet) -> Result<(), AllocError>
     ensures { OnOk result (string_bytes text.new ≡ string_bytes text.old ++ links_words set.now) }
 {
-    for link in set.links.as_slice() {
+    let links = set.links.listed();
+    for link in links.as_slice() {
         text.push(' ')?;
         put_link(text, set.a, set.b, *link)?;
     }

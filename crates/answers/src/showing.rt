@@ -28,7 +28,8 @@ use work_units::Refusal;
 fn add_links(links: &mut Vec<SetLink>, set: &LinkSet) -> Result<(), AllocError>
     ensures { OnOk result (links.new.items ≡ links.old.items ++ links_in set.now) }
 {
-    for link in set.links.as_slice() {
+    let list = set.links.listed();
+    for link in list.as_slice() {
         links.push(SetLink {
             id: set.id,
             link: *link,
@@ -108,7 +109,7 @@ fn show_set(alloc: Global, net: &Net, id: u16) -> Result<Answer, AllocError>
     net.validity();
     match position_of_set(net.sets(), id) {
         Ok(at) => {
-            let set = copy_set(alloc, &net.sets()[at])?;
+            let set = copy_set(&net.sets()[at]);
             show(alloc, Shown::Set(set))
         }
         Err(_) => Ok(refuse(EditRefusal::NoSet)),

@@ -69,7 +69,7 @@ fn offer_of(
         return Ok(Offer::Far(far));
     }
     match excerpt.set_between(point, other) {
-        Some(set) => Ok(Offer::Down(copy_set(alloc, set)?, far)),
+        Some(set) => Ok(Offer::Down(copy_set(set), far)),
         None => Ok(Offer::Unjoined),
     }
 }

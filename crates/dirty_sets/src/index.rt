@@ -55,14 +55,14 @@ fn reader_at(net: &Net, transfers: &Codes, position: usize) -> Reader
 }
 
 /// A set with these ends. It takes no memory.
-fn bare_set(alloc: Global, id: u16, a: PointCode, b: PointCode) -> LinkSet
+fn bare_set(id: u16, a: PointCode, b: PointCode) -> LinkSet
     ensures { result ≡ the_bare_set id a b }
 {
     LinkSet {
         id,
         a,
         b,
-        links: Links::from_vec(Vec::new(alloc)),
+        links: Links::none(),
     }
 }
 
@@ -129,7 +129,7 @@ impl TouchIndex {
         requires small { id < 4096 }
         ensures { (slcs : List ℕ) → IsTouchIndex (changed before.now (Event.AddSet id a b slcs)) (reads_of self.new) }
     {
-        let set = bare_set(self.alloc, id, a, b);
+        let set = bare_set(id, a, b);
         readers::add_set(&mut self.readers, before, &set);
     }
 
@@ -233,7 +233,7 @@ impl TouchIndex {
         requires accepted { refusal_of before.now (Event.AddSet id a b slcs.now) ≡ None }
         ensures { (x : ℕ) → is_marked marks.new x ≡ (is_marked marks.old x || touches before.now (Event.AddSet id a b slcs.now) x) }
     {
-        let set = bare_set(self.alloc, id, a, b);
+        let set = bare_set(id, a, b);
         readers::mark_new_readers(self.readers.as_slice(), before, &set, marks);
     }
 

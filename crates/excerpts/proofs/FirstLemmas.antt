@@ -12,7 +12,7 @@ use Rattle.excerpts.proofs.NextLemmas.{IsRising-drop, never_fall, found_after}
 
 -- what a read past the end would give
 abbrev unread : Joint
-unread = record { pair = 0; position = 0; up = false }
+unread = record { pair = 0; position = 0 }
 
 -- the first joints of those that rise
 All-take : (P : Joint → Type 0) (n : ℕ) (js : List Joint) → AllByRecursion P js → AllByRecursion P (take n js)

@@ -6,7 +6,8 @@ pub mod NextLemmas
 pub mod FirstLemmas
 pub mod EntryLemmas
 pub mod TurnedLemmas
-pub mod RenewedLemmas
+pub mod SharedLemmas
 pub mod KeepingLemmas
 pub mod LeadLemmas
 pub mod PlaceLemmas
+mod LinkedLemmas

@@ -5,13 +5,14 @@ use Rattle.std.proofs.lemmas.List.{drop_all, drop_more}
 use Rattle.std.proofs.lemmas.List.Elements.{All-from_recursion}
 use Rattle.std.specs.Option.{option_map_or}
 use Rattle.std.proofs.lemmas.Bool.{cases_eq, eq-eqb, ne_eqb, ltb-true, ltb-false}
+use Rattle.net_items.specs.declared.items.LinkSet.{LinkSet}
 use Rattle.net_items.specs.Keyed.{IsRising, at_key}
 use Rattle.net_items.proofs.KeyedLemmas.{All-then}
 use Rattle.net_sets.specs.Joints.{joint_of}
 use Rattle.link_sets.specs.Neighbours.{next_from, code_count}
 use Rattle.link_sets.proofs.NeighbourLemmas.{count_is, find_least, find_none_in}
 use Rattle.excerpts.specs.declared.index.Joint.{Joint}
-use Rattle.excerpts.specs.Index.{is_up}
+use Rattle.excerpts.specs.Index.{is_up, leads_up}
 
 -- joints that rise, without the first of them
 pub IsRising-drop : (i : ℕ) (js : List Joint) → IsRising (λ (j : Joint). j.pair) js → IsRising (λ (j : Joint). j.pair) (drop i js)
@@ -55,25 +56,25 @@ passed_over (j ∷ js) q (suc i) d up within less more =
     rw (ne_eqb j.pair q (λ e. omega arith)) (passed_over js q i d up.1 (omega arith) (λ k e lt. less (suc k) e (omega arith)) (λ lt. more (omega arith)))
 
 -- the joints from a place on tell which points from a code on are up
-pub record IsLeft (js : List Joint) (y from i : ℕ) : Type 0 where
+pub record IsLeft (sets : List LinkSet) (js : List Joint) (y from i : ℕ) : Type 0 where
   pub rise : IsRising (λ (j : Joint). j.pair) (drop i js)
   pub above : (k : ℕ) (d : Joint) → i ≤ k → k < length js → joint_of y from ≤ (get_or js k d).pair
-  pub rest : (w : ℕ) → from ≤ w → is_up (drop i js) y w ≡ is_up js y w
+  pub rest : (w : ℕ) → from ≤ w → is_up sets (drop i js) y w ≡ is_up sets js y w
 
 -- the smaller pairs tell nothing of those points
-pub left_first : (js : List Joint) (y from i : ℕ) → IsRising (λ (j : Joint). j.pair) js → i ≤ length js → ((k : ℕ) (d : Joint) → k < i → (get_or js k d).pair < joint_of y from)
-    → ((k : ℕ) (d : Joint) → i ≤ k → k < length js → joint_of y from ≤ (get_or js k d).pair) → IsLeft js y from i
-left_first js y from i up within less above = record {
+pub left_first : (sets : List LinkSet) (js : List Joint) (y from i : ℕ) → IsRising (λ (j : Joint). j.pair) js → i ≤ length js → ((k : ℕ) (d : Joint) → k < i → (get_or js k d).pair < joint_of y from)
+    → ((k : ℕ) (d : Joint) → i ≤ k → k < length js → joint_of y from ≤ (get_or js k d).pair) → IsLeft sets js y from i
+left_first sets js y from i up within less above = record {
   rise = IsRising-drop i js up;
   above = above;
   rest = λ w late.
-      ap (λ (o : Option Joint). option_map_or (λ (j : Joint). j.up) o false)
+      ap (λ (o : Option Joint). option_map_or (leads_up sets) o false)
       (found_after i js (joint_of y w) within (λ k d lt. let l = less k d lt in omega arith));
 }
 
--- a joint that isn't up may be passed over
-up_past : (j : Joint) (js : List Joint) (y w : ℕ) → j.up ≡ false → IsRising (λ (j : Joint). j.pair) (j ∷ js) → is_up js y w ≡ is_up (j ∷ js) y w
-up_past j js y w down up =
+-- a joint that leads to no available set may be passed over
+up_past : (sets : List LinkSet) (j : Joint) (js : List Joint) (y w : ℕ) → leads_up sets j ≡ false → IsRising (λ (j : Joint). j.pair) (j ∷ js) → is_up sets js y w ≡ is_up sets (j ∷ js) y w
+up_past sets j js y w down up =
     ⊎_elim
     (λ (e : j.pair ≡ joint_of y w).
     let none : at_key (λ (j : Joint). j.pair) (joint_of y w) js ≡ None = none_above (joint_of y w) js (subst (λ q. AllByRecursion (λ (k : Joint). q < k.pair) js) e up.0) in
@@ -82,42 +83,42 @@ up_past j js y w down up =
     (cases_eq j.pair (joint_of y w))
 
 -- a pair below the first isn't there
-up_below : (j : Joint) (js : List Joint) (y w : ℕ) → joint_of y w < j.pair → IsRising (λ (j : Joint). j.pair) (j ∷ js) → is_up (j ∷ js) y w ≡ false
-up_below j js y w below up =
+up_below : (sets : List LinkSet) (j : Joint) (js : List Joint) (y w : ℕ) → joint_of y w < j.pair → IsRising (λ (j : Joint). j.pair) (j ∷ js) → is_up sets (j ∷ js) y w ≡ false
+up_below sets j js y w below up =
     let none : at_key (λ (j : Joint). j.pair) (joint_of y w) (j ∷ js) ≡ None = none_above (joint_of y w) (j ∷ js) (below, All-then (λ (j : Joint). j.pair) (λ (k : Joint). j.pair < k.pair) (λ (k : Joint). joint_of y w < k.pair) (λ k h. omega arith) js up.0) in
-    ap (λ (o : Option Joint). option_map_or (λ (j : Joint). j.up) o false) none
+    ap (λ (o : Option Joint). option_map_or (leads_up sets) o false) none
 
-module _ (js : List Joint) (y from i : ℕ) (d : Joint) (within : i < length js) (left : IsLeft js y from i) where
+module _ (sets : List LinkSet) (js : List Joint) (y from i : ℕ) (d : Joint) (within : i < length js) (left : IsLeft sets js y from i) where
   here : drop i js ≡ get_or js i d ∷ drop (i + 1) js
   here = drop_more js i d within
 
   rising_here : IsRising (λ (j : Joint). j.pair) (get_or js i d ∷ drop (i + 1) js)
   rising_here = subst (λ (ks : List Joint). IsRising (λ (j : Joint). j.pair) ks) here left.rise
 
-  rest_here : (w : ℕ) → from ≤ w → is_up (get_or js i d ∷ drop (i + 1) js) y w ≡ is_up js y w
-  rest_here w late = ap (λ (ks : List Joint). is_up ks y w) (sym here) ∙ left.rest w late
+  rest_here : (w : ℕ) → from ≤ w → is_up sets (get_or js i d ∷ drop (i + 1) js) y w ≡ is_up sets js y w
+  rest_here w late = ap (λ (ks : List Joint). is_up sets ks y w) (sym here) ∙ left.rest w late
 
-  pub left_next : (get_or js i d).up ≡ false → IsLeft js y from (i + 1)
+  pub left_next : leads_up sets (get_or js i d) ≡ false → IsLeft sets js y from (i + 1)
   left_next down = record {
     rise = rising_here.1;
     above = λ k e low high. left.above k e (omega arith) high;
-    rest = λ w late. up_past (get_or js i d) (drop (i + 1) js) y w down rising_here ∙ rest_here w late;
+    rest = λ w late. up_past sets (get_or js i d) (drop (i + 1) js) y w down rising_here ∙ rest_here w late;
   }
 
   -- the first joint is of the next point
-  pub next_here : (z : ℕ) → (get_or js i d).pair ≡ joint_of y z → z < 16384 → (get_or js i d).up ≡ true → Some z ≡ next_from (is_up js y) from
+  pub next_here : (z : ℕ) → (get_or js i d).pair ≡ joint_of y z → z < 16384 → leads_up sets (get_or js i d) ≡ true → Some z ≡ next_from (is_up sets js y) from
   next_here z is small up =
       let above : joint_of y from ≤ (get_or js i d).pair = left.above i d (omega arith) within in
       let late : from ≤ z = omega arith in
-      let found : is_up (get_or js i d ∷ drop (i + 1) js) y z ≡ true = rw (eq-eqb (get_or js i d).pair (joint_of y z) is) up in
-      sym (find_least (is_up js y) from (code_count - from) z late (omega (arith, late, small, count_is)) (sym (rest_here z late) ∙ found)
-      (λ w low lt. sym (rest_here w low) ∙ up_below (get_or js i d) (drop (i + 1) js) y w (omega arith) rising_here))
+      let found : is_up sets (get_or js i d ∷ drop (i + 1) js) y z ≡ true = rw (eq-eqb (get_or js i d).pair (joint_of y z) is) up in
+      sym (find_least (is_up sets js y) from (code_count - from) z late (omega (arith, late, small, count_is)) (sym (rest_here z late) ∙ found)
+      (λ w low lt. sym (rest_here w low) ∙ up_below sets (get_or js i d) (drop (i + 1) js) y w (omega arith) rising_here))
 
   -- the first joint is of a greater point than y, so no next point is left
-  pub next_over : ((z : ℕ) → z < 16384 → (get_or js i d).pair ≢ joint_of y z) → None ≡ next_from (is_up js y) from
+  pub next_over : ((z : ℕ) → z < 16384 → (get_or js i d).pair ≢ joint_of y z) → None ≡ next_from (is_up sets js y) from
   next_over other =
-      sym (find_none_in (is_up js y) from (code_count - from)
-      (λ w low high. sym (rest_here w low) ∙ up_below (get_or js i d) (drop (i + 1) js) y w (below (get_or js i d).pair refl w (omega (arith, low, high, count_is))) rising_here))
+      sym (find_none_in (is_up sets js y) from (code_count - from)
+      (λ w low high. sym (rest_here w low) ∙ up_below sets (get_or js i d) (drop (i + 1) js) y w (below (get_or js i d).pair refl w (omega (arith, low, high, count_is))) rising_here))
     where
       below : (q : ℕ) → (get_or js i d).pair ≡ q → (w : ℕ) → w < 16384 → joint_of y w < (get_or js i d).pair
       below q is w small = go (ltb q (joint_of y 16384)) refl
@@ -130,6 +131,6 @@ module _ (js : List Joint) (y from i : ℕ) (d : Joint) (within : i < length js)
           go false e = let far : joint_of y 16384 ≤ q = ltb-false _ _ e in omega (arith, is, small, far)
 
 -- no joint is left
-pub next_end : (js : List Joint) (y from i : ℕ) → length js ≤ i → IsLeft js y from i → None ≡ next_from (is_up js y) from
-next_end js y from i past left =
-    sym (find_none_in (is_up js y) from (code_count - from) (λ w low high. sym (left.rest w low) ∙ ap (λ (ks : List Joint). is_up ks y w) (drop_all i js past)))
+pub next_end : (sets : List LinkSet) (js : List Joint) (y from i : ℕ) → length js ≤ i → IsLeft sets js y from i → None ≡ next_from (is_up sets js y) from
+next_end sets js y from i past left =
+    sym (find_none_in (is_up sets js y) from (code_count - from) (λ w low high. sym (left.rest w low) ∙ ap (λ (ks : List Joint). is_up sets ks y w) (drop_all i js past)))

@@ -11,18 +11,17 @@ use Rattle.net_sets.specs.Joints.{joint_of}
 use Rattle.link_sets.specs.Availability.{set_available}
 use Rattle.excerpts.specs.declared.index.Joint.{Joint}
 
--- what the index holds of a set in a place, from a point to another
-abbrev pub joint_from : LinkSet → ℕ → ℕ → ℕ → Joint
-joint_from set position y z = record { pair = joint_of y z; position = position; up = set_available set }
+-- what the index holds of the set in a place, from a point to another
+abbrev pub joint_from : ℕ → ℕ → ℕ → Joint
+joint_from position y z = record { pair = joint_of y z; position = position }
 
 -- each joint stands under the number of its pair
 abbrev pub AreByPair : BTreeMap ℕ Joint → Type 0
 AreByPair joints = AllByRecursion (λ (e : ℕ × Joint). e.0 ≡ e.1.pair) joints.entries
 
--- a joint leads to a set, and tells whether it is available
-pub record IsJointOf (sets : List LinkSet) (set : LinkSet) (j : Joint) : Type 0 where
-  pub leads : slice_get sets j.position ≡ Some set
-  pub tells : j.up ≡ set_available set
+-- a joint leads to a set
+abbrev pub IsJointOf : List LinkSet → LinkSet → Joint → Type 0
+IsJointOf sets set j = slice_get sets j.position ≡ Some set
 
 -- what is held of the set between two points: a joint of it, or none if no set is
 abbrev pub IsHeld : List LinkSet → Option LinkSet → Option Joint → Type 0
@@ -49,13 +48,13 @@ AreSameEnds [] (other ∷ others) = ⊥
 AreSameEnds (set ∷ sets) [] = ⊥
 AreSameEnds (set ∷ sets) (other ∷ others) = HasSameEnds set other × AreSameEnds sets others
 
--- a joint over other sets: it leads to the set in the same place
-abbrev pub renewed : List LinkSet → Joint → Joint
-renewed sets j = record j { up = option_map_or set_available (slice_get sets j.position) false }
+-- a joint leads to a set that is available
+abbrev pub leads_up : List LinkSet → Joint → Bool
+leads_up sets j = option_map_or set_available (slice_get sets j.position) false
 
 -- the index has the pair, with a set that is available
-abbrev pub is_up : List Joint → ℕ → ℕ → Bool
-is_up joints y z = option_map_or (λ (j : Joint). j.up) (at_key (λ (j : Joint). j.pair) (joint_of y z) joints) false
+abbrev pub is_up : List LinkSet → List Joint → ℕ → ℕ → Bool
+is_up sets joints y z = option_map_or (leads_up sets) (at_key (λ (j : Joint). j.pair) (joint_of y z) joints) false
 
 -- the joints of smaller pairs stand before that place, and all others from there on
 pub record IsFirstJoint (pair : ℕ) (joints : List Joint) (position : ℕ) : Type 0 where

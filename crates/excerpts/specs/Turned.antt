@@ -1,14 +1,15 @@
 -- Between which points an available set is in one of two networks alone (own, after Q.704 clause 3.2).
-use Rattle.std.specs.Prelude.{◌≡◌, ℕ, ◌==◌, ◌&&◌, ◌||◌, Bool, false, List}
+use Rattle.std.specs.Prelude.{◌≡◌, ◌≢◌, ℕ, ◌==◌, ◌&&◌, ◌||◌, Bool, true, false, List, Option, Some, None}
 use Rattle.std.specs.List.{list_any, AllByRecursion}
 use Rattle.std.specs.Option.{option_map_or}
 use Rattle.net_items.specs.declared.items.LinkSet.{LinkSet}
 use Rattle.net_items.specs.declared.items.Point.{Point}
-use Rattle.net_items.specs.Lookups.{is_stp, mate_of}
+use Rattle.net_items.specs.Lookups.{is_stp, mate_of, set_at}
 use Rattle.net_data.specs.declared.events.Event.{Event}
+use Rattle.net_data.specs.declared.events.Event.TheVariants as on
 use Rattle.net_data.specs.Kinds.{is_of_links, is_of_sets}
 use Rattle.net_data.specs.Network.{Network}
-use Rattle.link_sets.specs.Availability.{connected}
+use Rattle.link_sets.specs.Availability.{connected, set_available}
 use Rattle.excerpts.specs.declared.turned.Ends.{Ends}
 use Rattle.excerpts.specs.declared.turned.Pair.{Pair}
 
@@ -27,6 +28,22 @@ AreTurned before after list = (y z : ℕ) → has_ends list y z ≡ false → co
 -- the same of pairs of points
 abbrev pub ArePairsTurned : List LinkSet → List LinkSet → List Pair → Type 0
 ArePairsTurned before after list = (y z : ℕ) → has_pair list y z ≡ false → connected after y z ≡ connected before y z
+
+-- the set whose links an event is about
+abbrev pub set_linked : Event → Option ℕ
+set_linked (on.Link id slc change) = Some id
+set_linked (on.AddLink id slc) = Some id
+set_linked (on.RemoveLink id slc) = Some id
+set_linked _ = None
+
+-- some event is about links of the set of that id
+abbrev pub is_named : List Event → ℕ → Bool
+is_named events id = list_any (λ event. option_map_or (λ k. k == id) (set_linked event) false) events
+
+-- the list has the ends of the set of an id, in both orders, if it is available in one of two lists alone
+abbrev pub HasTold : List LinkSet → List LinkSet → List Pair → ℕ → Type 0
+HasTold before after list id = (s t : LinkSet) → set_at before id ≡ Some s → set_at after id ≡ Some t → set_available s ≢ set_available t
+    → (has_pair list s.a s.b ≡ true) × (has_pair list s.b s.a ≡ true)
 
 -- two points are mates
 abbrev pub are_mates : List Point → ℕ → ℕ → Bool

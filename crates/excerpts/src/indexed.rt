@@ -1,6 +1,7 @@
 //! A network with its index.
 
-ghost use Rattle.std.specs.Prelude.{◌≡◌, IfOk};
+ghost use Rattle.std.specs.Prelude.{◌≡◌, ◌≤◌, IfOk, length};
+ghost use Rattle.std.specs.Arc.{arc_value};
 ghost use Rattle.std.specs.Option.{IfSome, option_copied};
 ghost use Rattle.net_items.specs.Lookups.{set_between as between};
 ghost use Rattle.net_data.specs.Valid.{IsValid};
@@ -11,6 +12,7 @@ ghost use Rattle.excerpts.specs.Index.{IsJointIndex};
 use crate::index::{are_same_ends, find_joint, index_of, next_up};
 use crate::joints::Joints;
 use crate::positions::PointOrder;
+use link_sets::set_available;
 use net_data::Net;
 use net_items::LinkSet;
 use point_codes::PointCode;
@@ -22,11 +24,13 @@ use std::sync::Arc;
 #[derive(Drop)]
 pub struct Indexed {
     net: Net,
-    joints: Joints,
+    /// Networks whose sets join the same points share it.
+    joints: Arc<Joints>,
     order: Arc<PointOrder>,
 }
 
 impl Model for Indexed {
+    ghost use Rattle.std.specs.Arc.{arc_value};
     ghost use Rattle.net_data.specs.Network.{Network};
     ghost use Rattle.excerpts.specs.Index.{IsJointIndex};
 
@@ -34,15 +38,17 @@ impl Model for Indexed {
 
     ghost view = { λ f. f.net };
 
-    ghost invariant = { λ f. IsJointIndex f.joints f.net.sets };
+    ghost invariant = { λ f. IsJointIndex (arc_value f.joints) f.net.sets };
 }
 
-/// The joints of sets.
-fn joints_of(alloc: Global, sets: &[LinkSet]) -> Result<Joints, AllocError>
-    ensures { IfOk result (λ joints. IsJointIndex joints sets.now) }
+/// The joints of sets, to be shared.
+fn joints_of(alloc: Global, sets: &[LinkSet]) -> Result<Arc<Joints>, AllocError>
+    requires { length sets.now ≤ 4096 }
+    ensures { IfOk result (λ joints. IsJointIndex (arc_value joints) sets.now) }
 {
     let list = index_of(alloc, sets)?;
-    Joints::new(alloc, list)
+    let joints = Joints::new(alloc, list)?;
+    Ok(Arc::new(alloc, joints)?)
 }
 
 impl Indexed {
@@ -50,6 +56,7 @@ impl Indexed {
     pub fn new(alloc: Global, net: Net) -> Result<Indexed, AllocError>
         ensures { IfOk result (λ f. f ≡ net) }
     {
+        net.validity();
         let joints = joints_of(alloc, net.sets())?;
         let order = PointOrder::shared(alloc, net.points())?;
         Ok(Indexed { net, joints, order })
@@ -67,7 +74,7 @@ impl Indexed {
         PointOrder::shared(alloc, net.points())
     }
 
-    /// The same, made faster if the sets of an earlier network join the same points, one by one.
+    /// The same. If the sets of an earlier network join the same points, one by one, its joints are shared.
     pub fn after(alloc: Global, net: Net, before: &Indexed) -> Result<Indexed, AllocError>
         ensures { IfOk result (λ f. f ≡ net) }
     {
@@ -75,7 +82,7 @@ impl Indexed {
         if !are_same_ends(before.net.sets(), net.sets()) {
             return Indexed::new(alloc, net);
         }
-        let joints = before.joints.over(alloc, net.sets())?;
+        let joints = Arc::try_clone(&before.joints)?;
         let order = Indexed::order_after(alloc, &net, before)?;
         Ok(Indexed { net, joints, order })
     }
@@ -104,7 +111,7 @@ impl Indexed {
         ensures { result ≡ connected self.now.sets point other }
     {
         match find_joint(self.joints.of_point(point), point, other) {
-            Some(joint) => joint.up,
+            Some(joint) => set_available(&self.net.sets()[joint.position as usize]),
             None => false,
         }
     }
@@ -114,7 +121,7 @@ impl Indexed {
         ensures { option_copied result ≡ between self.now.sets point other }
     {
         let joint = find_joint(self.joints.of_point(point), point, other)?;
-        Some(&self.net.sets()[joint.position])
+        Some(&self.net.sets()[joint.position as usize])
     }
 
     /// The first point of code `from` or above that an available set joins to the point.
@@ -122,6 +129,6 @@ impl Indexed {
         ensures value { result ≡ next_from (connected self.now.sets point) from }
         ensures within { IfSome result (IsCodeFrom from) }
     {
-        next_up(self.joints.of_point(point), point, from)
+        next_up(self.net.sets(), self.joints.of_point(point), point, from)
     }
 }

@@ -1,29 +1,26 @@
 //! The index, with where the joints of each point begin.
 
-ghost use Rattle.std.specs.Prelude.{◌≡◌, ◌<◌, ◌≤◌, ℕ, IfOk, length, map};
+ghost use Rattle.std.specs.Prelude.{◌≡◌, ◌<◌, ◌≤◌, ℕ, IfOk, length};
 ghost use Rattle.std.specs.List.{AllWithin};
 ghost use Rattle.net_items.specs.Keyed.{IsRising, at_key};
 ghost use Rattle.net_sets.specs.Joints.{joint_of};
-ghost use Rattle.excerpts.specs.Index.{IsFirstJoint, AreFirsts, renewed};
+ghost use Rattle.excerpts.specs.Index.{IsFirstJoint, AreFirsts};
 
-use crate::index::{Joint, index_after};
-use net_items::LinkSet;
+use crate::index::Joint;
 use point_codes::PointCode;
 use std::alloc::{AllocError, Global};
 use std::marker::Model;
-use std::sync::Arc;
 
 /// The joints in rising number of the pair, so that those of a point stand together.
 #[derive(Drop)]
 pub struct Joints {
     list: Vec<Joint>,
-    /// How many joints have a pair before those of each point; the last number is that of all joints. Joints of the same pairs share it.
-    firsts: Arc<Vec<usize>>,
+    /// How many joints have a pair before those of each point; the last number is that of all joints.
+    firsts: Vec<usize>,
 }
 
 impl Model for Joints {
     ghost use Rattle.std.specs.Prelude.{List};
-    ghost use Rattle.std.specs.Arc.{arc_value};
     ghost use Rattle.net_items.specs.Keyed.{IsRising};
     ghost use Rattle.excerpts.specs.declared.index.Joint.{Joint};
     ghost use Rattle.excerpts.specs.Index.{AreFirsts};
@@ -32,7 +29,7 @@ impl Model for Joints {
 
     ghost view = { λ f. f.list.items };
 
-    ghost invariant = { λ f. IsRising (λ (j : Joint). j.pair) f.list.items × AreFirsts (arc_value f.firsts).items f.list.items };
+    ghost invariant = { λ f. IsRising (λ (j : Joint). j.pair) f.list.items × AreFirsts f.firsts.items f.list.items };
 }
 
 /// Where the joints from a pair on begin, if it is known of the first ones that they stand before.
@@ -83,19 +80,6 @@ impl Joints {
         ensures { IfOk result (λ joints. joints ≡ list.items) }
     {
         let firsts = firsts_of(alloc, &list)?;
-        Ok(Joints {
-            list,
-            firsts: Arc::new(alloc, firsts)?,
-        })
-    }
-
-    /// The joints over sets that join the same points, one by one: each leads to the set at the same position. It fails if memory is
-    /// refused.
-    pub fn over(&self, alloc: Global, sets: &[LinkSet]) -> Result<Joints, AllocError>
-        ensures { IfOk result (λ joints. joints ≡ map (renewed sets.now) self.now) }
-    {
-        let list = index_after(alloc, &self.list, sets)?;
-        let firsts = Arc::try_clone(&self.firsts)?;
         Ok(Joints { list, firsts })
     }
 

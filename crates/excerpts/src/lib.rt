@@ -1,8 +1,8 @@
 //! A network that is shared, and one destination's view of it.
 //!
 //! 1. A network that doesn't change is shared, and not copied, by all who ask. It keeps an index of adjacent points, made
-//!    once: which set is between two points, whether it is available, and who the neighbours of a point are (own).
-//!    Contracts see the network alone: the index is never seen, and never wrong.
+//!    once for all networks whose sets join the same points: which set is between two points, and who the neighbours of a
+//!    point are (own). Contracts see the network alone: the index is never seen, and never wrong.
 //! 2. Neighbours are the points that an available set joins, in rising code (own, after Q.704 clause 3.2).
 //! 3. The table of a destination reads the plan, the kinds of the row points, the mates of those whose row has the mate
 //!    flag, the transfer-restricted option, and every link set with an end that is a transfer point with a row, or

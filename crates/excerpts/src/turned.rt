@@ -7,7 +7,8 @@ ghost use Rattle.link_sets.specs.Availability.{connected, set_available as set_i
 ghost use Rattle.std.specs.List.{list_all};
 ghost use Rattle.std.specs.Option.{IfSome};
 ghost use Rattle.net_data.specs.Edits.{replay};
-ghost use Rattle.excerpts.specs.Turned.{are_mates as mates_of, has_pair, keeps_plans, told_of, ArePairsTurned, HasTurned};
+ghost use Rattle.net_data.specs.Kinds.{is_of_links};
+ghost use Rattle.excerpts.specs.Turned.{are_mates as mates_of, has_pair, is_named, keeps_plans, set_linked, told_of, ArePairsTurned, HasTold, HasTurned};
 
 use crate::Frozen;
 use crate::index::has_same_ends;
@@ -15,6 +16,7 @@ use link_sets::set_available;
 use net_data::Event;
 use net_items::lookups::{is_stp, mate_of};
 use net_items::{LinkSet, Point};
+use net_sets::set_questions::find_set;
 use point_codes::PointCode;
 use std::alloc::{AllocError, Global};
 
@@ -173,7 +175,7 @@ pub(crate) fn turned_by(
     if !are_keeping(events) {
         return Ok(None);
     }
-    let turned = turned_pairs(alloc, net, before)?;
+    let turned = turned_pairs(alloc, net, before, events)?;
     if turned.len() > TURNED_LIMIT {
         return Ok(None);
     }
@@ -214,11 +216,87 @@ fn turned_in_place(
     Ok(Some(list))
 }
 
+/// The set whose links an event is about.
+fn linked(event: &Event) -> Option<u16>
+    ensures { result ≡ set_linked event.now }
+{
+    match event {
+        Event::Link(id, _, _) | Event::AddLink(id, _) | Event::RemoveLink(id, _) => Some(*id),
+        _ => None,
+    }
+}
+
+/// Whether an event is about links.
+fn is_link(event: &Event) -> bool
+    ensures { result ≡ is_of_links event.now }
+{
+    matches!(
+        event,
+        Event::Link(_, _, _) | Event::AddLink(_, _) | Event::RemoveLink(_, _)
+    )
+}
+
+/// Whether all events are about links.
+fn are_links(events: &[Event]) -> bool
+    ensures { result ≡ list_all is_of_links events.now }
+{
+    events.iter().all(is_link)
+}
+
+/// Puts in the ends of the set of an id, in both orders, if it is available in one of two networks alone.
+fn put_named(list: &mut Vec<Pair>, net: &Frozen, before: &Frozen, id: u16) -> Result<(), AllocError>
+    ensures kept { OnOk result ((y z : ℕ) → has_pair list.old.items y z ≡ true → has_pair list.new.items y z ≡ true) }
+    ensures told { OnOk result (HasTold before.now.sets net.now.sets list.new.items id) }
+{
+    net.validity();
+    before.validity();
+    match (
+        find_set(before.net().sets(), id),
+        find_set(net.net().sets(), id),
+    ) {
+        (Some(set), Some(other)) => put_if_differs(list, set, other),
+        _ => Ok(()),
+    }
+}
+
+/// The ends of the sets that events of links are about, in both orders, if they are available in one of two networks alone.
+fn turned_among(
+    alloc: Global,
+    net: &Frozen,
+    before: &Frozen,
+    events: &[Event],
+) -> Result<Vec<Pair>, AllocError>
+    ensures { IfOk result (λ list. (id : ℕ) → is_named events.now id ≡ true → HasTold before.now.sets net.now.sets list.items id) }
+{
+    let mut list = Vec::new(alloc);
+    for event in events {
+        if let Some(id) = linked(event) {
+            put_named(&mut list, net, before, id)?;
+        }
+    }
+    Ok(list)
+}
+
+/// How many events are looked at one by one at most. For more, it costs less to look at all sets.
+const NAMED_LIMIT: usize = 64;
+
 /// Pairs of points, in both orders, and among them all that an available set joins in one of two networks alone. It fails only
 /// if memory is refused.
-fn turned_pairs(alloc: Global, net: &Frozen, before: &Frozen) -> Result<Vec<Pair>, AllocError>
+fn turned_pairs(
+    alloc: Global,
+    net: &Frozen,
+    before: &Frozen,
+    events: &[Event],
+) -> Result<Vec<Pair>, AllocError>
+    requires { net.now ≡ replay before.now events.now }
     ensures { IfOk result (λ list. ArePairsTurned before.now.sets net.now.sets list.items) }
 {
+    net.validity();
+    before.validity();
+    if events.len() <= NAMED_LIMIT && are_links(events) {
+        let list = turned_among(alloc, net, before, events)?;
+        return Ok(list);
+    }
     if let Some(list) = turned_in_place(alloc, net.net().sets(), before.net().sets())? {
         return Ok(list);
     }

@@ -82,7 +82,8 @@ pub fn put_set_members(alloc: Global, writer: &mut Writer, set: &LinkSet) -> Res
 {
     put_set(writer, set.id)?;
     put_ends(alloc, writer, set)?;
-    put_marked_links(alloc, writer, set.links.as_slice())
+    let links = set.links.listed();
+    put_marked_links(alloc, writer, links.as_slice())
 }
 
 /// Writes ids as an array.

@@ -11,10 +11,7 @@ use point_codes::PointCode;
 pub fn set_available(set: &LinkSet) -> bool
     ensures { result ≡ has_available set.now }
 {
-    set.links
-        .as_slice()
-        .iter()
-        .any(|link| link.marks.available())
+    set.links.any_available()
 }
 
 /// Whether an available set joins two points.
@@ -32,8 +29,9 @@ pub fn is_connected(sets: &[LinkSet], point: PointCode, other: PointCode) -> boo
 pub fn mask(set: &LinkSet) -> u16
     ensures { IsMask set.now.links result }
 {
+    let links = set.links.listed();
     let mut mask = 0;
-    for (i, link) in set.links.as_slice().iter().enumerate() {
+    for (i, link) in links.as_slice().iter().enumerate() {
         if i < 16 && link.marks.available() {
             mask |= 1 << i;
         }

@@ -3,9 +3,10 @@
 ghost use Rattle.std.specs.Prelude.{◌≡◌, ◌++◌, map, IfOk, OnOk};
 ghost use Rattle.net_building.specs.Building.{is_needed, changes_of, added_set, mark_events, set_events};
 
+use crate::given::GivenSet;
 use link_state::{End, LinkChange, Marks};
 use net_data::Event;
-use net_items::{Link, LinkSet, Slcs};
+use net_items::{Link, Slcs};
 use std::alloc::{AllocError, Global};
 
 /// Whether a new link, which is failed alone, needs the change to have these marks.
@@ -47,23 +48,25 @@ fn slcs_of(alloc: Global, links: &[Link]) -> Result<Vec<u8>, AllocError>
 }
 
 /// The event that adds a set, whose links are failed alone.
-fn addition_of(alloc: Global, set: &LinkSet) -> Result<Event, AllocError>
+fn addition_of(alloc: Global, set: &GivenSet) -> Result<Event, AllocError>
     ensures { IfOk result (λ event. event ≡ added_set set.now) }
 {
-    let slcs = slcs_of(alloc, set.links.as_slice())?;
-    Ok(Event::AddSet(set.id, set.a, set.b, Slcs::from_vec(alloc, slcs)?))
+    let slcs = slcs_of(alloc, set.links())?;
+    let slcs = Slcs::from_vec(alloc, slcs)?;
+    Ok(Event::AddSet(set.id(), set.a(), set.b(), slcs))
 }
 
 /// Adds the changes that give the links of a new set their marks.
-fn add_marks(events: &mut Vec<Event>, set: &LinkSet) -> Result<(), AllocError>
+fn add_marks(events: &mut Vec<Event>, set: &GivenSet) -> Result<(), AllocError>
     ensures { OnOk result (events.new.items ≡ events.old.items ++ mark_events set.now) }
 {
-    let links = set.links.as_slice();
-    add_changes(events, set.id, links, LinkChange::Restore)?;
-    add_changes(events, set.id, links, LinkChange::Block(End::First))?;
-    add_changes(events, set.id, links, LinkChange::Block(End::Second))?;
-    add_changes(events, set.id, links, LinkChange::Inhibit(End::First))?;
-    add_changes(events, set.id, links, LinkChange::Inhibit(End::Second))?;
+    let id = set.id();
+    let links = set.links();
+    add_changes(events, id, links, LinkChange::Restore)?;
+    add_changes(events, id, links, LinkChange::Block(End::First))?;
+    add_changes(events, id, links, LinkChange::Block(End::Second))?;
+    add_changes(events, id, links, LinkChange::Inhibit(End::First))?;
+    add_changes(events, id, links, LinkChange::Inhibit(End::Second))?;
     Ok(())
 }
 
@@ -74,7 +77,7 @@ fn add_marks(events: &mut Vec<Event>, set: &LinkSet) -> Result<(), AllocError>
 /// # Errors
 ///
 /// `AllocError` if memory is refused.
-pub fn events_of_set(alloc: Global, set: &LinkSet) -> Result<Vec<Event>, AllocError>
+pub fn events_of_set(alloc: Global, set: &GivenSet) -> Result<Vec<Event>, AllocError>
     ensures { IfOk result (λ events. events.items ≡ set_events set.now) }
 {
     let addition = addition_of(alloc, set)?;

@@ -75,7 +75,8 @@ fn add_changes_in(
 ) -> Result<(), AllocError>
     ensures { OnOk result (events.new.items ≡ events.old.items ++ changes_in change set.now) }
 {
-    for link in set.links.as_slice() {
+    let links = set.links.listed();
+    for link in links.as_slice() {
         events.push(Event::Link(set.id, link.slc, change))?;
     }
     Ok(())

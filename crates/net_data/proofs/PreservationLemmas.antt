@@ -1,5 +1,5 @@
 -- Edits keep a network valid.
-use Rattle.std.proofs.Common.{◌≡◌, ℕ, ◌<◌, Bool, true, false, not, ◌&&◌, ◌||◌, eqb, ltb, leb, Option, Some, None, is_some, ⊎_elim, List, [], ◌∷◌, ◌++◌, length, refl, ap, sym, ◌∙◌, arith}
+use Rattle.std.proofs.Common.{◌≡◌, ℕ, ◌<◌, Bool, true, false, not, ◌&&◌, ◌||◌, eqb, ltb, leb, Option, Some, None, is_some, ⊎_elim, List, [], ◌∷◌, ◌++◌, length, All, refl, ap, sym, ◌∙◌, arith}
 use Rattle.std.specs.List.{AllByRecursion, list_all, list_any}
 use Rattle.std.specs.Option.{option_map_or, option_map, option_or, option_and_then}
 use Rattle.std.proofs.lemmas.Bool.{and_parts, or_parts, or_left, not-false, cond_both, eqb-false, ltb-true, ltb-false, leb-false}
@@ -20,6 +20,7 @@ use Rattle.plan_rows.specs.Rows.{all_vias, is_lower, is_free, has_mate_row, is_s
 use Rattle.net_data.specs.Valid.{IsRightRow, IsRightPlan, IsRightSet, IsValid}
 use Rattle.net_sets.specs.Sets.{is_distinct, is_nil, new_link, new_links, with_change, IsOnePerPair}
 use Rattle.net_sets.proofs.SetLemmas.{IsRising-new_links}
+use Rattle.std.proofs.lemmas.List.Elements.{All-from_recursion}
 use Rattle.plan_rows.specs.Causes.{when, cause_of, wrong_row}
 use Rattle.net_data.specs.Edits.{refusal_of, changed, in_order, put_rows}
 use Rattle.net_items.proofs.KeyedLemmas.{All-put, All-then, All-edit, IsRising-put, IsRising-edit, length-put, length-put_pos, length-edit, is_some-put, put_new, some_find-put, none_find-put, some_find-edit}
@@ -139,6 +140,22 @@ new_links-small [] h = tt
 new_links-small (slc ∷ slcs) h =
     let both = and_parts (ltb slc 16) _ h in
     All-put (λ (l : Link). l.slc) (λ l. l.slc < 16) (new_link slc) (new_links slcs) (ltb-true _ _ both.0) (new_links-small slcs both.1)
+
+codes-small : (slcs : List ℕ) → list_all (λ c. ltb c 16) slcs ≡ true → AllByRecursion (λ (c : ℕ). c < 16) slcs
+codes-small [] h = tt
+codes-small (slc ∷ slcs) h = let both = and_parts (ltb slc 16) _ h in (ltb-true _ _ both.0, codes-small slcs both.1)
+
+-- the codes of a set that isn't refused are small
+pub added-small : (net : Network) (id a b : ℕ) (slcs : List ℕ) → refusal_of net (on.AddSet id a b slcs) ≡ None → All (λ (c : ℕ). c < 16) slcs
+added-small net id a b slcs none =
+    let t1 = when_none (not (has_point net.points a && has_point net.points b)) _ _ none in
+    let t2 = when_none (is_some (set_at net.sets id)) _ _ t1.1 in
+    let t3 = or_none (option_map _ (set_between net.sets a b)) _ t2.1 in
+    let t4 = when_none (eqb a b) _ _ t3.1 in
+    let t5 = when_none (is_nil slcs || not (list_all (λ c. ltb c 16) slcs && is_distinct slcs)) _ _ t4.1 in
+    let links = or_parts (is_nil slcs) _ t5.0 in
+    let codes = and_parts (list_all (λ c. ltb c 16) slcs) _ (not-false _ links.1) in
+    All-from_recursion (λ (c : ℕ). c < 16) slcs (codes-small slcs codes.0)
 
 new_links-some : (slcs : List ℕ) → is_nil slcs ≡ false → 0 < length (new_links slcs)
 new_links-some [] h = absurd (cc)

@@ -92,6 +92,13 @@ module _ (net : Network) (v : IsValid net) where
     plans_right = All-without (λ (p : Plan). p.dest) (IsRightPlan net.points net.sets) dest net.plans v.plans_right;
   }
 
+  -- the code of a link that isn't refused is small
+  pub added-link-small : (id slc : ℕ) → refusal_of net (on.AddLink id slc) ≡ None → slc < 16
+  added-link-small id slc none =
+      let t1 = when_none (not (is_some (set_at net.sets id))) _ _ none in
+      let t2 = when_none (ltb 15 slc) _ _ t1.1 in
+      let small : slc ≤ 15 = ltb-false 15 slc t2.0 in omega arith
+
   -- a set changes, but not its id and ends
   valid-edit_set : (id : ℕ) (f : LinkSet → LinkSet) → ((s : LinkSet) → (f s).id ≡ s.id) → ((s : LinkSet) → ((f s).a ≡ s.a) × ((f s).b ≡ s.b)) → ((y z : ℕ) (s : LinkSet) → joins y z (f s) ≡ joins y z s)
       → ((s : LinkSet) → set_at net.sets id ≡ Some s → IsRightSet net.points s → IsRightSet net.points (f s))

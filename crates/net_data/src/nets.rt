@@ -225,7 +225,6 @@ impl Net {
 
     fn add_set(
         &mut self,
-        alloc: Global,
         id: u16,
         a: PointCode,
         b: PointCode,
@@ -235,7 +234,7 @@ impl Net {
         ensures ok { OnOk result (self.new ≡ changed self.old (Event.AddSet id a b slcs.now)) }
         ensures err { OnErr result (self.new ≡ self.old) }
     {
-        let links = new_links(alloc, slcs.as_slice())?;
+        let links = new_links(slcs.as_slice());
         self.sets.put(LinkSet { id, a, b, links })?;
         Ok(())
     }
@@ -247,13 +246,11 @@ impl Net {
         self.sets.remove(id);
     }
 
-    fn add_link(&mut self, id: u16, slc: u8) -> Result<(), AllocError>
+    fn add_link(&mut self, id: u16, slc: u8)
         requires { the_refusal self.old (Event.AddLink id slc) ≡ None }
-        ensures ok { OnOk result (self.new ≡ changed self.old (Event.AddLink id slc)) }
-        ensures err { OnErr result (self.new ≡ self.old) }
+        ensures { self.new ≡ changed self.old (Event.AddLink id slc) }
     {
-        self.sets.add_link(id, slc)?;
-        Ok(())
+        self.sets.add_link(id, slc);
     }
 
     fn remove_link(&mut self, id: u16, slc: u8)
@@ -323,9 +320,9 @@ impl Net {
             Event::RemovePoint(code) => self.remove_point(*code),
             Event::Pair(p, q) => self.pair(*p, *q),
             Event::Unpair(p) => self.unpair(*p),
-            Event::AddSet(id, a, b, slcs) => return self.add_set(alloc, *id, *a, *b, slcs),
+            Event::AddSet(id, a, b, slcs) => return self.add_set(*id, *a, *b, slcs),
             Event::RemoveSet(id) => self.remove_set(*id),
-            Event::AddLink(id, slc) => return self.add_link(*id, *slc),
+            Event::AddLink(id, slc) => self.add_link(*id, *slc),
             Event::RemoveLink(id, slc) => self.remove_link(*id, *slc),
             Event::SetPlan(plan) => return self.put_copy(alloc, plan.as_plan()),
             Event::DropPlan(dest) => self.drop_plan(*dest),

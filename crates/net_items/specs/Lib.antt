@@ -2,3 +2,4 @@ pub mod Keyed
 pub mod Lookups
 pub mod Vias
 pub mod Classes
+pub mod Links

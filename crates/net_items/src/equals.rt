@@ -3,7 +3,6 @@
 ghost use Rattle.std.specs.Prelude.{◌≡◌, ◌↔◌, IsTrue};
 
 use crate::items::{LinkSet, Plan, Point};
-use crate::links::Link;
 use crate::lists::Row;
 use crate::vias::Vias;
 use link_state::LinkChange;
@@ -53,20 +52,11 @@ pub fn is_same_plan(a: &Plan, b: &Plan) -> bool
     a.dest == b.dest && are_same_rows(a.rows.as_slice(), b.rows.as_slice())
 }
 
-fn are_same_links(a: &[Link], b: &[Link]) -> bool
-    ensures { IsTrue result ↔ (a.now ≡ b.now) }
-{
-    a == b
-}
-
 /// Whether two sets are equal.
 pub fn is_same_set(a: &LinkSet, b: &LinkSet) -> bool
     ensures { IsTrue result ↔ (a.now ≡ b.now) }
 {
-    a.id == b.id
-        && a.a == b.a
-        && a.b == b.b
-        && are_same_links(a.links.as_slice(), b.links.as_slice())
+    a.id == b.id && a.a == b.a && a.b == b.b && a.links.equals(&b.links)
 }
 
 /// Whether the sets are equal.

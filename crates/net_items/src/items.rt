@@ -2,7 +2,8 @@
 
 ghost use Rattle.std.specs.Prelude.{◌≡◌, IfOk};
 
-use crate::lists::{Links, Rows};
+use crate::links::Links;
+use crate::lists::Rows;
 use point_codes::PointCode;
 use std::alloc::{AllocError, Global};
 use std::marker::Model;

@@ -9,7 +9,7 @@
 //! The lists inside these types are small types of their own, which contracts see as lists. Whether they make a
 //! valid network is the subject of the crate `net_data`.
 //!
-//! Stands on `point_codes`, `link_state`, `smallvec`. A change here also changes specs/ (Classes, Keyed, Lookups, Vias), proofs/,
+//! Stands on `point_codes`, `link_state`, `smallvec`. A change here also changes specs/ (Classes, Keyed, Links, Lookups, Vias), proofs/,
 //! must-fail/ and wrong-bodies/.
 #![tactic(auto)]
 
@@ -25,7 +25,7 @@ pub mod vias;
 
 pub use classes::Classes;
 pub use items::{GivenPlan, Kind, LinkSet, Plan, Point};
-pub use links::Link;
+pub use links::{Link, LinkList, Links};
 pub use listing::Listing;
-pub use lists::{Links, Row, Rows, Slcs};
+pub use lists::{Row, Rows, Slcs};
 pub use vias::Vias;

@@ -1,116 +1,11 @@
 //! Lists inside plain data, each a small type that a contract sees as a list.
 
-ghost use Rattle.std.specs.Prelude.{◌≡◌, ◌<◌, ◌++◌, ◌∷◌, [], List, ℕ, length, map, slice_set, OnOk, OnErr, IfOk, IfErr, is_some, true};
-ghost use Rattle.net_items.specs.Keyed.{IsRising, IsFoundAt, IsGapAt, at_key, put, without};
+ghost use Rattle.std.specs.Prelude.{◌≡◌, List, ℕ, map, IfOk};
 
 use crate::classes::Classes;
-use crate::links::Link;
 use point_codes::PointCode;
-use smallvec::SmallVec;
 use std::alloc::{AllocError, Global};
 use std::marker::Model;
-
-/// The place of a link of that code where codes go up by one.
-fn guess_of_link(links: &[Link], slc: u8) -> usize {
-    match links {
-        [first, ..] => usize::from(slc.saturating_sub(first.slc)),
-        [] => 0,
-    }
-}
-
-/// The position of a link, or the one that it would get. Mostly codes go up by one, and it is seen at once; else it is found by binary search.
-pub fn position_of_link(links: &[Link], slc: u8) -> Result<usize, usize>
-    requires { IsRising (λ l. l.slc) links.now }
-    ensures found { IfOk result (IsFoundAt (λ l. l.slc) slc links.now) }
-    ensures absent { IfErr result (IsGapAt (λ l. l.slc) slc links.now) }
-{
-    let guess = guess_of_link(links, slc);
-    if guess < links.len() && links[guess].slc == slc {
-        return Ok(guess);
-    }
-    links.binary_search_by_key(&slc, |l| l.slc)
-}
-
-/// The links of a set. Sixteen of them, all that a set may have, need no memory.
-#[derive(Debug, Drop)]
-pub struct Links {
-    list: SmallVec<Link, 16>,
-}
-
-impl Model for Links {
-    ghost use Rattle.std.specs.Prelude.{List};
-    ghost use Rattle.net_items.specs.declared.links.Link.{Link};
-
-    ghost Value = { List Link };
-
-    ghost view = { λ l. l.list.items };
-}
-
-impl Links {
-    /// These links.
-    pub fn from_vec(list: Vec<Link>) -> Links
-        ensures { result ≡ list.items }
-    {
-        Links {
-            list: SmallVec::from_vec(list),
-        }
-    }
-
-    /// A copy of these links.
-    pub fn from_slice(alloc: Global, links: &[Link]) -> Result<Links, AllocError>
-        ensures { IfOk result (λ l. l ≡ links.now) }
-    {
-        Ok(Links {
-            list: SmallVec::from_slice(alloc, links)?,
-        })
-    }
-
-    /// The links as a slice.
-    pub fn as_slice(&self) -> &[Link]
-        ensures { result.now ≡ self.now }
-    {
-        self.list.as_slice()
-    }
-
-    /// Puts a link in the place of another.
-    pub fn set(&mut self, at: usize, link: Link)
-        requires { at < length self.old }
-        ensures { self.new ≡ slice_set self.old at link }
-    {
-        self.list.as_mut_slice()[at] = link;
-    }
-
-    /// Puts in a link, in the place of one of its code.
-    pub fn put(&mut self, link: Link) -> Result<(), AllocError>
-        requires { IsRising (λ l. l.slc) self.old }
-        ensures ok { OnOk result (self.new ≡ put (λ l. l.slc) link self.old) }
-        ensures err { OnErr result (self.new ≡ self.old) }
-    {
-        match position_of_link(self.list.as_slice(), link.slc) {
-            Ok(at) => {
-                self.list.as_mut_slice()[at] = link;
-            }
-            Err(at) => {
-                self.list.insert(at, link)?;
-            }
-        }
-        Ok(())
-    }
-
-    /// Removes the link of that code.
-    pub fn remove(&mut self, slc: u8)
-        requires rising { IsRising (λ l. l.slc) self.old }
-        requires there { is_some (at_key (λ l. l.slc) slc self.old) ≡ true }
-        ensures { self.new ≡ without (λ l. l.slc) slc self.old }
-    {
-        match position_of_link(self.list.as_slice(), slc) {
-            Ok(at) => {
-                self.list.remove(at);
-            }
-            Err(_) => unreachable!(),
-        }
-    }
-}
 
 /// What a plan says of one point.
 #[derive(Debug, Drop)]

@@ -1,17 +1,15 @@
 //! Changes of link sets and of their links.
 
-ghost use Rattle.std.specs.Prelude.{◌≡◌, OnOk, OnErr, IfOk, Some, is_some, true};
-ghost use Rattle.std.specs.List.{AllByRecursion};
-ghost use Rattle.net_items.specs.Keyed.{IsRising, put, edit, without, IsFoundAt, IsGapAt, at_key};
+ghost use Rattle.std.specs.Prelude.{◌≡◌, ◌<◌, OnOk, OnErr, All, Some, is_some, true};
+ghost use Rattle.net_items.specs.Keyed.{IsRising, put, without};
 ghost use Rattle.net_items.specs.Lookups.{set_at};
 ghost use Rattle.net_sets.specs.Sets.{with_change, with_link, without_link, has_link, set_passes, edit_set, new_links as the_new_links};
 ghost use Rattle.link_state.specs.Marks.{marks_after};
 
 use link_state::{LinkChange, Marks};
-use net_items::lists::position_of_link;
 use net_items::lookups::position_of_set;
 use net_items::{Link, LinkSet, Links};
-use std::alloc::{AllocError, Global};
+use std::alloc::AllocError;
 
 /// Puts in a set, in the place of one of its id.
 pub fn put_set(sets: &mut Vec<LinkSet>, set: LinkSet) -> Result<(), AllocError>
@@ -32,29 +30,22 @@ pub fn put_set(sets: &mut Vec<LinkSet>, set: LinkSet) -> Result<(), AllocError>
 
 /// Changes the marks of a link.
 pub fn change_link(set: &mut LinkSet, slc: u8, change: LinkChange)
-    requires rising { IsRising (λ l. l.slc) set.old.links }
-    requires there { has_link slc set.old ≡ true }
+    requires { has_link slc set.old ≡ true }
     ensures { set.new ≡ with_change slc change set.old }
 {
-    match position_of_link(set.links.as_slice(), slc) {
-        Ok(at) => {
-            let link = set.links.as_slice()[at];
-            set.links.set(
-                at,
-                Link {
-                    slc: link.slc,
-                    marks: link.marks.after(change),
-                },
-            );
-        }
-        Err(_) => unreachable!(),
+    set.links.validity();
+    match set.links.get(slc) {
+        Some(link) => set.links.put(Link {
+            marks: link.marks.after(change),
+            ..link
+        }),
+        None => unreachable!(),
     }
 }
 
 /// Changes the marks of a link of the set of that id.
 pub fn change_link_of_set(sets: &mut Vec<LinkSet>, id: u16, slc: u8, change: LinkChange)
     requires rising { IsRising (λ s. s.id) sets.old.items }
-    requires links_rise { AllByRecursion (λ s. IsRising (λ l. l.slc) s.links) sets.old.items }
     requires there { set_passes (has_link slc) sets.old.items id ≡ true }
     ensures { sets.new.items ≡ edit_set id (with_change slc change) sets.old.items }
 {
@@ -67,37 +58,33 @@ pub fn change_link_of_set(sets: &mut Vec<LinkSet>, id: u16, slc: u8, change: Lin
     }
 }
 
-fn add_link(set: &mut LinkSet, slc: u8) -> Result<(), AllocError>
-    requires { IsRising (λ l. l.slc) set.old.links }
-    ensures ok { OnOk result (set.new ≡ with_link slc set.old) }
-    ensures err { OnErr result (set.new ≡ set.old) }
+fn add_link(set: &mut LinkSet, slc: u8)
+    requires { slc < 16 }
+    ensures { set.new ≡ with_link slc set.old }
 {
     set.links.put(Link {
         slc,
         marks: Marks::FAILED,
-    })
+    });
 }
 
 /// Adds a link with the failed mark alone to the set of that id.
-pub fn add_link_to_set(sets: &mut Vec<LinkSet>, id: u16, slc: u8) -> Result<(), AllocError>
+pub fn add_link_to_set(sets: &mut Vec<LinkSet>, id: u16, slc: u8)
     requires rising { IsRising (λ s. s.id) sets.old.items }
-    requires links_rise { AllByRecursion (λ s. IsRising (λ l. l.slc) s.links) sets.old.items }
     requires there { is_some (set_at sets.old.items id) ≡ true }
-    ensures ok { OnOk result (sets.new.items ≡ edit_set id (with_link slc) sets.old.items) }
-    ensures err { OnErr result (sets.new.items ≡ sets.old.items) }
+    requires small { slc < 16 }
+    ensures { sets.new.items ≡ edit_set id (with_link slc) sets.old.items }
 {
     match position_of_set(sets, id) {
         Ok(at) => {
             let set = &mut sets[at];
-            add_link(set, slc)
+            add_link(set, slc);
         }
         Err(_) => unreachable!(),
     }
 }
 
 fn remove_link(set: &mut LinkSet, slc: u8)
-    requires rising { IsRising (λ l. l.slc) set.old.links }
-    requires there { has_link slc set.old ≡ true }
     ensures { set.new ≡ without_link slc set.old }
 {
     set.links.remove(slc);
@@ -106,7 +93,6 @@ fn remove_link(set: &mut LinkSet, slc: u8)
 /// Removes a link of the set of that id.
 pub fn remove_link_of_set(sets: &mut Vec<LinkSet>, id: u16, slc: u8)
     requires rising { IsRising (λ s. s.id) sets.old.items }
-    requires links_rise { AllByRecursion (λ s. IsRising (λ l. l.slc) s.links) sets.old.items }
     requires there { set_passes (has_link slc) sets.old.items id ≡ true }
     ensures { sets.new.items ≡ edit_set id (without_link slc) sets.old.items }
 {
@@ -133,17 +119,18 @@ pub fn remove_set(sets: &mut Vec<LinkSet>, id: u16) -> LinkSet
 }
 
 /// The links of those codes in rising code, each with the failed mark alone.
-pub fn new_links(alloc: Global, slcs: &[u8]) -> Result<Links, AllocError>
-    ensures { IfOk result (λ l. l ≡ the_new_links slcs.now) }
+pub fn new_links(slcs: &[u8]) -> Links
+    requires { All (λ c. c < 16) slcs.now }
+    ensures { result ≡ the_new_links slcs.now }
 {
-    let mut links = Links::from_vec(Vec::new(alloc));
+    let mut links = Links::none();
     let mut position = slcs.len();
     while position > 0 {
         position -= 1;
         links.put(Link {
             slc: slcs[position],
             marks: Marks::FAILED,
-        })?;
+        });
     }
-    Ok(links)
+    links
 }

@@ -1,14 +1,13 @@
 //! What is asked of link sets, and of the links of a new one.
 
 ghost use Rattle.std.specs.Prelude.{◌≡◌, ◌&&◌, ◌||◌, not, nat_lt, length, is_some, IfOk, IfErr};
-ghost use Rattle.std.specs.List.{list_all, list_any, AllByRecursion};
+ghost use Rattle.std.specs.List.{list_all, list_any};
 ghost use Rattle.std.specs.Option.{option_copied};
 ghost use Rattle.net_items.specs.Keyed.{IsRising, IsFoundAt, IsGapAt};
 ghost use Rattle.net_items.specs.Lookups.{set_at};
 ghost use Rattle.net_sets.specs.Sets.{is_distinct as distinct, is_nil as nil, is_end as end_is, has_link as link_there, has_last_link, set_passes};
 
 use net_items::LinkSet;
-use net_items::lists::position_of_link;
 use net_items::lookups::position_of_set;
 use point_codes::PointCode;
 
@@ -52,13 +51,9 @@ pub fn is_set(sets: &[LinkSet], id: u16) -> bool
 
 /// Whether a set has a link of a code.
 pub fn has_link(slc: u8, set: &LinkSet) -> bool
-    requires { IsRising (λ l. l.slc) set.now.links }
     ensures { result ≡ link_there slc set.now }
 {
-    match position_of_link(set.links.as_slice(), slc) {
-        Ok(_) => true,
-        Err(_) => false,
-    }
+    set.links.get(slc).is_some()
 }
 
 /// The set of that id.
@@ -74,8 +69,7 @@ pub fn find_set(sets: &[LinkSet], id: u16) -> Option<&LinkSet>
 
 /// Whether the set of that id has that link.
 pub fn set_has_link(sets: &[LinkSet], id: u16, slc: u8) -> bool
-    requires sets { IsRising (λ s. s.id) sets.now }
-    requires links { AllByRecursion (λ s. IsRising (λ l. l.slc) s.links) sets.now }
+    requires { IsRising (λ s. s.id) sets.now }
     ensures { result ≡ set_passes (link_there slc) sets.now id }
 {
     match position_of_set(sets, id) {
@@ -84,13 +78,21 @@ pub fn set_has_link(sets: &[LinkSet], id: u16, slc: u8) -> bool
     }
 }
 
+/// Whether a set has no more than one link.
+fn has_last(set: &LinkSet) -> bool
+    ensures { result ≡ has_last_link set.now }
+{
+    let links = set.links.listed();
+    links.as_slice().len() <= 1
+}
+
 /// Whether the set of that id has no more than one link.
 pub fn set_has_last_link(sets: &[LinkSet], id: u16) -> bool
     requires { IsRising (λ s. s.id) sets.now }
     ensures { result ≡ set_passes has_last_link sets.now id }
 {
     match find_set(sets, id) {
-        Some(set) => set.links.as_slice().len() <= 1,
+        Some(set) => has_last(set),
         None => false,
     }
 }

@@ -12,10 +12,10 @@ ghost use Rattle.net_sheets.specs.Events.{is_named as named, pair_events_after};
 use crate::faults::{Reason, SpotFault};
 use crate::records::spot_of;
 use csv::ByteRecord;
-use net_building::{apply_events, events_of_set};
+use net_building::{GivenSet, apply_events, events_of_set};
 use net_data::{Event, Net, Refusal};
+use net_items::Point;
 use net_items::lookups::is_point;
-use net_items::{LinkSet, Point};
 use point_codes::PointCode;
 use std::alloc::Global;
 
@@ -92,7 +92,7 @@ pub(crate) fn pair_points(
 }
 
 /// Adds a set. Its links, which are then failed alone, get their marks.
-fn add_set(alloc: Global, net: &mut Net, set: &LinkSet) -> Result<(), Refusal>
+fn add_set(alloc: Global, net: &mut Net, set: &GivenSet) -> Result<(), Refusal>
     ensures ok { OnOk result (apply_all net.old (set_events set.now) ≡ Ok net.new) }
     ensures err { IfErr result (λ e. e ≢ Refusal.OutOfMemory → apply_all net.old (set_events set.now) ≡ Err e) }
 {
@@ -103,12 +103,12 @@ fn add_set(alloc: Global, net: &mut Net, set: &LinkSet) -> Result<(), Refusal>
 }
 
 /// The field of a set's record that a refusal is about, or 0 for the whole record.
-fn field_of(net: &Net, set: &LinkSet, refusal: &Refusal) -> u8 {
+fn field_of(net: &Net, set: &GivenSet, refusal: &Refusal) -> u8 {
     // The proof reads from this that the points stand in rising code.
     net.validity();
     match refusal {
         Refusal::NoPoint => {
-            if is_point(net.points(), set.a) {
+            if is_point(net.points(), set.a()) {
                 return 3;
             }
             2
@@ -123,7 +123,7 @@ pub(crate) fn add_sets(
     alloc: Global,
     net: &mut Net,
     table: &[ByteRecord],
-    sets: &[LinkSet],
+    sets: &[GivenSet],
 ) -> Result<(), SpotFault>
     ensures ok { OnOk result (apply_all net.old (flat_map set_events sets.now) ≡ Ok net.new) }
     ensures err { IfErr result (λ fault. IsRefusal (apply_all net.old (flat_map set_events sets.now)) fault.reason) }

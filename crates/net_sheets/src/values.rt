@@ -14,7 +14,8 @@ use crate::lists::push;
 use crate::records::{field, spot_of};
 use crate::routes::Route;
 use csv::ByteRecord;
-use net_items::{Link, LinkSet, Links, Point};
+use net_building::GivenSet;
+use net_items::{Link, Point};
 use point_codes::{PointCode, read_number, split_at_byte};
 use std::alloc::{AllocError, Global};
 use tokens::{Format, read_code, read_id, read_kind, read_marked};
@@ -63,15 +64,14 @@ fn read_links(alloc: Global, text: &[u8]) -> Result<Option<Vec<Link>>, AllocErro
 }
 
 /// The set of a record with these links. The error is the first flaw.
-fn set_with(record: &ByteRecord, links: Option<Vec<Link>>) -> Result<LinkSet, Flaw>
+fn set_with(record: &ByteRecord, links: Option<Vec<Link>>) -> Result<GivenSet, Flaw>
     ensures { option_map (λ v. v.items) links ≡ pieces_of 32 (marked_of Two) (the_field (fields_of record.now) 3) → result ≡ set_of (fields_of record.now) }
 {
     let id = read_id(field(record, 0)).ok_or(Flaw::Column(1))?;
     let a = read_code(field(record, 1)).ok_or(Flaw::Column(2))?;
     let b = read_code(field(record, 2)).ok_or(Flaw::Column(3))?;
     let links = links.ok_or(Flaw::Column(4))?;
-    let links = Links::from_vec(links);
-    Ok(LinkSet { id, a, b, links })
+    Ok(GivenSet::new(id, a, b, links))
 }
 
 /// A class from 1 to 4.
@@ -144,7 +144,7 @@ pub(crate) fn read_points(alloc: Global, table: &[ByteRecord]) -> Result<Vec<Poi
 }
 
 /// The sets of records.
-pub(crate) fn read_sets(alloc: Global, table: &[ByteRecord]) -> Result<Vec<LinkSet>, SpotFault>
+pub(crate) fn read_sets(alloc: Global, table: &[ByteRecord]) -> Result<Vec<GivenSet>, SpotFault>
     ensures ok { IfOk result (λ sets. all_read set_of (map fields_of table.now) ≡ Ok sets.items) }
     ensures err { IfErr result (λ fault. IsFieldFault (all_read set_of (map fields_of table.now)) fault.reason) }
 {

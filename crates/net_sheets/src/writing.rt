@@ -54,7 +54,8 @@ fn set_line(alloc: Global, set: &LinkSet) -> Result<String, AllocError>
     let id = set.id;
     let a = set.a;
     let b = set.b;
-    let links = write_links(alloc, set.links.as_slice())?;
+    let links = set.links.listed();
+    let links = write_links(alloc, links.as_slice())?;
     let links = links.as_str();
     let line = format!(in alloc; "{id},{a},{b},{links}\n")?;
     Ok(line)

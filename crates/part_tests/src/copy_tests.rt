@@ -4,7 +4,7 @@ use crate::parts::{CLEAR, code, link, set_between};
 use link_state::Marks;
 use net_items::copies::{copy_plan, copy_row, copy_rows, copy_set, copy_sets, copy_slcs, put_row};
 use net_items::equals::{are_same_sets, are_same_slcs, is_same_plan, is_same_set};
-use net_items::{Classes, Link, LinkSet, Links, Plan, Row, Rows, Slcs, Vias};
+use net_items::{Classes, LinkSet, Links, Plan, Row, Rows, Slcs, Vias};
 use point_codes::{BadCode, PointCode};
 use std::alloc::{AllocError, Global};
 use std::test::Fail;
@@ -24,7 +24,7 @@ const SIX: [(u16, &str, &str, Marks); 6] = [
 fn sets_of(alloc: Global, parts: &[(u16, &str, &str, Marks)]) -> Result<Vec<LinkSet>, Fail> {
     let mut sets = Vec::new(alloc);
     for (id, a, b, first) in parts {
-        sets.push(set_between(alloc, *id, *a, *b, [*first, CLEAR])?)?;
+        sets.push(set_between(*id, *a, *b, [*first, CLEAR])?)?;
     }
     Ok(sets)
 }
@@ -34,7 +34,7 @@ fn equal_sets(alloc: Global) -> Result<(bool, bool), Fail> {
     let sets = sets_of(alloc, &SIX[..2])?;
     match sets.as_slice() {
         [one, two] => {
-            let copy = copy_set(alloc, one)?;
+            let copy = copy_set(one);
             Ok((is_same_set(&copy, one), is_same_set(&copy, two)))
         }
         _ => Ok((false, false)),
@@ -174,25 +174,19 @@ fn a_row_goes_before_one_of_a_higher_point(rt: HostRuntime) -> Result<(), Fail> 
     Ok(())
 }
 
-/// The links that three links make, put one after the other.
-fn put_three(alloc: Global, [one, two, three]: [Link; 3]) -> Result<Links, AllocError> {
-    let mut links = Links::from_vec(Vec::new(alloc));
-    links.put(one)?;
-    links.put(two)?;
-    links.put(three)?;
-    Ok(links)
-}
-
-/// Whether three links put one after the other make those two.
-fn make_two(alloc: Global, three: [Link; 3], two: [Link; 2]) -> Result<bool, AllocError> {
-    let links = put_three(alloc, three)?;
-    Ok(links.as_slice() == two.as_slice())
+/// Whether a link of code 3, one of code 1 and one of code 3 again, put one after the other, make the last two.
+fn make_two(first: Marks, one: Marks, last: Marks) -> bool {
+    let mut links = Links::none();
+    links.put(link(3, first));
+    links.put(link(1, one));
+    links.put(link(3, last));
+    let list = links.listed();
+    list.as_slice() == [link(1, one), link(3, last)].as_slice()
 }
 
 #[test]
 fn a_link_takes_the_place_of_one_of_its_code(rt: HostRuntime) -> Result<(), Fail> {
-    let (one, down) = (link(1, CLEAR), link(3, Marks::FAILED));
-    assert!(rt; make_two(rt.alloc(), [link(3, CLEAR), one, down], [one, down])?);
+    assert!(rt; make_two(CLEAR, CLEAR, Marks::FAILED));
     Ok(())
 }
 

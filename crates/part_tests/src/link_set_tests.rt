@@ -1,6 +1,6 @@
 //! A point with three sets, of which one is down.
 
-use crate::parts::{CLEAR, code, half_a_set, set_between, set_of_seventeen};
+use crate::parts::{CLEAR, code, half_a_set, set_between, set_of_sixteen};
 use link_sets::{Neighbours, is_connected, mask, next_neighbour, set_available};
 use link_state::Marks;
 use net_items::LinkSet;
@@ -16,7 +16,7 @@ fn sets_around(alloc: Global) -> Result<Vec<LinkSet>, Fail> {
         ("0-0-2", "0-0-5", [CLEAR, CLEAR]),
         ("0-0-5", "0-0-7", [Marks::FAILED, Marks::FAILED]),
     ] {
-        sets.push(set_between(alloc, 1, a, b, marks)?)?;
+        sets.push(set_between(1, a, b, marks)?)?;
     }
     Ok(sets)
 }
@@ -60,14 +60,14 @@ fn tells_what_joins_points(rt: HostRuntime) -> Result<(), Fail> {
 
 #[test]
 fn masks_links(rt: HostRuntime) -> Result<(), Fail> {
-    let set = half_a_set(rt.alloc())?;
+    let set = half_a_set()?;
     assert_eq!(rt; (mask(&set), set_available(&set)), (2, true));
     Ok(())
 }
 
 #[test]
-fn masks_the_first_sixteen_links(rt: HostRuntime) -> Result<(), Fail> {
-    let set = set_of_seventeen(rt.alloc())?;
+fn masks_sixteen_links(rt: HostRuntime) -> Result<(), Fail> {
+    let set = set_of_sixteen()?;
     assert_eq!(rt; mask(&set), 65_535);
     Ok(())
 }

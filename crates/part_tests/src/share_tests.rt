@@ -1,40 +1,35 @@
 //! Orders and shares worked out by hand.
 
-ghost use Rattle.std.specs.Prelude.{◌≡◌, ◌<◌, All, IfOk, length};
-ghost use Rattle.net_items.specs.Keyed.{IsRising};
-
-use crate::parts::{CLEAR, code, half_a_set, link, set_of_seventeen};
+use crate::parts::{CLEAR, code, half_a_set, link, set_of_sixteen};
 use link_state::Marks;
 use net_items::{LinkSet, Links};
 use sls_share::{Carried, link_for, member_for, probe};
-use std::alloc::Global;
 use std::test::Fail;
 
 /// A set of the links 2, 5 and 9 with these marks.
-fn set_of_three(alloc: Global, marks: [Marks; 3]) -> Result<LinkSet, Fail>
-    ensures few { IfOk result (λ set. length set.links ≡ 3) }
-    ensures rising { IfOk result (λ set. IsRising (λ link. link.slc) set.links) }
-    ensures small { IfOk result (λ set. All (λ link. link.slc < 16) set.links) }
-{
+fn set_of_three(marks: [Marks; 3]) -> Result<LinkSet, Fail> {
     let end = code("0-0-1")?;
-    let links = [link(2, marks[0]), link(5, marks[1]), link(9, marks[2])];
+    let mut links = Links::none();
+    links.put(link(2, marks[0]));
+    links.put(link(5, marks[1]));
+    links.put(link(9, marks[2]));
     Ok(LinkSet {
         id: 1,
         a: end,
         b: end,
-        links: Links::from_vec(Vec::from_slice(alloc, &links)?),
+        links,
     })
 }
 
 /// What carries the share numbers of the links 2, 5 and 9 with these marks.
-fn carried_with(alloc: Global, marks: [Marks; 3]) -> Result<Carried, Fail> {
-    let set = set_of_three(alloc, marks)?;
+fn carried_with(marks: [Marks; 3]) -> Result<Carried, Fail> {
+    let set = set_of_three(marks)?;
     Ok(Carried::of(&set))
 }
 
 /// The links that carry the sixteen share numbers, 255 if there is none.
-fn carriers(alloc: Global, marks: [Marks; 3]) -> Result<[u8; 16], Fail> {
-    let carried = carried_with(alloc, marks)?;
+fn carriers(marks: [Marks; 3]) -> Result<[u8; 16], Fail> {
+    let carried = carried_with(marks)?;
     let mut codes = [255; 16];
     for t in 0..16u8 {
         codes[usize::from(t)] = carried.link_for(t).unwrap_or(255);
@@ -44,8 +39,8 @@ fn carriers(alloc: Global, marks: [Marks; 3]) -> Result<[u8; 16], Fail> {
 
 #[test]
 fn carries_by_masks(rt: HostRuntime) -> Result<(), Fail> {
-    let up = carriers(rt.alloc(), [CLEAR; 3])?;
-    let some = carriers(rt.alloc(), [Marks::FAILED, CLEAR, CLEAR])?;
+    let up = carriers([CLEAR; 3])?;
+    let some = carriers([Marks::FAILED, CLEAR, CLEAR])?;
     let wanted = [
         [2, 5, 9, 2, 5, 9, 2, 5, 9, 2, 5, 9, 2, 5, 9, 2],
         [5, 5, 9, 9, 5, 9, 5, 5, 9, 9, 5, 9, 5, 5, 9, 9],
@@ -56,21 +51,21 @@ fn carries_by_masks(rt: HostRuntime) -> Result<(), Fail> {
 
 #[test]
 fn carries_nothing_where_all_failed(rt: HostRuntime) -> Result<(), Fail> {
-    let none = carriers(rt.alloc(), [Marks::FAILED; 3])?;
+    let none = carriers([Marks::FAILED; 3])?;
     assert_eq!(rt; none, [255; 16]);
     Ok(())
 }
 
 /// Whether a `Carried` equals its copy, and another.
-fn equal_carried(alloc: Global) -> Result<(bool, bool), Fail> {
-    let up = carried_with(alloc, [CLEAR; 3])?;
-    let some = carried_with(alloc, [Marks::FAILED, CLEAR, CLEAR])?;
+fn equal_carried() -> Result<(bool, bool), Fail> {
+    let up = carried_with([CLEAR; 3])?;
+    let some = carried_with([Marks::FAILED, CLEAR, CLEAR])?;
     Ok((some.equals(&some.copy()), some.equals(&up)))
 }
 
 #[test]
 fn carried_equals_its_copy_alone(rt: HostRuntime) -> Result<(), Fail> {
-    assert_eq!(rt; equal_carried(rt.alloc())?, (true, false));
+    assert_eq!(rt; equal_carried()?, (true, false));
     Ok(())
 }
 
@@ -86,7 +81,7 @@ fn probes_in_order(rt: HostRuntime) {
 
 #[test]
 fn passes_a_failed_link(rt: HostRuntime) -> Result<(), Fail> {
-    let set = half_a_set(rt.alloc())?;
+    let set = half_a_set()?;
     assert_eq!(rt; link_for(&set, 0), Some(3));
     Ok(())
 }
@@ -104,14 +99,17 @@ fn shares_over_vias(rt: HostRuntime) {
 
 #[test]
 fn no_link_carries_a_share_number_beyond_fifteen(rt: HostRuntime) -> Result<(), Fail> {
-    let set = half_a_set(rt.alloc())?;
+    let set = half_a_set()?;
     assert_eq!(rt; [link_for(&set, 15), link_for(&set, 16)], [Some(3), None]);
     Ok(())
 }
 
 #[test]
-fn no_link_of_a_set_of_seventeen_carries_traffic(rt: HostRuntime) -> Result<(), Fail> {
-    let set = set_of_seventeen(rt.alloc())?;
-    assert_eq!(rt; link_for(&set, 0), None);
+fn each_of_sixteen_links_carries_a_share_number(rt: HostRuntime) -> Result<(), Fail> {
+    let set = set_of_sixteen()?;
+    assert_eq!(rt;
+        [link_for(&set, 0), link_for(&set, 15)],
+        [Some(0), Some(15)]
+    );
     Ok(())
 }

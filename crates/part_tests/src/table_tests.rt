@@ -79,16 +79,16 @@ fn reads_no_links_of_a_table(rt: HostRuntime) -> Result<(), Fail> {
 }
 
 /// A set of this id, whose links 0 and 3 have these marks, with the links that carry its share numbers.
-fn carried_by(alloc: Global, id: u16, marks: [Marks; 2]) -> Result<Option<SetLinks>, Fail> {
-    let set = set_between(alloc, id, "0-0-7", "0-0-7", marks)?;
+fn carried_by(id: u16, marks: [Marks; 2]) -> Result<Option<SetLinks>, Fail> {
+    let set = set_between(id, "0-0-7", "0-0-7", marks)?;
     let carried = Carried::of(&set);
     Ok(Some(SetLinks { id, carried }))
 }
 
 /// Set 7 with both links, and set 8 with its first one failed.
-fn new_links(alloc: Global, size: u8, used: [bool; 2]) -> Result<RowLinks, Fail> {
-    let seven = carried_by(alloc, 7, [CLEAR, CLEAR])?;
-    let eight = carried_by(alloc, 8, [Marks::FAILED, CLEAR])?;
+fn new_links(size: u8, used: [bool; 2]) -> Result<RowLinks, Fail> {
+    let seven = carried_by(7, [CLEAR, CLEAR])?;
+    let eight = carried_by(8, [Marks::FAILED, CLEAR])?;
     Ok(RowLinks::new(size, used, [seven, eight]))
 }
 
@@ -99,7 +99,7 @@ fn link(id: u16, slc: u8) -> Option<LinkRef> {
 
 #[test]
 fn shares_links_over_both_vias(rt: HostRuntime) -> Result<(), Fail> {
-    let both = new_links(rt.alloc(), 2, [true, true])?;
+    let both = new_links(2, [true, true])?;
     let links = [both.at(0), both.at(1), both.at(2), both.at(15)];
     assert_eq!(rt; links, [link(7, 0), link(8, 3), link(7, 3), link(8, 3)]);
     Ok(())
@@ -107,8 +107,8 @@ fn shares_links_over_both_vias(rt: HostRuntime) -> Result<(), Fail> {
 
 #[test]
 fn shares_links_over_one_via(rt: HostRuntime) -> Result<(), Fail> {
-    let first = new_links(rt.alloc(), 2, [true, false])?;
-    let single = new_links(rt.alloc(), 1, [true, false])?;
+    let first = new_links(2, [true, false])?;
+    let single = new_links(1, [true, false])?;
     let none = RowLinks::none();
     let links = [first.at(1), first.at(3), single.at(1), none.at(15)];
     assert_eq!(rt; links, [link(7, 0), link(7, 3), link(7, 3), None]);
@@ -116,15 +116,15 @@ fn shares_links_over_one_via(rt: HostRuntime) -> Result<(), Fail> {
 }
 
 /// Whether the links of a row equal their copy, and those over its first via alone.
-fn equal_links(alloc: Global) -> Result<(bool, bool), Fail> {
-    let both = new_links(alloc, 2, [true, true])?;
-    let first = new_links(alloc, 2, [true, false])?;
+fn equal_links() -> Result<(bool, bool), Fail> {
+    let both = new_links(2, [true, true])?;
+    let first = new_links(2, [true, false])?;
     Ok((both.equals(&both.copy()), both.equals(&first)))
 }
 
 #[test]
 fn links_equal_their_copy_alone(rt: HostRuntime) -> Result<(), Fail> {
-    assert_eq!(rt; equal_links(rt.alloc())?, (true, false));
+    assert_eq!(rt; equal_links()?, (true, false));
     Ok(())
 }
 

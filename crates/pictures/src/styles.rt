@@ -46,7 +46,8 @@ fn are_available(links: &[Link]) -> bool
 pub(crate) fn style_of(set: &LinkSet) -> Style
     ensures { result ≡ the_style set.now }
 {
-    if are_available(set.links.as_slice()) {
+    let links = set.links.listed();
+    if are_available(links.as_slice()) {
         Style::Plain
     } else if set_available(set) {
         Style::Dashed

@@ -39,7 +39,8 @@ fn id_in(event: &Event) -> Option<u16> {
 impl<'a> NetSentence<'a> {
     /// Adds a set with the codes of its links: `set 36 has links 0 and 1`.
     fn put_links(&mut self, set: &LinkSet) -> Result<(), AllocError> {
-        let (id, links) = (set.id, set.links.as_slice());
+        let (id, list) = (set.id, set.links.listed());
+        let links = list.as_slice();
         let plural = if links.len() == 1 { "" } else { "s" };
         let head = format!(in self.alloc; "set {id} has link{plural}")?;
         self.put(head.as_str())?;

@@ -5,5 +5,6 @@ pub use net_building::{
 };
 pub use net_data::{Cause, Event, Net, Plans, Refusal};
 pub use net_items::{
-    Classes, GivenPlan, Kind, Link, LinkSet, Links, Listing, Plan, Point, Row, Rows, Slcs, Vias,
+    Classes, GivenPlan, Kind, Link, LinkList, LinkSet, Links, Listing, Plan, Point, Row, Rows,
+    Slcs, Vias,
 };

@@ -1,8 +1,7 @@
 //! The links of a set that carry the sixteen share numbers, kept by two masks.
 
-ghost use Rattle.std.specs.Prelude.{◌≡◌, ◌↔◌, ◌<◌, ◌≤◌, IsTrue, All, None, length, slice_get, slice_index_or};
-ghost use Rattle.net_items.specs.Keyed.{IsRising};
-ghost use Rattle.sls_share.specs.Carried.{codes_in, links_for, IsCodeMask};
+ghost use Rattle.std.specs.Prelude.{◌≡◌, ◌↔◌, ◌<◌, ◌≤◌, IsTrue, None, length, slice_get, slice_index_or};
+ghost use Rattle.sls_share.specs.Carried.{codes_in, links_for};
 
 use crate::share::masked_position;
 use link_sets::mask;
@@ -26,18 +25,6 @@ impl Model for Carried {
     ghost Value = { List (Option ℕ) };
 
     ghost view = { λ c. codes_for (codes_in c.codes) c.available };
-}
-
-/// The signalling link codes of a set, a bit each.
-fn codes_of(set: &LinkSet) -> u16
-    requires { All (λ link. link.slc < 16) set.now.links }
-    ensures { IsCodeMask set.now.links result }
-{
-    let mut codes = 0;
-    for link in set.links.as_slice() {
-        codes |= 1 << link.slc;
-    }
-    codes
 }
 
 /// How many codes a mask has.
@@ -66,17 +53,14 @@ fn code_at(codes: u16, position: usize) -> Option<u8>
 }
 
 impl Carried {
-    /// The links that carry the sixteen share numbers over a set of at most 16 links, which rise in signalling link
-    /// code, each 0 to 15.
+    /// The links that carry the sixteen share numbers over a set.
     #[tactic(auto, using(crate::proofs::CarriedLemmas::carried_is))]
     pub fn of(set: &LinkSet) -> Carried
-        requires few { length set.now.links ≤ 16 }
-        requires rising { IsRising (λ link. link.slc) set.now.links }
-        requires small { All (λ link. link.slc < 16) set.now.links }
         ensures { result ≡ links_for set.now.links }
     {
+        set.links.validity();
         Carried {
-            codes: codes_of(set),
+            codes: set.links.codes(),
             available: mask(set),
         }
     }

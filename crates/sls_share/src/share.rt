@@ -1,6 +1,6 @@
 //! The link that carries a share number, and the via that carries an SLS.
 
-ghost use Rattle.std.specs.Prelude.{◌≡◌, ◌<◌, ◌≤◌, ◌==◌, ◌⊎◌, IsTrue, None, length, false, slice_index_or};
+ghost use Rattle.std.specs.Prelude.{◌≡◌, ◌<◌, ◌≤◌, ◌==◌, IsTrue, None, false, slice_index_or};
 ghost use Rattle.std.specs.Option.{IfSome};
 ghost use Rattle.sls_share.specs.Share.{probe as probe_of, link_for as link_of, IsSteady, via_of, share_of, HasMember};
 ghost use Rattle.sls_share.specs.Carried.{masked_position as position_of};
@@ -45,18 +45,19 @@ pub(crate) fn masked_position(available: u16, n: usize, t: u8) -> Option<usize>
 
 /// The signalling link code of the link that carries share number `t`, if one is available (own, after Q.704 clause 2.3).
 ///
-/// There are sixteen share numbers, and a set has sixteen links at most: None for `t` from 16 on, and for a set of more. When
-/// another link becomes unavailable, the answer stays.
+/// There are sixteen share numbers: None for `t` from 16 on. When another link becomes unavailable, the answer stays.
 #[tactic(auto, using(crate::proofs::CarriedLemmas::position_is, crate::proofs::CarriedLemmas::link_there_is, crate::proofs::CarriedLemmas::link_nowhere_is, crate::proofs::ShareLemmas::steady_answer))]
 pub fn link_for(set: &LinkSet, t: u8) -> Option<u8>
-    ensures answer { t < 16 → length set.now.links ≤ 16 → result ≡ link_of set.now.links t }
-    ensures beyond { (16 ≤ t) ⊎ (16 < length set.now.links) → result ≡ None }
-    ensures steady { t < 16 → length set.now.links ≤ 16 → IsSteady set.now.links t result }
+    ensures answer { t < 16 → result ≡ link_of set.now.links t }
+    ensures beyond { 16 ≤ t → result ≡ None }
+    ensures steady { t < 16 → IsSteady set.now.links t result }
 {
-    let links = set.links.as_slice();
-    if t >= 16 || links.len() > 16 {
+    set.links.validity();
+    if t >= 16 {
         return None;
     }
+    let list = set.links.listed();
+    let links = list.as_slice();
     let i = masked_position(mask(set), links.len(), t)?;
     Some(links[i].slc)
 }

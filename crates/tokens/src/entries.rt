@@ -116,8 +116,8 @@ pub fn write_set(alloc: Global, set: &LinkSet) -> Result<String, AllocError>
     let a = set.a;
     let b = set.b;
     let mut text = format!(in alloc; "{id} {a} {b}")?;
-    let links = set.links.as_slice();
-    put_links(alloc, &mut text, links)?;
+    let links = set.links.listed();
+    put_links(alloc, &mut text, links.as_slice())?;
     Ok(text)
 }
 

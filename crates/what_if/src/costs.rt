@@ -113,8 +113,9 @@ fn cheaper_link(one: Option<SetLink>, other: SetLink) -> SetLink
 pub(crate) fn least_link(set: &LinkSet) -> Option<SetLink>
     ensures { option_map (λ l. l ∷ []) result ≡ the_least_link set.now.id set.now.links }
 {
+    let links = set.links.listed();
     let mut least = None;
-    for link in set.links.as_slice() {
+    for link in links.as_slice() {
         let other = SetLink {
             id: set.id,
             link: *link,

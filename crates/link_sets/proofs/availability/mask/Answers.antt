@@ -23,5 +23,5 @@ loop-i-preserved c =
 
 pub returns : goal.returns
 returns c =
-    subst (λ (links : List Link). IsMask links c.loop-i.mask) c.as_slice-link-items.ensures
+    subst (λ (links : List Link). IsMask links c.loop-i.mask) (c.as_slice-link-items.ensures ∙ c.listed-links.ensures)
     (mask_all c.as_slice-link-items.result.now c.loop-i.mask c.loop-i.i (omega arith) c.loop-i.invariant)

@@ -7,9 +7,9 @@ use Rattle.net_building.proofs.sets.add_marks.Goals as goal
 
 pub returns : goal.returns
 returns c =
-    let id = c.args.set.now.id in
-    let links = c.as_slice-links.result.now in
+    let id = c.id-id.result in
+    let links = c.links-links.result.now in
     five_more c.args.events.now.items c.add_changes.new.events.items c.add_changes-2.new.events.items c.add_changes-3.new.events.items c.add_changes-4.new.events.items c.add_changes-5.new.events.items
     (changes_of id links Restore) (changes_of id links (Block First)) (changes_of id links (Block Second)) (changes_of id links (Inhibit First)) (changes_of id links (Inhibit Second))
     c.in_ok-add_changes.ensures c.in_ok-add_changes-2.ensures c.in_ok-add_changes-3.ensures c.in_ok-add_changes-4.ensures c.in_ok-add_changes-5.ensures
-    ∙ ap (λ es. c.args.events.now.items ++ es) (marks_made c.args.set.now links c.as_slice-links.ensures)
+    ∙ ap (λ es. c.args.events.now.items ++ es) (marks_made c.args.set.now id links c.id-id.ensures c.links-links.ensures)

@@ -1,11 +1,10 @@
 use Rattle.std.proofs.Common.{ap, ◌∙◌, set}
-use Rattle.std.proofs.lemmas.Result.{on_ok_weaker}
 use Rattle.net_sets.specs.Sets.{with_link}
 use Rattle.net_sets.proofs.changes.add_link_to_set.Goals as goal
 
 -- the search found the set, and the write there is the edit
-pub returns-clause-ok : goal.returns-clause-ok
-returns-clause-ok c =
+pub returns : goal.returns
+returns c =
     let found = rw c.deref.ensures.value at c.in-Ok.ensures.found in
     let f = with_link c.args.slc in
-    on_ok_weaker c.add_link.result (λ e. rw e (ap (λ s. set c.args.sets.now.items c.in-Ok.at (f s)) c.index_mut-set.ensures.value ∙ found.edits f c.index_mut-set.result.now)) c.add_link.ensures.ok
+    rw c.add_link.ensures (ap (λ s. set c.args.sets.now.items c.in-Ok.at (f s)) c.index_mut-set.ensures.value ∙ found.edits f c.index_mut-set.result.now)

@@ -1,4 +1,4 @@
-use Rattle.std.proofs.Common.{◌+◌, drop, Some, ap, ◌∙◌}
+use Rattle.std.proofs.Common.{◌+◌, drop, ap, ◌∙◌}
 use Rattle.tokens.specs.Marked.{marked_of}
 use Rattle.tokens.specs.Pieces.{all_of}
 use Rattle.tokens.proofs.PiecesLemmas.{onto}
@@ -18,4 +18,4 @@ returns-in-None c =
 
 pub returns : goal.returns
 returns c =
-    ap Some c.from_vec.ensures ∙ words_end (marked_of c.args.format) c.loop-word.links.items c.args.words.now c.loop-word.word-index _ c.loop-word-test.false c.loop-word.invariant
+    words_end (marked_of c.args.format) c.loop-word.links.items c.args.words.now c.loop-word.word-index _ c.loop-word-test.false c.loop-word.invariant

@@ -1,4 +1,4 @@
-use Rattle.std.proofs.Common.{◌<◌, ◌∷◌, [], List, Option, Some, length, subst}
+use Rattle.std.proofs.Common.{◌<◌, ◌∷◌, [], List, Option, Some, length, subst, ◌∙◌}
 use Rattle.std.specs.Option.{option_map}
 use Rattle.net_items.specs.declared.links.Link.{Link}
 use Rattle.what_if.specs.declared.mending.SetLink.{SetLink}
@@ -8,7 +8,7 @@ use Rattle.what_if.proofs.costs.least_link.Goals as goal
 
 pub loop-link-preserved : goal.loop-link-preserved
 loop-link-preserved c =
-    let same = c.as_slice-link-items.ensures in
+    let same = c.as_slice-link-items.ensures ∙ c.listed-links.ensures in
     let least : Option (List SetLink) = option_map (λ (l : SetLink). l ∷ []) c.loop-link.least in
     let low : c.loop-link.link-index < length c.args.set.now.links = subst (λ (links : List Link). c.loop-link.link-index < length links) same c.loop-link-test.true in
     let made = rw same at c.cheaper_link.ensures in

@@ -1,19 +1,16 @@
--- The index of sets from that of other sets with the same ends.
-use Rattle.std.proofs.Common.{◌≡◌, ℕ, zero, suc, ◌+◌, ◌<◌, ◌≤◌, Bool, true, false, ◌||◌, cond, eqb, Option, Some, None, List, [], ◌∷◌, length, get_or, drop, map, slice_get, slice_index, refl, ap, sym, ◌∙◌, subst, inl, inr, arith}
+-- An index of sets is one of other sets with the same ends.
+use Rattle.std.proofs.Common.{◌≡◌, ℕ, zero, suc, ◌+◌, ◌<◌, ◌≤◌, Bool, true, false, ◌||◌, cond, Option, Some, None, List, [], ◌∷◌, length, get_or, drop, slice_get, refl, ap, sym, ◌∙◌, subst, inl, inr}
 use Rattle.std.specs.Prelude.{find, is_some}
-use Rattle.std.specs.List.{AllByRecursion}
-use Rattle.std.specs.Option.{option_map, option_map_or}
-use Rattle.std.proofs.lemmas.List.{drop_all, drop_more, get_or-map, length-map}
+use Rattle.std.proofs.lemmas.List.{drop_all, drop_more}
 use Rattle.std.proofs.lemmas.Bool.{eq-eqb}
 use Rattle.std.proofs.lemmas.Option.{same_Some}
 use Rattle.net_items.specs.declared.items.LinkSet.{LinkSet}
-use Rattle.net_items.specs.Keyed.{IsRising, at_key}
+use Rattle.net_items.specs.Keyed.{at_key}
 use Rattle.net_items.specs.Lookups.{adjacent, joins}
 use Rattle.net_sets.specs.Joints.{joint_of}
 use Rattle.net_sets.specs.Sets.{IsOnePerPair}
-use Rattle.link_sets.specs.Availability.{set_available}
 use Rattle.excerpts.specs.declared.index.Joint.{Joint}
-use Rattle.excerpts.specs.Index.{AreFirsts, AreSameEnds, HasSameEnds, IsFirstJoint, IsHeld, IsJointIndex, IsJointOf, renewed}
+use Rattle.excerpts.specs.Index.{AreSameEnds, HasSameEnds, IsHeld, IsJointIndex, IsJointOf}
 use Rattle.excerpts.proofs.TurnedLemmas.{ends_of_joint, place_found}
 
 -- one place more from which on the ends are the same
@@ -92,69 +89,23 @@ only_one (x ∷ xs) y z one (suc k) zero s t here joined there other =
     let no : true ≡ false = sym found ∙ one.0 in cc
 only_one (x ∷ xs) y z one (suc k) (suc m) s t here joined there other = only_one xs y z one.1 k m s t here joined there other
 
--- what is found among joints that are renewed is what was found, renewed
-at_key_renewed : (sets : List LinkSet) (k : ℕ) (joints : List Joint) → at_key (λ (j : Joint). j.pair) k (map (renewed sets) joints) ≡ option_map (renewed sets) (at_key (λ (j : Joint). j.pair) k joints)
-at_key_renewed sets k [] = refl
-at_key_renewed sets k (j ∷ js) = go (eqb j.pair k) (at_key_renewed sets k js)
-  where
-    go : (b : Bool) → at_key (λ (j : Joint). j.pair) k (map (renewed sets) js) ≡ option_map (renewed sets) (at_key (λ (j : Joint). j.pair) k js)
-        → cond b (Some (renewed sets j)) (at_key (λ (j : Joint). j.pair) k (map (renewed sets) js)) ≡ option_map (renewed sets) (cond b (Some j) (at_key (λ (j : Joint). j.pair) k js))
-    go true rec = refl
-    go false rec = rec
-
--- their pairs rise as before
-above_renewed : (sets : List LinkSet) (n : ℕ) (joints : List Joint) → AllByRecursion (λ (j : Joint). n < j.pair) joints → AllByRecursion (λ (j : Joint). n < j.pair) (map (renewed sets) joints)
-above_renewed sets n [] above = tt
-above_renewed sets n (j ∷ js) above = (above.0, above_renewed sets n js above.1)
-
-pub rise_renewed : (sets : List LinkSet) (joints : List Joint) → IsRising (λ (j : Joint). j.pair) joints → IsRising (λ (j : Joint). j.pair) (map (renewed sets) joints)
-rise_renewed sets [] rise = tt
-rise_renewed sets (j ∷ js) rise = (above_renewed sets j.pair js rise.0, rise_renewed sets js rise.1)
-
--- the joints of smaller pairs still stand before that place
-first_renewed : (sets : List LinkSet) (pair : ℕ) (js : List Joint) (at : ℕ) → IsFirstJoint pair js at → IsFirstJoint pair (map (renewed sets) js) at
-first_renewed sets pair js at is =
-    let same : length (map (renewed sets) js) ≡ length js = length-map js (renewed sets) in
-    let pairs : (k : ℕ) (d : Joint) → k < length js → (get_or (map (renewed sets) js) k d).pair ≡ (get_or js k d).pair
-    = λ k d lt. ap (λ (j : Joint). j.pair) (get_or-map (renewed sets) js k d d lt) in
-    record {
-      within = omega (arith, is.within, same);
-      parts = (
-        (λ k d low lt. let here = pairs k d (omega (arith, lt, is.within)) in let less = is.parts.0 k d low lt in omega (arith, here, less)),
-        (λ k d low lt. let here = pairs k d (omega (arith, lt, same)) in let more = is.parts.1 k d low (omega (arith, lt, same)) in omega (arith, here, more)),
-      );
-    }
-
--- where the joints of each point begin stays
-pub firsts_renewed : (sets : List LinkSet) (firsts : List ℕ) (js : List Joint) → AreFirsts firsts js → AreFirsts firsts (map (renewed sets) js)
-firsts_renewed sets firsts js are = record {
-  long = are.long;
-  right = λ y low. first_renewed sets (joint_of y 0) js (slice_index firsts y) (are.right y low);
-}
-
-none_found : (o : Option LinkSet) → is_some o ≡ false → o ≡ None
-none_found None e = refl
-none_found (Some s) e = let no : true ≡ false = e in cc
-
--- the index of sets, from that of other sets with the same ends
-pub index_renewed : (joints : List Joint) (before after : List LinkSet) → IsJointIndex joints before → AreSameEnds before after → IsOnePerPair after → IsJointIndex (map (renewed after) joints) after
-index_renewed joints before after are same one = record {
-  rise = rise_renewed after joints are.rise;
-  tells = λ y z y_small z_small. rw (at_key_renewed after (joint_of y z) joints)
-      (held y z (find (joins y z) before) refl (find (joins y z) after) refl (at_key (λ (j : Joint). j.pair) (joint_of y z) joints) (are.tells y z y_small z_small));
+-- the index of sets is one of other sets with the same ends, if no two of these are between the same points
+pub index_shared : (joints : List Joint) (before after : List LinkSet) → IsJointIndex joints before → AreSameEnds before after → IsOnePerPair after → IsJointIndex joints after
+index_shared joints before after are same one = record {
+  rise = are.rise;
+  tells = λ y z y_small z_small. held y z (find (joins y z) before) refl (find (joins y z) after) refl (at_key (λ (j : Joint). j.pair) (joint_of y z) joints) (are.tells y z y_small z_small);
 }
   where
-    there : (y z : ℕ) (s t : LinkSet) (j : Joint) → find (joins y z) before ≡ Some s → find (joins y z) after ≡ Some t → IsJointOf before s j → IsJointOf after t (renewed after j)
+    there : (y z : ℕ) (s t : LinkSet) (j : Joint) → find (joins y z) before ≡ Some s → find (joins y z) after ≡ Some t → IsJointOf before s j → IsJointOf after t j
     there y z s t j found_before found_after is =
-        let was = same_at before after j.position s same is.leads in
+        let was = same_at before after j.position s same is in
         let now = place_found (joins y z) after t found_after in
         let joined : joins y z was.0 ≡ true = sym (joins_alike y z s was.0 was.2) ∙ (place_found (joins y z) before s found_before).2 in
         let equal : was.0 ≡ t = only_one after y z one j.position now.0 was.0 t was.1 joined now.1 now.2 in
-        let leads : slice_get after j.position ≡ Some t = was.1 ∙ ap Some equal in
-        record { leads = leads; tells = ap (λ (o : Option LinkSet). option_map_or set_available o false) leads }
+        was.1 ∙ ap Some equal
 
-    held : (y z : ℕ) (o : Option LinkSet) → find (joins y z) before ≡ o → (p : Option LinkSet) → find (joins y z) after ≡ p → (h : Option Joint) → IsHeld before o h → IsHeld after p (option_map (renewed after) h)
-    held y z None found None found_after h is = ap (option_map (renewed after)) is
+    held : (y z : ℕ) (o : Option LinkSet) → find (joins y z) before ≡ o → (p : Option LinkSet) → find (joins y z) after ≡ p → (h : Option Joint) → IsHeld before o h → IsHeld after p h
+    held y z None found None found_after h is = is
     held y z None found (Some t) found_after h is =
         let no : false ≡ true = rw (found, found_after) at (same_adjacent before after y z same) in cc
     held y z (Some s) found None found_after h is =
