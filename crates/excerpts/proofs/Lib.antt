@@ -8,6 +8,7 @@ pub mod EntryLemmas
 pub mod TurnedLemmas
 pub mod SharedLemmas
 pub mod KeepingLemmas
+pub mod IntactLemmas
 pub mod LeadLemmas
 pub mod PlaceLemmas
 mod LinkedLemmas

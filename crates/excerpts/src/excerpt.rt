@@ -1,6 +1,6 @@
 //! The excerpt of one destination.
 
-ghost use Rattle.std.specs.Prelude.{◌≡◌, ◌↔◌, IsTrue, Some, IfErr, IfOk, is_some};
+ghost use Rattle.std.specs.Prelude.{◌≡◌, ◌↔◌, IsTrue, true, Some, IfErr, IfOk, is_some};
 ghost use Rattle.std.specs.Option.{option_copied, option_map, IfSome};
 ghost use Rattle.net_items.specs.Keyed.{IsRising, IsFoundAt, IsGapAt};
 ghost use Rattle.net_items.specs.Lookups.{point_at, mate_of as the_mate, is_stp as stp_is, row_at, set_between as between};
@@ -8,6 +8,7 @@ ghost use Rattle.link_sets.specs.Availability.{connected};
 ghost use Rattle.link_sets.specs.Neighbours.{neighbours as neighbours_of};
 ghost use Rattle.excerpts.specs.Around.{neighbours_left};
 ghost use Rattle.excerpts.specs.Excerpt.{ExcerptValue, content_at, content_in, content_of, excerpt_at, is_read_by, leads as row_leads, IsExcerptAnswer, IsRight};
+ghost use Rattle.excerpts.specs.Intact.{IsIntact};
 
 use crate::faults::ExcerptFault;
 use crate::positions::{is_expected, is_near, point_by, position_by_code, position_in_rows};
@@ -240,6 +241,14 @@ impl Excerpt {
         ensures { result ≡ connected self.now.network.sets point other }
     {
         self.net.is_connected(point, other)
+    }
+
+    /// Whether all sets at a point are available, so that each point is connected to it that a set joins to it. It may be false
+    /// though they are.
+    pub fn is_intact(&self, point: PointCode) -> bool
+        ensures { result ≡ true → IsIntact self.now.network.sets point }
+    {
+        self.net.is_intact(point)
     }
 
     /// The set that joins two points, in either order.

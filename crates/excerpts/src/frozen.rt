@@ -1,6 +1,6 @@
 //! The frozen network.
 
-ghost use Rattle.std.specs.Prelude.{◌≡◌, IfOk};
+ghost use Rattle.std.specs.Prelude.{◌≡◌, IfOk, true};
 ghost use Rattle.std.specs.Option.{IfSome, option_copied};
 ghost use Rattle.net_items.specs.Lookups.{set_between as between};
 ghost use Rattle.net_data.specs.Valid.{IsValid};
@@ -8,6 +8,7 @@ ghost use Rattle.link_sets.specs.Availability.{connected};
 ghost use Rattle.link_sets.specs.Neighbours.{neighbours as neighbours_of, next_from, IsCodeFrom};
 ghost use Rattle.excerpts.specs.Around.{neighbours_left};
 ghost use Rattle.net_data.specs.Edits.{replay};
+ghost use Rattle.excerpts.specs.Intact.{IsIntact};
 ghost use Rattle.excerpts.specs.Turned.{HasTurned};
 
 use crate::indexed::Indexed;
@@ -96,6 +97,14 @@ impl Frozen {
         ensures { result ≡ connected self.now.sets point other }
     {
         self.indexed.is_connected(point, other)
+    }
+
+    /// Whether all sets at a point are available, so that each point is connected to it that a set joins to it (own, after Q.704
+    /// clause 3.2). It may be false though they are.
+    pub fn is_intact(&self, point: PointCode) -> bool
+        ensures { result ≡ true → IsIntact self.now.sets point }
+    {
+        self.indexed.is_intact(point)
     }
 
     /// The set that joins two points, in either order.

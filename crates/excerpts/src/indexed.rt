@@ -1,6 +1,6 @@
 //! A network with its index.
 
-ghost use Rattle.std.specs.Prelude.{◌≡◌, ◌≤◌, IfOk, length};
+ghost use Rattle.std.specs.Prelude.{◌≡◌, ◌≤◌, IfOk, true, length};
 ghost use Rattle.std.specs.Arc.{arc_value};
 ghost use Rattle.std.specs.Option.{IfSome, option_copied};
 ghost use Rattle.net_items.specs.Lookups.{set_between as between};
@@ -8,8 +8,10 @@ ghost use Rattle.net_data.specs.Valid.{IsValid};
 ghost use Rattle.link_sets.specs.Availability.{connected};
 ghost use Rattle.link_sets.specs.Neighbours.{next_from, IsCodeFrom};
 ghost use Rattle.excerpts.specs.Index.{IsJointIndex};
+ghost use Rattle.excerpts.specs.Intact.{IsIntact};
 
 use crate::index::{are_same_ends, find_joint, index_of, next_up};
+use crate::intact::IntactPoints;
 use crate::joints::Joints;
 use crate::positions::PointOrder;
 use link_sets::set_available;
@@ -27,18 +29,20 @@ pub struct Indexed {
     /// Networks whose sets join the same points share it.
     joints: Arc<Joints>,
     order: Arc<PointOrder>,
+    intact: IntactPoints,
 }
 
 impl Model for Indexed {
     ghost use Rattle.std.specs.Arc.{arc_value};
     ghost use Rattle.net_data.specs.Network.{Network};
     ghost use Rattle.excerpts.specs.Index.{IsJointIndex};
+    ghost use Rattle.excerpts.specs.Intact.{TellIntact};
 
     ghost Value = { Network };
 
     ghost view = { λ f. f.net };
 
-    ghost invariant = { λ f. IsJointIndex (arc_value f.joints) f.net.sets };
+    ghost invariant = { λ f. record { joints : IsJointIndex (arc_value f.joints) f.net.sets; intact : TellIntact f.net.sets f.intact } };
 }
 
 /// The joints of sets, to be shared.
@@ -59,7 +63,13 @@ impl Indexed {
         net.validity();
         let joints = joints_of(alloc, net.sets())?;
         let order = PointOrder::shared(alloc, net.points())?;
-        Ok(Indexed { net, joints, order })
+        let intact = IntactPoints::of(alloc, net.sets())?;
+        Ok(Indexed {
+            net,
+            joints,
+            order,
+            intact,
+        })
     }
 
     /// The order of the points, shared if there are as many as in the network before.
@@ -84,7 +94,13 @@ impl Indexed {
         }
         let joints = Arc::try_clone(&before.joints)?;
         let order = Indexed::order_after(alloc, &net, before)?;
-        Ok(Indexed { net, joints, order })
+        let intact = IntactPoints::of(alloc, net.sets())?;
+        Ok(Indexed {
+            net,
+            joints,
+            order,
+            intact,
+        })
     }
 
     /// The network.
@@ -114,6 +130,13 @@ impl Indexed {
             Some(joint) => set_available(&self.net.sets()[joint.position as usize]),
             None => false,
         }
+    }
+
+    /// Whether all sets at a point are available: it may be false though they are.
+    pub fn is_intact(&self, point: PointCode) -> bool
+        ensures { result ≡ true → IsIntact self.now.sets point }
+    {
+        self.intact.has(point)
     }
 
     /// The set that joins two points, in either order.

@@ -10,9 +10,10 @@
 //! 4. An excerpt shares the network and the plan. Two excerpts are equal if their tables read the same.
 //! 5. Two networks that agree on what a table reads give the same table.
 //! 6. Of two networks it tells between which points an available set is in one of them alone (own, after Q.704 clause 3.2).
+//! 7. It tells of most points all of whose sets are available that they are such (own).
 //!
-//! Stands on `net_data`, `profile`. A change here also changes specs/ (Around, Excerpt, Index, Turned), proofs/,
-//! must-fail/ and wrong-bodies/.
+//! Stands on `net_data`, `profile`. A change here also changes specs/ (Around, Excerpt, Index, Intact, Turned),
+//! proofs/, must-fail/ and wrong-bodies/.
 #![tactic(auto)]
 
 pub mod excerpt;
@@ -20,6 +21,7 @@ pub mod faults;
 pub mod frozen;
 mod index;
 mod indexed;
+mod intact;
 mod joints;
 pub mod laws;
 pub mod neighbours;

@@ -20,6 +20,17 @@ abbrev pub after_all : Progress → List ℕ → Progress
 after_all line [] = line
 after_all line (b ∷ bs) = after_all (after line b) bs
 
+-- how far the last line has come after some more bytes, among which lines may end
+abbrev pub after_text : Progress → List ℕ → Progress
+after_text line [] = line
+after_text line (b ∷ bs) = after_text (if b == 10 then so_far.Spaces else after line b) bs
+
+-- whether no letter of `quit` has come
+abbrev pub is_idle : Progress → Bool
+is_idle so_far.Spaces = true
+is_idle so_far.Other = true
+is_idle _ = false
+
 -- whether a line that ends here is `quit`
 abbrev pub is_quit : Progress → Bool
 is_quit so_far.Quit = true

@@ -1,9 +1,10 @@
 //! The end of an input at its first line `quit`.
 
 ghost use Rattle.std.specs.Prelude.{◌≡◌, Some};
-ghost use Rattle.sessions.specs.Quitting.{IsFound, after as comes_after, after_all, is_quit as says_quit};
+ghost use Rattle.sessions.specs.Quitting.{IsFound, after as comes_after, after_all, after_text, is_idle, is_quit as says_quit};
 
-use point_codes::split_at_byte;
+use crate::scanning::split_line;
+use memchr::{memchr, memrchr};
 use std::io;
 
 /// How far a line has come that may be `quit`: spaces, the word, spaces again, and a carriage return at most.
@@ -59,6 +60,23 @@ impl Progress {
         line
     }
 
+    /// How far the last line has come after some more bytes, among which lines may end.
+    fn after_text(self, bytes: &[u8]) -> Progress
+        ensures { result ≡ after_text self bytes.now }
+    {
+        match memrchr(b'\n', bytes) {
+            Some(at) => Progress::Spaces.after_all(&bytes[at + 1..]),
+            None => self.after_all(bytes),
+        }
+    }
+
+    /// Whether no letter of `quit` has come.
+    fn is_idle(self) -> bool
+        ensures { result ≡ is_idle self }
+    {
+        matches!(self, Progress::Spaces | Progress::Other)
+    }
+
     /// Whether a line that ends here is `quit`.
     fn is_quit(self) -> bool
         ensures { result ≡ says_quit self }
@@ -75,13 +93,13 @@ pub enum Found {
     Line(Progress),
 }
 
-/// Looks for the first line `quit` among the next bytes of a line and those after it.
-fn find_quit(start: Progress, bytes: &[u8]) -> Found
+/// Looks line by line for the first one that is `quit`, among the next bytes of a line and those after it.
+fn find_by_line(start: Progress, bytes: &[u8]) -> Found
     ensures { IsFound start bytes.now result }
 {
     let mut line = start;
     let mut rest = bytes;
-    while let Some((front, after)) = split_at_byte(rest, b'\n') {
+    while let Some((front, after)) = split_line(rest) {
         if line.after_all(front).is_quit() {
             return Found::Quit(bytes.len() - after.len());
         }
@@ -89,6 +107,17 @@ fn find_quit(start: Progress, bytes: &[u8]) -> Found
         rest = after;
     }
     Found::Line(line.after_all(rest))
+}
+
+/// Looks for the first line `quit` among the next bytes of a line and those after it.
+fn find_quit(start: Progress, bytes: &[u8]) -> Found
+    ensures { IsFound start bytes.now result }
+{
+    // Mostly there is no `q`.
+    match memchr(b'q', bytes) {
+        None if start.is_idle() => Found::Line(start.after_text(bytes)),
+        _ => find_by_line(start, bytes),
+    }
 }
 
 /// A reader whose input ends with its first line `quit`: one with that word alone.

@@ -11,8 +11,8 @@ ghost use Rattle.sessions.specs.Run.{IsLine, IsTaken, IsAt, IsUnkept, IsCutAt, I
 use crate::answering::Answering;
 use crate::faults::Fault;
 use crate::lines::{LINE_LIMIT, Line, is_quiet, without_return};
+use crate::scanning::{count_lines, split_line};
 use answers::{Answer, Asked, Reason, Telling};
-use point_codes::split_at_byte;
 use std::alloc::{AllocError, Global};
 use std::io::{ErrorKind, Write};
 
@@ -54,18 +54,6 @@ fn write_all<W: Write>(writer: &mut W, text: &[u8]) -> usize
         }
     }
     at
-}
-
-/// How many lines a text ends.
-pub(crate) fn count_lines(text: &[u8]) -> usize
-    ensures { result ≡ line_count text.now }
-{
-    // Without a branch for each byte.
-    let mut count = 0;
-    for byte in text {
-        count += usize::from(*byte == b'\n');
-    }
-    count
 }
 
 /// Begins the text of a line with what is told of its answer, and has that go.
@@ -266,7 +254,7 @@ impl<A: Answering> Session<A> {
         ensures lines { self.new.lines ≡ self.old.lines }
     {
         let mut rest = chunk;
-        while let Some((front, after)) = split_at_byte(rest, b'\n') {
+        while let Some((front, after)) = split_line(rest) {
             self.end_line(alloc, telling, front)?;
             rest = after;
         }

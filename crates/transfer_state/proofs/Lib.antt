@@ -1,6 +1,7 @@
 pub mod AuditLemmas
 pub mod KeptLemmas
 pub mod SweepLemmas
+pub mod FirstLemmas
 pub mod FollowLemmas
 pub mod HearingLemmas
 pub mod TableLemmas

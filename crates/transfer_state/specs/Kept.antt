@@ -1,10 +1,11 @@
 -- What is kept of what a row uses: the class, which of its members are used, and the status. The members follow from the row (own).
-use Rattle.std.specs.Prelude.{ℕ, ◌+◌, ◌*◌, ◌==◌, ◌-◌, ◌/◌, ◌%◌, Bool, List, [], ◌∷◌, Option, None, is_some, if◌then◌else◌, slice_get, slice_index_or, map}
+use Rattle.std.specs.Prelude.{◌≡◌, ℕ, ◌+◌, ◌*◌, ◌==◌, ◌-◌, ◌/◌, ◌%◌, Bool, List, [], ◌∷◌, Option, None, is_some, if◌then◌else◌, slice_get, slice_index_or, map}
 use Rattle.net_items.specs.declared.lists.Row.{Row}
 use Rattle.route_choice.specs.declared.choices.Far.{Far}
 use Rattle.route_choice.specs.declared.choices.Far.TheVariants.{Allowed, Restricted, Prohibited}
 use Rattle.route_choice.specs.declared.choices.Choice.{Choice}
-use Rattle.profile.specs.Status.{Source}
+use Rattle.route_choice.specs.Routes.{Offer, choose}
+use Rattle.profile.specs.Status.{Source, offers}
 use Rattle.profile.specs.Whole.{member}
 
 -- the class, 0 to 5, whether the member in the first and in the second place is used, and the status
@@ -44,6 +45,15 @@ opened_rows src (row ∷ rows) (k ∷ ks) = opened src row k ∷ opened_rows src
 -- what is kept in each place has this status
 abbrev pub kept_statuses : List KeptValue → List Far
 kept_statuses ks = map (λ (k : KeptValue). k.status) ks
+
+-- what is kept where the first class has an allowed via: its allowed vias are used
+abbrev pub kept_first : Bool → Bool → KeptValue
+kept_first first second = record { class = 1; first = first; second = second; status = Allowed }
+
+-- it is kept of the choice of a row, and opens to it, whatever the row's mate offers, where `far` tells the far statuses
+pub record IsChosenFirst (src : Source) (far : ℕ → Far) (row : Row) (k : KeptValue) : Type 0 where
+  pub keeps : (mate : Option Offer) → k ≡ kept (choose src.tfr (offers src far row) mate)
+  pub opens : (mate : Option Offer) → opened src row k ≡ choose src.tfr (offers src far row) mate
 
 -- the number that stands for a status
 abbrev pub status_number : Far → ℕ

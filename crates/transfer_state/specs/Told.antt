@@ -1,8 +1,11 @@
 -- What is told by what is kept of choices in the rows' places, and by a table of far statuses.
-use Rattle.std.specs.Prelude.{◌≡◌, ◌<◌, ℕ, ◌==◌, Bool, true, false, List, [], ◌∷◌, Some, length, slice_get, slice_index_or, if◌then◌else◌}
+use Rattle.std.specs.Prelude.{◌≡◌, ◌<◌, ℕ, ◌==◌, Bool, true, false, List, [], ◌∷◌, Some, All, length, slice_get, slice_index_or, if◌then◌else◌}
 use Rattle.route_choice.specs.declared.choices.Far.{Far}
 use Rattle.route_choice.specs.declared.choices.Far.TheVariants.{Allowed, Prohibited}
+use Rattle.route_choice.specs.Routes.{Offer}
+use Rattle.net_items.specs.declared.items.LinkSet.{LinkSet}
 use Rattle.net_items.specs.declared.lists.Row.{Row}
+use Rattle.net_items.specs.Lookups.{adjacent}
 use Rattle.profile.specs.Status.{Source, source_rank, choice, status}
 use Rattle.transfer_state.specs.Kept.{KeptValue, kept}
 use Rattle.transfer_state.specs.declared.choosing.Statuses.{Statuses}
@@ -42,6 +45,14 @@ far_from src choices z = if z == src.dest then Allowed else far_in src.rows choi
 abbrev pub far_by : Source → Statuses → ℕ → Far
 far_by src (Table fars) = far_at fars.now
 far_by src (Choices choices) = far_from src choices.now
+
+-- what is offered over a via that is connected
+abbrev pub offer_connected : (ℕ → Far) → ℕ → Offer
+offer_connected far z = record { via = z; far = far z }
+
+-- a set joins a point to each of these
+abbrev pub AreJoined : List LinkSet → ℕ → List ℕ → Type 0
+AreJoined sets y vias = All (λ z. adjacent sets y z ≡ true) vias
 
 -- a table of all codes, or a choice for each row
 abbrev pub AreFull : Source → Statuses → Type 0

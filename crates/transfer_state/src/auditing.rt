@@ -4,16 +4,18 @@
 //! The row of a via doesn't lead back, so what is heard over a via is its status, which a table of all codes tells. A mate's may,
 //! and its message is worked out.
 
-ghost use Rattle.std.specs.Prelude.{◌≡◌, IfErr, OnOk, OnErr, Some, length};
-ghost use Rattle.std.specs.Option.{MatchOption};
+ghost use Rattle.std.specs.Prelude.{◌≡◌, true, IfErr, IfNone, OnOk, OnErr, Some, length};
+ghost use Rattle.std.specs.Option.{IfSome, MatchOption};
 ghost use Rattle.net_items.specs.declared.lists.Row.{Row};
 ghost use Rattle.profile.specs.Status.{Source, source_row};
 ghost use Rattle.profile.specs.Whole.{choice_heard, state_of, IsSettledTable};
 ghost use Rattle.excerpts.specs.Excerpt.{source_of};
 ghost use Rattle.transfer_state.specs.Complaints.{kept_table, IsFirstKept, IsFirstWrong, IsSettledKept, IsWrongIn};
+ghost use Rattle.transfer_state.specs.Kept.{opened};
 ghost use Rattle.transfer_state.specs.Told.{TellsKept};
 
-use crate::choosing::{Statuses, fars_of, is_same_status, rows_of};
+use crate::choosing::{Statuses, fars_of, first_choice, is_same_status, rows_of};
+use crate::comparing::is_same_kept;
 use crate::complaints::{Clause, Complaint, is_same_route};
 use crate::hearing::{Heard, mate_heard};
 use crate::kept::{Kept, opened_choice};
@@ -62,6 +64,38 @@ fn choice_told(e: &Excerpt, kept: &[Kept], fars: &[Far], row: &Row) -> Choice
     route_choice::choose(row, &fars, mate, e.tfr())
 }
 
+/// Whether this is kept of what a row uses where a via of its first class is allowed, by a table that tells the statuses that are
+/// kept. Then it is right, whatever the row hears of its mate.
+fn is_first_choice(e: &Excerpt, kept: &[Kept], fars: &[Far], row: &Row, its: Kept) -> bool
+    requires together { length kept.now ≡ length e.now.plan.rows }
+    requires told { TellsKept (source_of e.now) kept.now fars.now (length e.now.plan.rows) }
+    requires planned { source_row (source_of e.now) row.now.point ≡ Some row.now }
+    ensures { result ≡ true → opened (source_of e.now) row.now its ≡ choice_heard (source_of e.now) (kept_table (source_of e.now) kept.now) row.now }
+{
+    e.validity();
+    match first_choice(e, &Statuses::Table(fars), row) {
+        Some(first) => is_same_kept(first, its),
+        None => false,
+    }
+}
+
+/// The first clause in which what is kept of a row is wrong, by a table that tells the statuses that are kept.
+fn fault_kept(e: &Excerpt, kept: &[Kept], fars: &[Far], row: &Row, its: Kept) -> Option<Clause>
+    requires together { length kept.now ≡ length e.now.plan.rows }
+    requires told { TellsKept (source_of e.now) kept.now fars.now (length e.now.plan.rows) }
+    requires planned { source_row (source_of e.now) row.now.point ≡ Some row.now }
+    ensures right { IfNone result (opened (source_of e.now) row.now its ≡ choice_heard (source_of e.now) (kept_table (source_of e.now) kept.now) row.now) }
+    ensures wrong { IfSome result (λ clause. IsWrongIn clause (state_of (source_of e.now) row.now (opened (source_of e.now) row.now its))
+        (state_of (source_of e.now) row.now (choice_heard (source_of e.now) (kept_table (source_of e.now) kept.now) row.now))) }
+{
+    // Mostly the first class serves.
+    if is_first_choice(e, kept, fars, row, its) {
+        return None;
+    }
+    let right = choice_told(e, kept, fars, row);
+    fault_of(&opened_choice(e, row, its), &right)
+}
+
 /// What `check_kept` says of a choice for each row.
 fn check_choices(e: &Excerpt, kept: &[Kept]) -> Result<(), Complaint>
     requires { length kept.now ≡ length e.now.plan.rows }
@@ -74,9 +108,7 @@ fn check_choices(e: &Excerpt, kept: &[Kept]) -> Result<(), Complaint>
     tell_kept(e, kept, &mut fars);
     for i in 0..rows.len() {
         let row = &rows[i];
-        let right = choice_told(e, kept, &fars, row);
-        let choice = opened_choice(e, row, kept[i]);
-        if let Some(clause) = fault_of(&choice, &right) {
+        if let Some(clause) = fault_kept(e, kept, &fars, row, kept[i]) {
             return Err(Complaint {
                 point: row.point,
                 clause,

@@ -6,6 +6,13 @@ ghost use Rattle.transfer_state.specs.Kept.{kept_statuses};
 use crate::choosing::is_same_status;
 use crate::kept::Kept;
 
+/// Whether the same is kept of two choices.
+pub(crate) fn is_same_kept(one: Kept, other: Kept) -> bool
+    ensures { IsTrue result ↔ (one ≡ other) }
+{
+    one == other
+}
+
 /// Whether the same is kept in each place.
 fn are_same(choices: &[Kept], others: &[Kept]) -> bool
     ensures { IsTrue result ↔ (choices.now ≡ others.now) }

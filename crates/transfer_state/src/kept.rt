@@ -42,7 +42,7 @@ fn number_of(status: Far) -> u8
 }
 
 impl Kept {
-    ghost use Rattle.transfer_state.specs.Kept.{kept};
+    ghost use Rattle.transfer_state.specs.Kept.{kept, kept_first};
 
     /// What is kept of a choice, whose class is below 16.
     pub fn of(choice: &Choice) -> Kept
@@ -53,6 +53,15 @@ impl Kept {
         let second = u8::from(choice.members[1].is_some());
         Kept {
             byte: choice.class * 16 + first * 8 + second * 4 + number_of(choice.status),
+        }
+    }
+
+    /// What is kept of the first class with an allowed via, which of its two vias are used.
+    pub(crate) fn of_first(first: bool, second: bool) -> Kept
+        ensures { result ≡ kept_first first second }
+    {
+        Kept {
+            byte: 16 + u8::from(first) * 8 + u8::from(second) * 4,
         }
     }
 

@@ -62,25 +62,39 @@ fn sweep_rank(e: &Excerpt, choices: &mut [Kept], fars: &mut [Far], rank: u16)
     }
 }
 
-/// Notes a rank in a table of all.
-fn note_rank(used: &mut [bool], rank: u8)
-    requires { length used.old ≡ 256 }
-    ensures long { length used.new ≡ 256 }
-    ensures here { slice_index_or used.new rank false ≡ true }
-    ensures kept { (k : ℕ) → slice_index_or used.old k false ≡ true → slice_index_or used.new k false ≡ true }
-{
-    used[usize::from(rank)] = true;
+/// The ranks of rows: which of all there are, and the highest.
+#[derive(Drop)]
+struct Ranks {
+    used: [bool; 256],
+    highest: u8,
 }
 
-/// Which ranks rows have.
-fn used_ranks(rows: &[Row]) -> [bool; 256]
-    ensures { HasRanks rows.now result }
+/// Notes a rank.
+fn note_rank(ranks: &mut Ranks, rank: u8)
+    requires { length ranks.old.used ≡ 256 }
+    ensures long { length ranks.new.used ≡ 256 }
+    ensures here { slice_index_or ranks.new.used rank false ≡ true }
+    ensures kept { (k : ℕ) → slice_index_or ranks.old.used k false ≡ true → slice_index_or ranks.new.used k false ≡ true }
+    ensures low { rank ≤ ranks.new.highest }
+    ensures rises { ranks.old.highest ≤ ranks.new.highest }
 {
-    let mut used = [false; 256];
+    ranks.used[usize::from(rank)] = true;
+    ranks.highest = ranks.highest.max(rank);
+}
+
+/// The ranks of rows.
+fn ranks_of(rows: &[Row]) -> Ranks
+    ensures used { HasRanks rows.now result.used }
+    ensures highest { (i : ℕ) (row : Row) → slice_get rows.now i ≡ Some row → row.rank ≤ result.highest }
+{
+    let mut ranks = Ranks {
+        used: [false; 256],
+        highest: 0,
+    };
     for row in rows {
-        note_rank(&mut used, row.rank);
+        note_rank(&mut ranks, row.rank);
     }
-    used
+    ranks
 }
 
 /// Sweeps a rank, unless no row has it.
@@ -100,19 +114,6 @@ fn sweep_if_used(e: &Excerpt, choices: &mut [Kept], fars: &mut [Far], used: &[bo
     }
 }
 
-/// The highest rank of rows.
-fn highest_rank(rows: &[Row]) -> u8
-    ensures { (i : ℕ) (row : Row) → slice_get rows.now i ≡ Some row → row.rank ≤ result }
-{
-    let mut highest = 0;
-    for row in rows {
-        if row.rank > highest {
-            highest = row.rank;
-        }
-    }
-    highest
-}
-
 /// What is kept of the choices of all rows, in their places.
 pub(crate) fn choices(alloc: Global, e: &Excerpt) -> Result<Vec<Kept>, AllocError>
     ensures each { IfOk result (λ choices. AreChoices (source_of e.now) choices.items) }
@@ -123,9 +124,9 @@ pub(crate) fn choices(alloc: Global, e: &Excerpt) -> Result<Vec<Kept>, AllocErro
     let mut choices = vec![in alloc; Kept::of(&Choice::NONE); rows.len()]?;
     let mut fars = [Far::Prohibited; CODE_COUNT];
     tell(&mut fars, e.dest(), Far::Allowed);
-    let used = used_ranks(rows);
-    for rank in 1..u16::from(highest_rank(rows)) + 1 {
-        sweep_if_used(e, &mut choices, &mut fars, &used, rank);
+    let ranks = ranks_of(rows);
+    for rank in 1..u16::from(ranks.highest) + 1 {
+        sweep_if_used(e, &mut choices, &mut fars, &ranks.used, rank);
     }
     Ok(choices)
 }

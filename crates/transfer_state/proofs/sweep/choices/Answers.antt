@@ -23,7 +23,7 @@ loop-rank-init c =
 -- no rank is above the highest
 pub returns-clause-each : goal.returns-clause-each
 returns-clause-each c = λ i row there.
-    let low : row.rank ≤ c.highest_rank.result = c.highest_rank.ensures i row (ap (λ (rows : List Row). slice_get rows i) c.rows_of-rows.ensures ∙ there) in
+    let low : row.rank ≤ c.ranks_of-ranks.result.highest = c.ranks_of-ranks.ensures.highest i row (ap (λ (rows : List Row). slice_get rows i) c.rows_of-rows.ensures ∙ there) in
     c.loop-rank.invariant.below i row there (omega (arith, low, c.from-rank-end.ensures, c.loop-rank-test.false))
 
 pub sweep_if_used-requires : goal.sweep_if_used-requires
@@ -34,7 +34,7 @@ sweep_if_used-requires c =
       together = ap (length {A = KeptValue}) c.deref_mut.ensures.value ∙ l.invariant.together;
       coded = l.invariant.coded;
       ranked = (l.invariant.ranked, omega arith);
-      used = subst (λ (rows : List Row). HasRanks rows c.used_ranks-used.result) c.rows_of-rows.ensures c.used_ranks-used.ensures;
+      used = subst (λ (rows : List Row). HasRanks rows c.ranks_of-ranks.result.used) c.rows_of-rows.ensures c.ranks_of-ranks.ensures.used;
       below = rw c.deref_mut.ensures.value l.invariant.below;
       told = l.invariant.told;
     }

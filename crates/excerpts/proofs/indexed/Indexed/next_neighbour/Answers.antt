@@ -11,5 +11,5 @@ pub returns-clause-value : goal.returns-clause-value
 returns-clause-value c =
     let y_small : c.args.point < 16384 = omega arith in
     (rw c.sets.ensures at c.next_up.ensures.value)
-    ∙ next_agreed c.of_point.result.now (arc_value c.self.inside.joints) c.self.inside.net.sets c.args.point c.args.from y_small c.self.invariant (rw c.deref.ensures at c.of_point.ensures.tells)
+    ∙ next_agreed c.of_point.result.now (arc_value c.self.inside.joints) c.self.inside.net.sets c.args.point c.args.from y_small c.self.invariant.joints (rw c.deref.ensures at c.of_point.ensures.tells)
     ∙ ap (λ (net : Network). next_from (connected net.sets c.args.point) c.args.from) c.self.view_is

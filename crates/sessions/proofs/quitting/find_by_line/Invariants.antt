@@ -1,6 +1,6 @@
 use Rattle.std.proofs.Common.{length}
 use Rattle.sessions.proofs.QuitLemmas.{GoesOn}
-use Rattle.sessions.proofs.quitting.find_quit.Given as goal
+use Rattle.sessions.proofs.quitting.find_by_line.Given as goal
 
 -- the input goes on after the lines before the rest
 abbrev pub invariant-loop-front : goal.invariant-loop-front
