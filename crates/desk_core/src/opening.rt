@@ -93,7 +93,7 @@ fn all_slots(
     ensures { IfOk result (λ v. v.items ≡ map (routing_slot_of net.now (is_marked touched.now)) net.now.plans) }
 {
     let plans = net.net().plans();
-    let mut slots = Vec::with_capacity(alloc, plans.len())?;
+    let mut slots = Vec::with_capacity(alloc, version.read_ahead().max(plans.len()))?;
     for position in 0..plans.len() {
         slots.push(slot_at(net, position, touched, version)?)?;
     }

@@ -52,10 +52,20 @@ fn position_from(list: &[Arc<Plan>], first: usize, dest: PointCode) -> Result<us
     position_of_plan(list, dest)
 }
 
+/// Reads ahead the counts of the shares of plans, each of which stands beside its plan's destination: how many of these aren't 0-0-0.
+/// Nothing rests on what this tells; but then the counts come from memory at once, and not one after the other while they change.
+fn read_ahead(plans: &[Arc<Plan>]) -> usize {
+    let mut count = 0usize;
+    for plan in plans {
+        count = count.saturating_add(usize::from(plan.dest.number() != 0));
+    }
+    count
+}
+
 fn copy_list(alloc: Global, plans: &[Arc<Plan>]) -> Result<Vec<Arc<Plan>>, AllocError>
     ensures { IfOk result (λ v. map arc_value v.items ≡ map arc_value plans.now) }
 {
-    let mut copies = Vec::with_capacity(alloc, plans.len())?;
+    let mut copies = Vec::with_capacity(alloc, read_ahead(plans).max(plans.len()))?;
     for plan in plans {
         copies.push(Arc::try_clone(plan)?)?;
     }

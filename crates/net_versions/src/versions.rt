@@ -128,7 +128,7 @@ fn followed_routings(
     ensures { IfOk result (λ v. v.items ≡ settled_routings net.now) }
 {
     let plans = net.net().plans();
-    let mut routings = Vec::with_capacity(alloc, plans.len())?;
+    let mut routings = Vec::with_capacity(alloc, before.read_ahead().max(plans.len()))?;
     for position in 0..plans.len() {
         let excerpt = excerpt_in_place(net, position)?;
         routings.push(follow_from(alloc, excerpt, before, turned)?)?;
@@ -218,6 +218,16 @@ impl Version {
         ensures { result.now ≡ settled_routings self.now.network }
     {
         self.routings.as_slice()
+    }
+
+    /// Reads ahead the counts of the shares of its routings: how many of these have a row. Nothing rests on what this tells; but who
+    /// shares them then has the counts come from memory at once, and not one after the other.
+    pub fn read_ahead(&self) -> usize {
+        let mut count = 0usize;
+        for routing in self.routings.iter() {
+            count = count.saturating_add(usize::from(routing.row_count() > 0));
+        }
+        count
     }
 
     /// The destinations of which it keeps a routing, in rising code.

@@ -1,6 +1,6 @@
 //! The settled routing towards one destination: what each point of its plan uses.
 
-ghost use Rattle.std.specs.Prelude.{◌≡◌, ◌==◌, ◌↔◌, ◌<◌, IsTrue, true, false, None, Some, IsOk, IfOk, IfErr, find, not, if◌then◌else◌};
+ghost use Rattle.std.specs.Prelude.{◌≡◌, ◌==◌, ◌↔◌, ◌<◌, IsTrue, true, false, None, Some, IsOk, IfOk, IfErr, find, length, not, if◌then◌else◌};
 ghost use Rattle.std.specs.Option.{option_map, MatchOption};
 ghost use Rattle.profile.specs.Status.{status};
 ghost use Rattle.profile.specs.Traces.{hop_of};
@@ -156,6 +156,13 @@ impl Routing {
         ensures { result ≡ self.now.excerpt.plan.dest }
     {
         self.dest
+    }
+
+    /// How many rows it has.
+    pub fn row_count(&self) -> usize
+        ensures { result ≡ length self.now.excerpt.plan.rows }
+    {
+        self.choices.len()
     }
 
     /// The row of a point, with what it uses, if it has one.
