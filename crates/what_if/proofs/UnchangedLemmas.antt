@@ -30,7 +30,7 @@ use Rattle.transfer_state.proofs.RouteLemmas.{opened_chosen}
 use Rattle.excerpts.specs.Excerpt.{ExcerptValue, IsRight, source_of, content_in, content_of, content_at, excerpt_in, excerpt_at, leads}
 use Rattle.excerpts.proofs.ExcerptLemmas.{extract_right, table_equal}
 use Rattle.what_if.specs.declared.changes.Change.{Change}
-use Rattle.what_if.specs.Reports.{IsQuiet, Account, apply_from, both, points, choice_of, status_of, is_same, change_between, each_point}
+use Rattle.what_if.specs.Reports.{IsQuiet, Account, apply_from, both, points, choice_of, status_of, is_same, change_between, dests, each_dest, each_point}
 use Rattle.what_if.proofs.GatheringLemmas.{choice_is, fused}
 
 -- ---- where nothing is told of a point
@@ -181,3 +181,24 @@ made_by place net new (event ∷ events) e = go (refusal_of net event) refl (mad
     go : (o : Option Refusal) → refusal_of net event ≡ o → (apply_from (place + 1) (changed net event) events ≡ Ok new → new ≡ replay (changed net event) events) → new ≡ replay (changed net event) events
     go None none rec = rec (rw none at e)
     go (Some refusal) some rec = let no : Err (record { place = place; refusal = refusal }) ≡ Ok new = rw some at e in cc
+
+-- ---- where no set turned
+
+each_none : {X : Type 0} (f : ℕ → List X) (xs : List ℕ) → ((x : ℕ) → f x ≡ []) → flat_map f xs ≡ []
+each_none f [] none = refl
+each_none f (x ∷ xs) none = let here = none x in rw here (each_none f xs none)
+
+pub nothing_told : {X : Type 0} (tell : Account X) → ((old new : Option ExcerptValue) (dest point : ℕ) → choice_of old point ≡ choice_of new point → tell old new dest point ≡ [])
+    → (old new : Network) → IsValidNet old → IsValidNet new → HasTurned old new [] → each_dest tell old new ≡ []
+nothing_told tell stays old new valid valid_new has =
+    each_none (λ x. each_point tell (excerpt_at old x) (excerpt_at new x) x) (both (dests old) (dests new))
+    (λ x. none_told tell (excerpt_at old x) (excerpt_at new x) x (λ point. stays (excerpt_at old x) (excerpt_at new x) x point (same x point (plan_at old.plans x) refl)))
+  where
+    same : (x point : ℕ) (o : Option Plan) → plan_at old.plans x ≡ o → choice_of (excerpt_at old x) point ≡ choice_of (excerpt_at new x) point
+    same x point None e =
+        let gone : plan_at new.plans x ≡ None = ap (λ (plans : List Plan). plan_at plans x) has.plans ∙ e in
+        rw (e, gone) refl
+    same x point (Some plan) e =
+        let there : excerpt_at old x ≡ Some (excerpt_in old plan) = ap (option_map (excerpt_in old)) e in
+        ap (λ (o : Option ExcerptValue). choice_of o point) there
+        ∙ choices_kept (excerpt_in old plan) new [] x (extract_right old valid x plan e) valid_new there has refl point

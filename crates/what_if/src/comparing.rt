@@ -1,6 +1,6 @@
 //! What is told from a network to another: of each point towards each destination, where something differs.
 
-ghost use Rattle.std.specs.Prelude.{◌≡◌, ◌++◌, ℕ, true, Some, IfOk, OnOk};
+ghost use Rattle.std.specs.Prelude.{◌≡◌, ◌++◌, [], ℕ, true, Some, IfOk, OnOk};
 ghost use Rattle.std.specs.Option.{IfSome, option_copied};
 ghost use Rattle.excerpts.specs.Excerpt.{excerpt_at};
 ghost use Rattle.excerpts.specs.Turned.{HasTurned};
@@ -273,6 +273,25 @@ fn told_by<D: Difference>(
     Ok(list)
 }
 
+/// Nothing is told from a version to a network in which no set turned.
+fn none_told<D: Difference>(
+    alloc: Global,
+    version: &Version,
+    net: &Frozen,
+    turned: &[Ends],
+) -> Vec<D>
+    requires none { turned.now ≡ [] }
+    requires turned { HasTurned version.now.network net.now turned.now }
+    ensures { result.items ≡ each_dest D.told version.now.network net.now }
+{
+    version.net().validity();
+    net.validity();
+    D::stays();
+    // The proof speaks of the sets that turned.
+    let _none = turned;
+    Vec::new(alloc)
+}
+
 /// What is told from a version to the network that events make of its own.
 pub(crate) fn told_after<D: Difference>(
     alloc: Global,
@@ -284,5 +303,8 @@ pub(crate) fn told_after<D: Difference>(
     ensures { IfOk result (λ v. v.items ≡ each_dest D.told version.now.network net.now) }
 {
     let turned = net.turned_by(alloc, version.net(), events)?;
-    told_by(alloc, version, net, turned.as_deref())
+    match turned.as_deref() {
+        Some(turned) if turned.is_empty() => Ok(none_told(alloc, version, net, turned)),
+        turned => told_by(alloc, version, net, turned),
+    }
 }
