@@ -1,34 +1,15 @@
 -- What a search in many places at once tells of a text.
-use Rattle.std.proofs.Common.{◌≡◌, ℕ, zero, suc, ◌<◌, ◌+◌, ◌-◌, ◌==◌, not, ltb, Bool, true, false, cond, List, [], ◌∷◌, ◌++◌, length, take, drop, get_or, Some, None, sym, ap, refl, ◌∙◌, arith, length-drop}
+use Rattle.std.proofs.Common.{◌≡◌, ℕ, zero, suc, ◌<◌, ◌+◌, ◌==◌, not, ltb, Bool, true, false, cond, List, [], ◌∷◌, ◌++◌, length, take, drop, Some, None, sym, ap, refl, ◌∙◌, arith, length-drop}
 use Rattle.std.proofs.lemmas.Bool.{and_parts, lt-ltb, ltb-true}
 use Rattle.std.specs.Prelude.{slice_index}
 use Rattle.std.specs.List.{position_or_len}
-use Rattle.std.proofs.lemmas.List.{drop_all, get_or-drop}
-use Rattle.std.proofs.lemmas.List.Sums.{sum_by-drop_more}
-use Rattle.memchr.specs.Find.{is_byte, places, places_from, IsFirstByte, IsLastByte}
+use Rattle.std.proofs.lemmas.List.{get_or-drop}
+use Rattle.memchr.specs.Find.{is_byte, IsFirstByte, IsLastByte}
 use Rattle.point_codes.specs.Codes.{split_of}
 use Rattle.point_codes.proofs.CodeLemmas.{lacks, lacks_parts}
-use Rattle.sessions.specs.Lines.{line_count}
 use Rattle.sessions.specs.Quitting.{after, after_all, after_text, is_idle, is_quit, through}
 use Rattle.sessions.specs.declared.quitting.Progress.{Progress}
 use Rattle.sessions.specs.declared.quitting.Progress.TheVariants as so_far
-
--- as many places as bytes that pass
-count_from : (text : List ℕ) (i n : ℕ) → i + n ≡ length text → length (places_from (is_byte 10) text i n) ≡ line_count (drop i text)
-unfolding places_from
-count_from text i zero e = sym (ap line_count (drop_all i text (omega (arith, e))))
-count_from text i (suc n) e =
-    let rest = count_from text (i + 1) n (omega (arith, e)) in
-    let more : line_count (drop i text) ≡ cond (get_or text i 0 == 10) 1 0 + line_count (drop (i + 1) text) = sum_by-drop_more (λ x. cond (x == 10) 1 0) text i 0 (omega (arith, e)) in
-    go (get_or text i 0 == 10) rest ∙ sym more
-  where
-    go : (b : Bool) → length (places_from (is_byte 10) text (i + 1) n) ≡ line_count (drop (i + 1) text)
-        → length (cond b (i ∷ places_from (is_byte 10) text (i + 1) n) (places_from (is_byte 10) text (i + 1) n)) ≡ cond b 1 0 + line_count (drop (i + 1) text)
-    go true rest = omega (arith, rest)
-    go false rest = omega (arith, rest)
-
-pub lines_counted : (text : List ℕ) → length (places (is_byte 10) text) ≡ line_count text
-lines_counted text = count_from text 0 (length text - 0) (omega arith)
 
 -- the first place of a byte
 module _ (c : ℕ) where
