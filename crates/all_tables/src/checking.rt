@@ -5,7 +5,7 @@ ghost use Rattle.std.specs.List.{AllZip};
 ghost use Rattle.std.specs.Option.{MatchOption};
 ghost use Rattle.all_tables.specs.Tables.{IsSettledIn, IsJudged, IsFirstWrongTable};
 
-use excerpts::{Excerpt, ExcerptFault, Frozen};
+use excerpts::{Excerpt, Frozen};
 use point_codes::PointCode;
 use profile::Table;
 use rayon::prelude::*;
@@ -23,19 +23,18 @@ pub struct Wrong {
 }
 
 /// The first complaint about a table, if it isn't the settled one of its destination.
-fn judge(alloc: Global, net: &Frozen, table: &Table) -> Result<Option<Complaint>, AllocError>
-    ensures { IfOk result (IsJudged net.now table.now) }
+fn judge(net: &Frozen, table: &Table) -> Option<Complaint>
+    ensures { IsJudged net.now table.now result }
 {
     match Excerpt::of(net, table.dest) {
-        Ok(excerpt) => match check(&excerpt, table) {
-            Ok(()) => Ok(None),
-            Err(complaint) => Ok(Some(complaint)),
+        Some(excerpt) => match check(&excerpt, table) {
+            Ok(()) => None,
+            Err(complaint) => Some(complaint),
         },
-        Err(ExcerptFault::NoPlan) => Ok(Some(Complaint {
+        None => Some(Complaint {
             point: table.dest,
             clause: Clause::Points,
-        })),
-        Err(ExcerptFault::OutOfMemory) => Err(AllocError),
+        }),
     }
 }
 
@@ -54,7 +53,7 @@ fn judge_all(
         .map(
             |table: &Table| -> Result<Option<Complaint>, AllocError>
                 ensures { IfOk result (IsJudged net.entry.now table.now) }
-            { judge(alloc, net, table) },
+            { Ok(judge(net, table)) },
         )
         .collect::<Result<Vec<Option<Complaint>>, AllocError>>(rt, alloc)?
 }

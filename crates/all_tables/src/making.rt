@@ -4,7 +4,7 @@ ghost use Rattle.std.specs.Prelude.{◌≡◌, IfOk, All, map};
 ghost use Rattle.excerpts.specs.Excerpt.{table_at as the_table_at};
 ghost use Rattle.all_tables.specs.Tables.{tables, those_there, IsSettledIn};
 
-use excerpts::{Excerpt, ExcerptFault, Frozen};
+use excerpts::{Excerpt, Frozen};
 use point_codes::PointCode;
 use profile::Table;
 use rayon::prelude::*;
@@ -29,9 +29,8 @@ fn table_at(alloc: Global, net: &Frozen, dest: PointCode) -> Result<Option<Table
     ensures { IfOk result (λ table. table ≡ the_table_at net.now dest) }
 {
     match Excerpt::of(net, dest) {
-        Ok(excerpt) => Ok(Some(table_of(alloc, &excerpt)?)),
-        Err(ExcerptFault::NoPlan) => Ok(None),
-        Err(ExcerptFault::OutOfMemory) => Err(AllocError),
+        Some(excerpt) => Ok(Some(table_of(alloc, &excerpt)?)),
+        None => Ok(None),
     }
 }
 

@@ -65,12 +65,12 @@ pub(crate) fn put_wrong(
 pub fn answer_audit(version: &Version) -> Answer
     ensures { result ≡ audit_answer (length version.now.network.plans) }
 {
-    let routings = version.routings();
-    for routing in routings {
-        routing.validity();
+    let plans = version.net().net().plans();
+    for position in 0..plans.len() {
+        let routing = version.routing_in_place(position);
         if let Err(complaint) = routing.audit() {
             return Answer::Net(NetAnswer::Wrong(routing.dest(), complaint));
         }
     }
-    Answer::Net(NetAnswer::Right(routings.len()))
+    Answer::Net(NetAnswer::Right(plans.len()))
 }

@@ -196,7 +196,7 @@ pub fn answer_about(
     let net = version.net();
     net.validity();
     match version.routing(dest) {
-        Some(routing) => answer_row(alloc, asked, net.net(), routing, point),
+        Some(routing) => answer_row(alloc, asked, net.net(), &routing, point),
         None => Ok(Answer::Refused(Reason::NoPlan)),
     }
 }

@@ -229,7 +229,7 @@ fn show_statuses_of(alloc: Global, version: &Version, dest: PointCode) -> Result
     ensures { IfOk result (λ answer. answer ≡ shown_answer (Show.Statuses dest) version.now.network) }
 {
     match version.routing(dest) {
-        Some(routing) => show_statuses(alloc, routing),
+        Some(routing) => show_statuses(alloc, &routing),
         None => Ok(Answer::Refused(Reason::NoPlan)),
     }
 }

@@ -5,7 +5,12 @@ use Rattle.net_data.specs.Edits.{replay}
 use Rattle.desk_core.specs.Desk.{DeskValue, OpenTarget, accepted}
 use Rattle.desk_core.specs.Runs.{IsSteadyDesk, IsTargetAhead}
 use Rattle.desk_core.proofs.ReplayLemmas.{replay-append}
-use Rattle.desk_console.specs.Syncing.{HasKept, published_to, without_target}
+use Rattle.desk_console.specs.Syncing.{HasKept, without_target}
+use Rattle.desk_core.specs.Steps.{published_to}
+
+-- nothing is lost of a desk that stays
+pub kept_itself : (s : DeskValue) → HasKept s s
+kept_itself s = record { accepted = refl; net = refl; lasts = refl; spare = refl }
 
 -- one after the other
 kept_then : (a b c : DeskValue) → HasKept a b → HasKept b c → HasKept a c

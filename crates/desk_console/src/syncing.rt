@@ -5,14 +5,14 @@ ghost use Rattle.desk_core.specs.Desk.{accepted};
 ghost use Rattle.desk_core.specs.Steps.{tasks_left, target_number};
 ghost use Rattle.desk_core.specs.Runs.{IsRunOf};
 ghost use Rattle.desk_console.specs.Settling.{HasOnlyTasks, out_count, waiting_count};
-ghost use Rattle.desk_console.specs.Syncing.{caught_up, synced, without_target, HasKept};
+ghost use Rattle.desk_console.specs.Syncing.{synced, without_target, HasKept};
 
 use desk_core::{Desk, Refusal};
 use std::alloc::{AllocError, Global};
 use work_units::settle;
 
-/// Brings a desk up to date, at once where that can be, else by the calls that any worker makes, and tells the number of the
-/// published version then: that of the last accepted event. It fails if memory is refused; nothing that was accepted is lost
+/// Brings a desk up to date, an open target by the calls that any worker makes, and then what is newer at once, and tells the number of
+/// the published version: that of the last accepted event. It fails if memory is refused; nothing that was accepted is lost
 /// then. Either way a run of the desk's steps leads there, which accepts nothing.
 pub fn sync(alloc: Global, desk: &mut Desk) -> Result<u64, AllocError>
     ensures ok { IfOk result (λ number. (number ≡ accepted desk.old) × (desk.new ≡ synced desk.old)) }
@@ -22,7 +22,7 @@ pub fn sync(alloc: Global, desk: &mut Desk) -> Result<u64, AllocError>
 {
     desk.steady();
     close(alloc, desk)?;
-    catch_up(alloc, desk)?;
+    desk.publish_at_once(alloc)?;
     Ok(desk.published().number())
 }
 
@@ -39,25 +39,6 @@ fn close(alloc: Global, desk: &mut Desk) -> Result<(), AllocError>
     settle_all(alloc, desk)?;
     match desk.publish(alloc) {
         Ok(_) => Ok(()),
-        Err(refusal) => Err(want_of_memory(refusal)),
-    }
-}
-
-/// Publishes what is newer than the published version, if no target is open: at once, or by a target.
-fn catch_up(alloc: Global, desk: &mut Desk) -> Result<(), AllocError>
-    requires { desk.old.target ≡ None }
-    ensures ok { OnOk result (desk.new ≡ caught_up desk.old) }
-    ensures err { OnErr result (HasKept desk.old desk.new) }
-    ensures run { IsRunOf desk.old [] desk.new }
-{
-    if desk.accepted() == desk.published().number() {
-        return Ok(());
-    }
-    if desk.publish_at_once(alloc)? {
-        return Ok(());
-    }
-    match desk.open(alloc) {
-        Ok(_) => close(alloc, desk),
         Err(refusal) => Err(want_of_memory(refusal)),
     }
 }

@@ -4,7 +4,7 @@ use Rattle.std.specs.Prelude.{filter}
 use Rattle.std.specs.List.{AllByRecursion}
 use Rattle.std.specs.Option.{option_map}
 use Rattle.std.proofs.lemmas.Bool.{eq-eqb, eqb-true}
-use Rattle.std.proofs.lemmas.List.{map-append}
+use Rattle.std.proofs.lemmas.List.{get_or-map, map-append}
 use Rattle.std.proofs.lemmas.List.Elements.{filter-append}
 use Rattle.plan_rows.proofs.SeenLemmas.{take_push}
 use Rattle.net_items.specs.declared.items.Plan.{Plan}
@@ -14,8 +14,10 @@ use Rattle.net_items.specs.Lookups.{has_point, plan_at}
 use Rattle.net_items.proofs.KeyedLemmas.{All-then}
 use Rattle.net_data.specs.Network.{Network}
 use Rattle.net_data.specs.Valid.{IsValid, IsRightPlan}
-use Rattle.excerpts.specs.Excerpt.{ExcerptValue, excerpt_in}
+use Rattle.excerpts.specs.Excerpt.{ExcerptValue, content_at, excerpt_in}
 use Rattle.transfer_state.specs.Routing.{RoutingSlotValue}
+use Rattle.transfer_state.proofs.SweepLemmas.{at_index}
+use Rattle.net_versions.specs.Versions.{AreKept}
 use Rattle.dirty_sets.specs.Bits.{is_marked}
 use Rattle.dirty_sets.specs.Touch.{is_planned}
 use Rattle.dirty_sets.specs.Marks.{Marked}
@@ -164,11 +166,21 @@ filter-same : (p q : ℕ → Bool) (xs : List ℕ) → AllByRecursion (λ x. x <
 filter-same p q [] all same = refl
 filter-same p q (x ∷ xs) all same = ap (λ b. cond b (x ∷ filter p xs) (filter p xs)) (same x all.0) ∙ ap (λ ys. cond (q x) (x ∷ ys) ys) (filter-same p q xs all.1 same)
 
+-- the planned destinations are codes
+dests_small : (net : Network) → IsValid net → AllByRecursion (λ (p : Plan). p.dest < 16384) net.plans
+dests_small net valid = All-then (λ (p : Plan). p.dest) (IsRightPlan net.points net.sets) (λ p. p.dest < 16384) (λ p right. coded net.points p.dest valid.codes_small right.is_there) net.plans valid.plans_right
+
+-- the tables of plans that weren't touched read the same
+pub places_kept : (net before : Network) → IsValid net → (touched : ℕ → Bool) → ((x : ℕ) → x < 16384 → touched x ≡ false → content_at net x ≡ content_at before x) → AreKept net before (map (λ (p : Plan). touched p.dest) net.plans)
+places_kept net before valid touched kept i d low untouched =
+    let here : touched (get_or net.plans i d).dest ≡ false = sym (get_or-map (λ (p : Plan). touched p.dest) net.plans i d true low) ∙ untouched in
+    kept (get_or net.plans i d).dest (at_index (λ (p : Plan). p.dest < 16384) net.plans i d (dests_small net valid) low) here
+
 -- the destinations that were touched are those to settle
 pub to_settle_is : (s : DeskValue) (latest : Network) (marked : Marked) → IsInside s latest marked None → IsValid latest → filter marked.touched (dests latest.plans) ≡ to_settle s
 to_settle_is s latest marked i valid =
     filter-same marked.touched (touched_by s.published.network s.pending) (dests latest.plans)
-    (All-map (λ x. x < 16384) (λ (p : Plan). p.dest) latest.plans (All-then (λ (p : Plan). p.dest) (IsRightPlan latest.points latest.sets) (λ p. p.dest < 16384) (λ p right. coded latest.points p.dest valid.codes_small right.is_there) latest.plans valid.plans_right))
+    (All-map (λ x. x < 16384) (λ (p : Plan). p.dest) latest.plans (dests_small latest valid))
     (λ x low. i.since x low)
     ∙ ap (λ (n : Network). filter (touched_by s.published.network s.pending) (dests n.plans)) i.is_now
 

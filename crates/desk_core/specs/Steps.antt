@@ -161,6 +161,14 @@ IsNext s version = MatchOption s.target ⊥ (λ t. version ≡ next_version s t.
 abbrev pub with_version : DeskValue → VersionValue → DeskValue
 with_version s version = record s { published = version; pending = drop (version.number - s.published.number) s.pending; target = None }
 
+-- the desk with the accepted events up to a number published
+abbrev pub published_to : DeskValue → ℕ → DeskValue
+published_to s number = with_version s (next_version s number)
+
+-- what is newer than the published version is published
+abbrev pub caught_up : DeskValue → DeskValue
+caught_up s = if length s.pending == 0 then s else published_to s (accepted s)
+
 -- why nothing is ready: the refusal, else out of memory
 abbrev pub IsUnready : Option Refusal → Refusal → Type 0
 IsUnready (Some cause) refusal = refusal ≡ cause

@@ -116,9 +116,9 @@ fn new_version(
 {
     let count = (target.number() - published.number()) as usize;
     let batch = copies(alloc, &pending[..count])?;
-    let routings = target.routings(alloc)?;
+    let choices = Arc::new(alloc, target.choices(alloc)?)?;
     let net = target.net().share()?;
-    Ok(Arc::new(alloc, Version::new(target.number(), batch, net, routings))?)
+    Ok(Arc::new(alloc, Version::new(target.number(), batch, net, choices))?)
 }
 
 /// The first version of a network.

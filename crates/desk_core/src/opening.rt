@@ -12,7 +12,7 @@ ghost use Rattle.dirty_sets.specs.Waiting.{all_waiting};
 
 use crate::targets::{Difference, Target};
 use dirty_sets::{Codes, Waiting};
-use excerpts::{Excerpt, Frozen};
+use excerpts::{Frozen, SharedExcerpt};
 use net_data::{Event, Net};
 use net_versions::Version;
 use point_codes::PointCode;
@@ -49,7 +49,7 @@ fn slot_for(
 {
     // The proof reads the code's range from this.
     let _number = dest.number();
-    let excerpt = match Excerpt::of(net, dest) {
+    let excerpt = match SharedExcerpt::of(net, dest) {
         Ok(excerpt) => excerpt,
         Err(_) => return Err(AllocError),
     };
@@ -57,7 +57,7 @@ fn slot_for(
         return Ok(RoutingSlot::new(excerpt));
     }
     match version.routing(dest) {
-        Some(routing) => RoutingSlot::of_same(excerpt, routing),
+        Some(routing) => RoutingSlot::of_same(excerpt, &routing),
         None => unreachable!(),
     }
 }
@@ -100,12 +100,18 @@ fn all_slots(
     Ok(slots)
 }
 
-/// A copy of a network, frozen after the one before.
-pub(crate) fn frozen_copy(alloc: Global, net: &Net, before: &Frozen) -> Result<Frozen, AllocError>
+/// A copy of a network that events made of an earlier one, frozen.
+pub(crate) fn frozen_copy(
+    alloc: Global,
+    net: &Net,
+    before: &Frozen,
+    events: &[Event],
+) -> Result<Frozen, AllocError>
+    requires { net.now ≡ replay before.now events.now }
     ensures { IfOk result (λ frozen. frozen ≡ net.now) }
 {
     let copy = net.copy(alloc)?;
-    Frozen::after(alloc, copy, before)
+    Frozen::after_events(alloc, copy, before, events)
 }
 
 /// The touched destinations, all of which wait.
@@ -149,7 +155,7 @@ pub(crate) fn new_target(
     requires kept { (x : ℕ) → x < 16384 → is_marked touched.now x ≡ false → content_at latest.now x ≡ content_at (arc_value version.now).network x }
     ensures { IfOk result (λ t. t ≡ record { number = number; network = latest.now; tasks = all_waiting (filter (is_marked touched.now) (map (λ p. p.dest) latest.now.plans)) }) }
 {
-    let net = frozen_copy(alloc, latest, version.net())?;
+    let net = frozen_copy(alloc, latest, version.net(), events)?;
     let slots = all_slots(alloc, &net, touched, version)?;
     let difference = difference_from(alloc, &net, version, events)?;
     let waiting = waiting_dests(alloc, latest, touched)?;

@@ -5,9 +5,9 @@ ghost use Rattle.std.specs.List.{AllByRecursion};
 ghost use Rattle.std.specs.Option.{MatchOption};
 ghost use Rattle.net_items.specs.Keyed.{IsRising, IsFoundAt, IsGapAt};
 ghost use Rattle.excerpts.specs.Excerpt.{content_at, content_of, excerpt_at};
-ghost use Rattle.transfer_state.specs.Routing.{settled_routing};
+ghost use Rattle.transfer_state.specs.Routing.{settled_choices};
 ghost use Rattle.dirty_sets.specs.Waiting.{first_waiting, taken, is_out as out_among, least, out, put_last, waiting, without_task};
-ghost use Rattle.net_versions.specs.Versions.{settled_routings};
+ghost use Rattle.net_versions.specs.Versions.{all_choices};
 ghost use Rattle.work_units.specs.Work.{IsJob};
 ghost use Rattle.desk_core.specs.Targets.{AreFilled, DiffersBy};
 
@@ -18,7 +18,7 @@ use point_codes::PointCode;
 use std::alloc::{AllocError, Global};
 use std::marker::Model;
 use std::sync::Arc;
-use transfer_state::{Routing, RoutingSlot};
+use transfer_state::{Choices, RoutingSlot};
 use work_units::{Job, Refusal, Settled};
 
 /// What an open target has of the version before.
@@ -69,27 +69,27 @@ fn position_of_slot(slots: &[RoutingSlot], first: usize, dest: PointCode) -> Res
     slots.binary_search_by_key(&dest, |p| p.dest())
 }
 
-/// The routing that has come to a place, shared.
-fn routing_of(slot: &RoutingSlot) -> Result<Routing, AllocError>
+/// What is kept of the choices that have come to a place, shared.
+fn choices_of(slot: &RoutingSlot) -> Result<Choices, AllocError>
     requires { slot.now.settled ≡ true }
-    ensures { IfOk result (λ r. r ≡ settled_routing slot.now.excerpt) }
+    ensures { IfOk result (λ c. c ≡ settled_choices slot.now.excerpt) }
 {
-    match slot.routing()? {
-        Some(routing) => Ok(routing),
+    match slot.choices()? {
+        Some(choices) => Ok(choices),
         None => unreachable!(),
     }
 }
 
-/// The routings that have come to all places, shared.
-fn all_routings(alloc: Global, slots: &[RoutingSlot]) -> Result<Vec<Routing>, AllocError>
+/// What is kept of the choices that have come to all places, shared.
+fn choices_of_all(alloc: Global, slots: &[RoutingSlot]) -> Result<Vec<Choices>, AllocError>
     requires { AllByRecursion (λ s. s.settled ≡ true) slots.now }
-    ensures { IfOk result (λ v. v.items ≡ map (λ s. settled_routing s.excerpt) slots.now) }
+    ensures { IfOk result (λ v. v.items ≡ map (λ s. settled_choices s.excerpt) slots.now) }
 {
-    let mut routings = Vec::with_capacity(alloc, slots.len())?;
+    let mut list = Vec::with_capacity(alloc, slots.len())?;
     for i in 0..slots.len() {
-        routings.push(routing_of(&slots[i])?)?;
+        list.push(choices_of(&slots[i])?)?;
     }
-    Ok(routings)
+    Ok(list)
 }
 
 impl Target {
@@ -175,7 +175,7 @@ impl Target {
         if let Some(difference) = &parts.difference
             && let Some(routing) = difference.version.routing(dest)
         {
-            return Job::after(parts.number, &parts.net, routing, &difference.turned);
+            return Job::after(parts.number, &parts.net, &routing, &difference.turned);
         }
         Job::of(parts.number, &parts.net, dest)
     }
@@ -234,11 +234,11 @@ impl Target {
         self.parts.waiting.put_last(dest);
     }
 
-    /// The settled routing of each planned destination, if all have come. It fails only if memory is refused.
-    pub(crate) fn routings(&self, alloc: Global) -> Result<Vec<Routing>, AllocError>
+    /// What is kept of the choices towards each planned destination, if all have come. It fails only if memory is refused.
+    pub(crate) fn choices(&self, alloc: Global) -> Result<Vec<Choices>, AllocError>
         requires { self.now.tasks ≡ [] }
-        ensures { IfOk result (λ v. v.items ≡ settled_routings self.now.network) }
+        ensures { IfOk result (λ v. v.items ≡ all_choices self.now.network) }
     {
-        all_routings(alloc, self.parts.slots.as_slice())
+        choices_of_all(alloc, self.parts.slots.as_slice())
     }
 }

@@ -1,6 +1,6 @@
 -- The excerpt of a plan is the source that the profile takes out of the network's.
 use Rattle.std.proofs.Common.{◌≡◌, ℕ, Bool, true, false, ◌&&◌, eqb, Option, Some, None, is_some, List, [], ◌∷◌, map, cond, refl, ap, sym, ◌∙◌, subst}
-use Rattle.std.specs.Prelude.{filter}
+use Rattle.std.specs.Prelude.{filter, Ok}
 use Rattle.std.specs.Option.{option_map, option_map_or, option_and_then}
 use Rattle.std.proofs.lemmas.Bool.{eqb-true}
 use Rattle.std.proofs.lemmas.List.Elements.{All-from_recursion}
@@ -19,7 +19,7 @@ use Rattle.profile.specs.Valid.{HasFewLinks, HasLinksInOrder}
 use Rattle.profile.specs.Whole.{scratch}
 use Rattle.profile.proofs.CertificateLemmas.{find-map}
 use Rattle.profile.proofs.ExcerptLemmas.{excerpt_scratch}
-use Rattle.excerpts.specs.Excerpt.{point_kind, row_point, network_source, source_of, ExcerptValue, content_in, content_of, content_source, IsRight}
+use Rattle.excerpts.specs.Excerpt.{point_kind, row_point, network_source, source_of, ExcerptValue, content_in, content_of, content_source, excerpt_at, excerpt_in, IsExcerptAnswer, IsRight}
 use Rattle.excerpts.proofs.SourceLemmas.{source_valid, sets_few, sets_ordered, row_point_is, plan_right}
 
 -- the destination of the plan that is found
@@ -89,6 +89,14 @@ extract_right net v dest plan at =
       points_rise = v.points_rise;
       rows_rise = right.rows_rise;
     }
+
+-- the excerpt of a destination that is handed out is the one that is there
+pub answer_is : (x e : ExcerptValue) → IsRight x → IsExcerptAnswer (excerpt_at x.network x.plan.dest) (Ok e) → e ≡ x
+answer_is x e right answer = go (excerpt_at x.network x.plan.dest) (ap (option_map (excerpt_in x.network)) right.planned) answer
+  where
+    go : (o : Option ExcerptValue) → o ≡ Some x → IsExcerptAnswer o (Ok e) → e ≡ x
+    go None there answer = absurd (cc)
+    go (Some y) there answer = let same : y ≡ x = cc in answer ∙ same
 
 -- the table of what is read alone is that of the network
 pub table_alone : (x : ExcerptValue) → IsRight x → scratch (content_source (content_of x)) ≡ scratch (source_of x)

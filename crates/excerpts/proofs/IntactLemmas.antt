@@ -6,8 +6,14 @@ use Rattle.std.proofs.lemmas.Option.{same_Some}
 use Rattle.net_items.specs.declared.items.LinkSet.{LinkSet}
 use Rattle.net_items.specs.Lookups.{joins, set_between}
 use Rattle.link_sets.specs.Availability.{set_available, connected}
+use Rattle.excerpts.specs.Index.{AreSameEnds}
 use Rattle.excerpts.specs.Intact.{told_intact, TellIntact}
+use Rattle.excerpts.proofs.SharedLemmas.{same_adjacent}
 use Rattle.excerpts.proofs.TurnedLemmas.{ends_of_joint, place_found}
+
+-- entries are right of other sets with the same ends, if an available set joins two points in both or in neither
+pub intact_stays : (before after : List LinkSet) (entries : List Bool) → AreSameEnds before after → ((y z : ℕ) → connected after y z ≡ connected before y z) → TellIntact before entries → TellIntact after entries
+intact_stays before after entries ends same tells y told z there = same y z ∙ tells y told z (same_adjacent before after y z ends ∙ there)
 
 module _ (sets : List LinkSet) where
   -- of the sets in the first places both ends are noted, if they aren't available

@@ -16,7 +16,7 @@ use Rattle.net_data.specs.Edits.{changed, replay}
 use Rattle.net_data.specs.Network.{Network}
 use Rattle.link_sets.specs.Availability.{set_available, connected}
 use Rattle.excerpts.specs.declared.turned.Pair.{Pair}
-use Rattle.excerpts.specs.Index.{HasSameEnds}
+use Rattle.excerpts.specs.Index.{AreSameEnds, HasSameEnds}
 use Rattle.excerpts.specs.Turned.{has_pair, is_named, set_linked, ArePairsTurned, HasTold}
 use Rattle.excerpts.proofs.TurnedLemmas.{ends_of_joint}
 
@@ -137,13 +137,28 @@ module _ (named : ℕ → Bool) (before after : List LinkSet) (list : List Pair)
       go true e rest = let here = both ∙ e in rw (e, here) (available_alike s t y z alike.0 at_s at_t e lacks (named s.id) refl)
       go false e rest = let here = both ∙ e in rw (e, here) rest
 
+-- sets that are alike have the same ends
+alike_ends : (named : ℕ → Bool) (ss ts : List LinkSet) → AreAlike named ss ts → AreSameEnds ss ts
+alike_ends named [] [] alike = tt
+alike_ends named [] (t ∷ ts) alike = alike
+alike_ends named (s ∷ ss) [] alike = alike
+alike_ends named (s ∷ ss) (t ∷ ts) alike = (record { first = sym alike.0.ends.first; second = sym alike.0.ends.second }, alike_ends named ss ts alike.1)
+
+alike_after : (before net : Network) (events : List Event) → net ≡ replay before events → list_all is_of_links events ≡ true → AreAlike (is_named events) before.sets net.sets
+alike_after before net events is all =
+    subst (λ (n : Network). AreAlike (is_named events) before.sets n.sets) (sym is) (alike_replay (is_named events) events all (λ id e. e) before.sets before (alike_itself (is_named events) before.sets))
+
+-- events of links leave the ends of all sets
+pub ends_after : (before net : Network) (events : List Event) → net ≡ replay before events → list_all is_of_links events ≡ true → AreSameEnds before.sets net.sets
+ends_after before net events is all = alike_ends (is_named events) before.sets net.sets (alike_after before net events is all)
+
 -- where the list has the ends of each named set that turned, nothing else turned
 pub named_turned : (before net : Network) (events : List Event) (list : List Pair) → net ≡ replay before events → list_all is_of_links events ≡ true
     → IsRising (λ (x : LinkSet). x.id) before.sets → IsRising (λ (x : LinkSet). x.id) net.sets
     → ((id : ℕ) → is_named events id ≡ true → HasTold before.sets net.sets list id) → ArePairsTurned before.sets net.sets list
 named_turned before net events list is all up up' told y z lacks =
     joined_alike (is_named events) before.sets net.sets list told before.sets net.sets
-    (subst (λ (n : Network). AreAlike (is_named events) before.sets n.sets) (sym is) (alike_replay (is_named events) events all (λ id e. e) before.sets before (alike_itself (is_named events) before.sets)))
+    (alike_after before net events is all)
     up up' (λ k x e. e) (λ k x e. e) y z lacks
 
 -- ---- the events one by one

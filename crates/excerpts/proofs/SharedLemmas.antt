@@ -36,7 +36,7 @@ same_at (x ∷ xs) (y ∷ ys) zero s same at = (y, refl, subst (λ w. HasSameEnd
 same_at (x ∷ xs) (y ∷ ys) (suc k) s same at = same_at xs ys k s same.1 at
 
 -- two points are joined in both or in neither
-same_adjacent : (sets others : List LinkSet) (y z : ℕ) → AreSameEnds sets others → is_some (find (joins y z) sets) ≡ is_some (find (joins y z) others)
+pub same_adjacent : (sets others : List LinkSet) (y z : ℕ) → AreSameEnds sets others → is_some (find (joins y z) sets) ≡ is_some (find (joins y z) others)
 same_adjacent [] [] y z same = refl
 same_adjacent [] (t ∷ ts) y z same = absurd same
 same_adjacent (s ∷ ss) [] y z same = absurd same

@@ -1,44 +1,54 @@
 //! The excerpt of one destination.
 
-ghost use Rattle.std.specs.Prelude.{◌≡◌, ◌↔◌, IsTrue, true, Some, IfErr, IfOk, is_some};
+ghost use Rattle.std.specs.Prelude.{◌≡◌, ◌↔◌, ◌<◌, IsTrue, true, Some, IfErr, IfOk, is_some, length, slice_index_or};
 ghost use Rattle.std.specs.Option.{option_copied, option_map, IfSome};
 ghost use Rattle.net_items.specs.Keyed.{IsRising, IsFoundAt, IsGapAt};
-ghost use Rattle.net_items.specs.Lookups.{point_at, mate_of as the_mate, is_stp as stp_is, row_at, set_between as between};
+ghost use Rattle.net_items.specs.declared.items.Plan.{Plan};
+ghost use Rattle.net_items.specs.Lookups.{point_at, mate_of as the_mate, is_stp as stp_is, plan_at, row_at, set_between as between};
 ghost use Rattle.link_sets.specs.Availability.{connected};
 ghost use Rattle.link_sets.specs.Neighbours.{neighbours as neighbours_of};
 ghost use Rattle.excerpts.specs.Around.{neighbours_left};
-ghost use Rattle.excerpts.specs.Excerpt.{ExcerptValue, content_at, content_in, content_of, excerpt_at, is_read_by, leads as row_leads, IsExcerptAnswer, IsRight};
+ghost use Rattle.excerpts.specs.Excerpt.{ExcerptValue, content_at, content_in, content_of, excerpt_at, excerpt_in, is_read_by, leads as row_leads, IsRight};
 ghost use Rattle.excerpts.specs.Intact.{IsIntact};
 
-use crate::faults::ExcerptFault;
 use crate::positions::{is_expected, is_near, point_by, position_by_code, position_in_rows};
 use crate::reading::{are_same_reads, are_same_row_points, is_read};
+use crate::shared::SharedExcerpt;
 use crate::{Frozen, Neighbours};
-use net_data::Net;
+use net_data::{Net, Plans};
 use net_items::equals::{are_same_points, are_same_sets, is_same_plan};
 use net_items::{Kind, LinkSet, Plan, Point, Row};
 use plan_rows::uses::is_via;
 use point_codes::PointCode;
 use std::alloc::AllocError;
 use std::marker::Model;
-use std::sync::Arc;
 
-/// What the table of one destination reads of a network (own).
+/// What the table of one destination reads of a network (own): the network and the plan, as they stand there.
 #[derive(Drop)]
-pub struct Excerpt {
-    net: Frozen,
-    plan: Arc<Plan>,
+pub struct Excerpt<'a> {
+    net: &'a Frozen,
+    plan: &'a Plan,
 }
 
-impl Model for Excerpt {
-    ghost use Rattle.std.specs.Arc.{arc_value};
+impl<'a> Model for Excerpt<'a> {
     ghost use Rattle.excerpts.specs.Excerpt.{ExcerptValue, IsRight};
 
     ghost Value = { ExcerptValue };
 
-    ghost view = { λ e. record { network = e.net; plan = arc_value e.plan } };
+    ghost view = { λ e. record { network = e.net.now; plan = e.plan.now } };
 
-    ghost invariant = { λ e. IsRight (record { network = e.net; plan = arc_value e.plan }) };
+    ghost invariant = { λ e. IsRight (record { network = e.net.now; plan = e.plan.now }) };
+}
+
+/// The plan of a destination, looked for first in a place.
+fn plan_near(plans: &Plans, first: usize, dest: PointCode) -> Option<&Plan>
+    requires { IsRising (λ p. p.dest) plans.now }
+    ensures { option_copied result ≡ plan_at plans.entry.now dest }
+{
+    if first < plans.len() && plans.at(first).dest == dest {
+        return Some(plans.at(first));
+    }
+    plans.find(dest)
 }
 
 /// Whether the points and the sets of two networks are equal.
@@ -77,34 +87,32 @@ fn is_same_content(net: &Net, plan: &Plan, other_net: &Net, other_plan: &Plan) -
         && are_same_readings(net, plan, other_net)
 }
 
-impl Excerpt {
-    /// The excerpt of a destination. It shares the network and the plan. It is refused if the network has no plan for
-    /// the destination, and, last, if memory is refused.
-    pub fn of(net: &Frozen, dest: PointCode) -> Result<Excerpt, ExcerptFault>
-        ensures { IsExcerptAnswer (excerpt_at net.now dest) result }
+impl<'a> Excerpt<'a> {
+    /// The excerpt of a network and one of its plans.
+    pub(crate) fn by(net: &'a Frozen, plan: &'a Plan) -> Excerpt<'a>
+        requires { IsRight (excerpt_in net.now plan.now) }
+        ensures { result ≡ excerpt_in net.entry.now plan.entry.now }
     {
-        let network = net.net();
-        network.validity();
-        let first = net.expected(network.plans().len(), dest);
-        let plan = match network.share_plan(first, dest) {
-            Ok(Some(plan)) => plan,
-            Ok(None) => return Err(ExcerptFault::NoPlan),
-            Err(_) => return Err(ExcerptFault::OutOfMemory),
-        };
-        match net.share() {
-            Ok(net) => Ok(Excerpt { net, plan }),
-            Err(_) => Err(ExcerptFault::OutOfMemory),
-        }
+        Excerpt { net, plan }
     }
 
-    /// The same excerpt once more. It fails only if no further share can be counted.
-    pub fn share(&self) -> Result<Excerpt, AllocError>
-        ensures { IfOk result (λ e. e ≡ self.now) }
+    /// The excerpt of a destination, if the network has a plan for it. Nothing is copied or counted.
+    pub fn of(net: &'a Frozen, dest: PointCode) -> Option<Excerpt<'a>>
+        ensures { result ≡ excerpt_at net.entry.now dest }
     {
-        Ok(Excerpt {
-            net: self.net.share()?,
-            plan: Arc::try_clone(&self.plan)?,
-        })
+        net.validity();
+        let plans = net.net().plans();
+        let plan = plan_near(plans, net.expected(plans.len(), dest), dest)?;
+        Some(Excerpt::by(net, plan))
+    }
+
+    /// The excerpt of the plan in a place of a network's plans.
+    pub fn in_place(net: &'a Frozen, position: usize) -> Excerpt<'a>
+        requires { position < length net.now.plans }
+        ensures { (d : Plan) → result ≡ excerpt_in net.entry.now (slice_index_or net.entry.now.plans position d) }
+    {
+        net.validity();
+        Excerpt::by(net, net.net().plans().at(position))
     }
 
     /// The facts that the type keeps: the network is valid and has the plan. It does nothing when it runs.
@@ -112,7 +120,28 @@ impl Excerpt {
         ensures { IsRight self.now }
     {
         // The proof reads the type's invariant from this.
-        let _ = &self.net;
+        let _net = self.net;
+    }
+
+    /// The same excerpt once more. Nothing is copied or counted.
+    pub fn copy(&self) -> Excerpt<'a>
+        ensures { result ≡ self.now }
+    {
+        Excerpt {
+            net: self.net,
+            plan: self.plan,
+        }
+    }
+
+    /// The same excerpt, which shares the network and the plan, so that it lasts. It fails only if no further share can be counted.
+    pub fn share(&self) -> Result<SharedExcerpt, AllocError>
+        ensures { IfOk result (λ e. e ≡ self.now) }
+    {
+        self.validity();
+        match SharedExcerpt::of(self.net, self.dest()) {
+            Ok(excerpt) => Ok(excerpt),
+            Err(_) => Err(AllocError),
+        }
     }
 
     /// The destination.
@@ -126,7 +155,7 @@ impl Excerpt {
     pub fn plan(&self) -> &Plan
         ensures { result.now ≡ self.now.plan }
     {
-        &self.plan
+        self.plan
     }
 
     /// The position of a point's row among the plan's rows, or where it would go.
@@ -270,7 +299,7 @@ impl Excerpt {
         ensures { result ≡ is_read_by self.now.network.points self.now.plan set.now }
     {
         self.validity();
-        is_read(self.net.net().points(), &self.plan, set)
+        is_read(self.net.net().points(), self.plan, set)
     }
 
     /// Whether the network has the transfer-restricted option.
@@ -285,7 +314,7 @@ impl Excerpt {
         ensures { IsTrue result ↔ (content_of self.now ≡ content_of other.now) }
     {
         self.validity();
-        is_same_content(self.net.net(), &self.plan, other.net.net(), &other.plan)
+        is_same_content(self.net.net(), self.plan, other.net.net(), other.plan)
     }
 
     /// Whether the table of a destination of a network reads the same. It takes no memory.
@@ -294,7 +323,7 @@ impl Excerpt {
     {
         self.validity();
         match net.plan(dest) {
-            Some(plan) => is_same_content(self.net.net(), &self.plan, net, plan),
+            Some(plan) => is_same_content(self.net.net(), self.plan, net, plan),
             None => false,
         }
     }

@@ -14,7 +14,7 @@ ghost use Rattle.excerpts.specs.Turned.{HasTurned};
 use crate::indexed::Indexed;
 use crate::neighbours::Neighbours;
 use crate::positions::PointOrder;
-use crate::turned::{Ends, turned_by};
+use crate::turned::{Ends, are_few_links, turned_by};
 use net_data::{Event, Net};
 use net_items::LinkSet;
 use point_codes::PointCode;
@@ -53,6 +53,25 @@ impl Frozen {
         ensures { IfOk result (λ f. f ≡ net) }
     {
         let indexed = Indexed::after(alloc, net, &before.indexed)?;
+        Ok(Frozen {
+            indexed: Arc::new(alloc, indexed)?,
+        })
+    }
+
+    /// The network that some events made of an earlier one, frozen, with less work if these are few and about links alone.
+    pub fn after_events(
+        alloc: Global,
+        net: Net,
+        before: &Frozen,
+        events: &[Event],
+    ) -> Result<Frozen, AllocError>
+        requires { net ≡ replay before.now events.now }
+        ensures { IfOk result (λ f. f ≡ net) }
+    {
+        if !are_few_links(events) {
+            return Frozen::after(alloc, net, before);
+        }
+        let indexed = Indexed::after_links(alloc, net, &before.indexed, events)?;
         Ok(Frozen {
             indexed: Arc::new(alloc, indexed)?,
         })

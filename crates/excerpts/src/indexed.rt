@@ -8,14 +8,18 @@ ghost use Rattle.net_data.specs.Valid.{IsValid};
 ghost use Rattle.link_sets.specs.Availability.{connected};
 ghost use Rattle.link_sets.specs.Neighbours.{next_from, IsCodeFrom};
 ghost use Rattle.excerpts.specs.Index.{IsJointIndex};
-ghost use Rattle.excerpts.specs.Intact.{IsIntact};
+ghost use Rattle.std.specs.List.{list_all};
+ghost use Rattle.net_data.specs.Edits.{replay};
+ghost use Rattle.net_data.specs.Kinds.{is_of_links};
+ghost use Rattle.excerpts.specs.Intact.{IsIntact, TellIntact};
 
 use crate::index::{are_same_ends, find_joint, index_of, next_up};
 use crate::intact::IntactPoints;
 use crate::joints::Joints;
 use crate::positions::PointOrder;
+use crate::turned::turned_among;
 use link_sets::set_available;
-use net_data::Net;
+use net_data::{Event, Net};
 use net_items::LinkSet;
 use point_codes::PointCode;
 use std::alloc::{AllocError, Global};
@@ -56,13 +60,16 @@ fn joints_of(alloc: Global, sets: &[LinkSet]) -> Result<Arc<Joints>, AllocError>
 }
 
 impl Indexed {
-    /// The network with its index. It fails if memory is refused.
-    pub fn new(alloc: Global, net: Net) -> Result<Indexed, AllocError>
+    /// The network with the index of its joints, and the order of its points.
+    fn by(
+        alloc: Global,
+        net: Net,
+        joints: Arc<Joints>,
+        order: Arc<PointOrder>,
+    ) -> Result<Indexed, AllocError>
+        requires { IsJointIndex (arc_value joints) net.sets }
         ensures { IfOk result (λ f. f ≡ net) }
     {
-        net.validity();
-        let joints = joints_of(alloc, net.sets())?;
-        let order = PointOrder::shared(alloc, net.points())?;
         let intact = IntactPoints::of(alloc, net.sets())?;
         Ok(Indexed {
             net,
@@ -70,6 +77,16 @@ impl Indexed {
             order,
             intact,
         })
+    }
+
+    /// The network with its index. It fails if memory is refused.
+    pub fn new(alloc: Global, net: Net) -> Result<Indexed, AllocError>
+        ensures { IfOk result (λ f. f ≡ net) }
+    {
+        net.validity();
+        let joints = joints_of(alloc, net.sets())?;
+        let order = PointOrder::shared(alloc, net.points())?;
+        Indexed::by(alloc, net, joints, order)
     }
 
     /// The order of the points, shared if there are as many as in the network before.
@@ -94,7 +111,44 @@ impl Indexed {
         }
         let joints = Arc::try_clone(&before.joints)?;
         let order = Indexed::order_after(alloc, &net, before)?;
-        let intact = IntactPoints::of(alloc, net.sets())?;
+        Indexed::by(alloc, net, joints, order)
+    }
+
+    /// Which points are intact in a network that events of links made of this one: the same ones, if no set turned.
+    fn intact_after(
+        &self,
+        alloc: Global,
+        net: &Net,
+        events: &[Event],
+    ) -> Result<IntactPoints, AllocError>
+        requires made { net.now ≡ replay self.now events.now }
+        requires links { list_all is_of_links events.now ≡ true }
+        ensures { IfOk result (λ intact. TellIntact net.now.sets intact) }
+    {
+        net.validity();
+        self.net.validity();
+        let turned = turned_among(alloc, net.sets(), self.net.sets(), events)?;
+        if turned.is_empty() {
+            return self.intact.share();
+        }
+        IntactPoints::of(alloc, net.sets())
+    }
+
+    /// The network that events of links made of an earlier one, with its index: its sets join the same points.
+    pub fn after_links(
+        alloc: Global,
+        net: Net,
+        before: &Indexed,
+        events: &[Event],
+    ) -> Result<Indexed, AllocError>
+        requires made { net ≡ replay before.now events.now }
+        requires links { list_all is_of_links events.now ≡ true }
+        ensures { IfOk result (λ f. f ≡ net) }
+    {
+        net.validity();
+        let joints = Arc::try_clone(&before.joints)?;
+        let order = Arc::try_clone(&before.order)?;
+        let intact = before.intact_after(alloc, &net, events)?;
         Ok(Indexed {
             net,
             joints,

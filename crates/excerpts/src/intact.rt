@@ -9,24 +9,26 @@ use net_items::LinkSet;
 use point_codes::PointCode;
 use std::alloc::{AllocError, Global};
 use std::marker::Model;
+use std::sync::Arc;
 
 /// How many entries there are. Points have one entry together if their codes leave the same remainder.
 const ENTRY_COUNT: usize = 1024;
 
-/// The entries, each true if all sets at its points are available.
+/// The entries, each true if all sets at its points are available. Networks between which no set turned share them.
 #[derive(Drop)]
 pub struct IntactPoints {
-    entries: Vec<bool>,
+    entries: Arc<Vec<bool>>,
 }
 
 impl Model for IntactPoints {
     ghost use Rattle.std.specs.Prelude.{◌≡◌, List, Bool, length};
+    ghost use Rattle.std.specs.Arc.{arc_value};
 
     ghost Value = { List Bool };
 
-    ghost view = { λ i. i.entries.items };
+    ghost view = { λ i. (arc_value i.entries).items };
 
-    ghost invariant = { λ i. length i.entries.items ≡ 1024 };
+    ghost invariant = { λ i. length (arc_value i.entries).items ≡ 1024 };
 }
 
 /// Notes that a set at a point isn't available.
@@ -70,8 +72,18 @@ impl IntactPoints {
     pub fn of(alloc: Global, sets: &[LinkSet]) -> Result<IntactPoints, AllocError>
         ensures { IfOk result (λ intact. TellIntact sets.now intact) }
     {
+        let entries = entries_of(alloc, sets)?;
         Ok(IntactPoints {
-            entries: entries_of(alloc, sets)?,
+            entries: Arc::new(alloc, entries)?,
+        })
+    }
+
+    /// The same once more. It fails only if no further share can be counted.
+    pub fn share(&self) -> Result<IntactPoints, AllocError>
+        ensures { IfOk result (λ intact. intact ≡ self.now) }
+    {
+        Ok(IntactPoints {
+            entries: Arc::try_clone(&self.entries)?,
         })
     }
 

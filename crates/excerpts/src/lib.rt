@@ -7,10 +7,11 @@
 //! 3. The table of a destination reads the plan, the kinds of the row points, the mates of those whose row has the mate
 //!    flag, the transfer-restricted option, and every link set with an end that is a transfer point with a row, or
 //!    between a row's point and one of its vias (own).
-//! 4. An excerpt shares the network and the plan. Two excerpts are equal if their tables read the same.
+//! 4. An excerpt refers to the network and the plan where they stand; one that has to last shares them. Two excerpts are equal if their
+//!    tables read the same.
 //! 5. Two networks that agree on what a table reads give the same table.
 //! 6. Of two networks it tells between which points an available set is in one of them alone (own, after Q.704 clause 3.2).
-//! 7. It tells of most points all of whose sets are available that they are such (own).
+//! 7. It tells of points all of whose sets are available that they are such, where a small table shows it (own).
 //!
 //! Stands on `net_data`, `profile`. A change here also changes specs/ (Around, Excerpt, Index, Intact, Turned),
 //! proofs/, must-fail/ and wrong-bodies/.
@@ -27,6 +28,7 @@ pub mod laws;
 pub mod neighbours;
 mod positions;
 pub mod reading;
+pub mod shared;
 pub mod turned;
 
 pub use excerpt::Excerpt;
@@ -34,4 +36,5 @@ pub use faults::ExcerptFault;
 pub use frozen::Frozen;
 pub use laws::same_table_law;
 pub use neighbours::Neighbours;
+pub use shared::SharedExcerpt;
 pub use turned::{Ends, are_keeping};

@@ -243,35 +243,39 @@ fn are_links(events: &[Event]) -> bool
     events.iter().all(is_link)
 }
 
-/// Puts in the ends of the set of an id, in both orders, if it is available in one of two networks alone.
-fn put_named(list: &mut Vec<Pair>, net: &Frozen, before: &Frozen, id: u16) -> Result<(), AllocError>
+/// Puts in the ends of the set of an id, in both orders, if it is available in one of two lists alone.
+fn put_named(
+    list: &mut Vec<Pair>,
+    sets: &[LinkSet],
+    before: &[LinkSet],
+    id: u16,
+) -> Result<(), AllocError>
+    requires rising { IsRising (λ s. s.id) sets.now }
+    requires before { IsRising (λ s. s.id) before.now }
     ensures kept { OnOk result ((y z : ℕ) → has_pair list.old.items y z ≡ true → has_pair list.new.items y z ≡ true) }
-    ensures told { OnOk result (HasTold before.now.sets net.now.sets list.new.items id) }
+    ensures told { OnOk result (HasTold before.now sets.now list.new.items id) }
 {
-    net.validity();
-    before.validity();
-    match (
-        find_set(before.net().sets(), id),
-        find_set(net.net().sets(), id),
-    ) {
+    match (find_set(before, id), find_set(sets, id)) {
         (Some(set), Some(other)) => put_if_differs(list, set, other),
         _ => Ok(()),
     }
 }
 
-/// The ends of the sets that events of links are about, in both orders, if they are available in one of two networks alone.
-fn turned_among(
+/// The ends of the sets that events of links are about, in both orders, if they are available in one of two lists alone.
+pub(crate) fn turned_among(
     alloc: Global,
-    net: &Frozen,
-    before: &Frozen,
+    sets: &[LinkSet],
+    before: &[LinkSet],
     events: &[Event],
 ) -> Result<Vec<Pair>, AllocError>
-    ensures { IfOk result (λ list. (id : ℕ) → is_named events.now id ≡ true → HasTold before.now.sets net.now.sets list.items id) }
+    requires rising { IsRising (λ s. s.id) sets.now }
+    requires before { IsRising (λ s. s.id) before.now }
+    ensures { IfOk result (λ list. (id : ℕ) → is_named events.now id ≡ true → HasTold before.now sets.now list.items id) }
 {
     let mut list = Vec::new(alloc);
     for event in events {
         if let Some(id) = linked(event) {
-            put_named(&mut list, net, before, id)?;
+            put_named(&mut list, sets, before, id)?;
         }
     }
     Ok(list)
@@ -279,6 +283,13 @@ fn turned_among(
 
 /// How many events are looked at one by one at most. For more, it costs less to look at all sets.
 const NAMED_LIMIT: usize = 64;
+
+/// Whether events are few, and all about links, so that the sets that they are about are looked at one by one.
+pub(crate) fn are_few_links(events: &[Event]) -> bool
+    ensures { result ≡ true → list_all is_of_links events.now ≡ true }
+{
+    events.len() <= NAMED_LIMIT && are_links(events)
+}
 
 /// Pairs of points, in both orders, and among them all that an available set joins in one of two networks alone. It fails only
 /// if memory is refused.
@@ -293,8 +304,8 @@ fn turned_pairs(
 {
     net.validity();
     before.validity();
-    if events.len() <= NAMED_LIMIT && are_links(events) {
-        let list = turned_among(alloc, net, before, events)?;
+    if are_few_links(events) {
+        let list = turned_among(alloc, net.net().sets(), before.net().sets(), events)?;
         return Ok(list);
     }
     if let Some(list) = turned_in_place(alloc, net.net().sets(), before.net().sets())? {

@@ -108,7 +108,8 @@ fn is_each_link(alloc: Global) -> Option<bool> {
 /// Whether a point that lacks nothing is mended by no link.
 fn lacks_nothing(alloc: Global, version: &Version) -> Option<bool> {
     let (q, x) = (code("2-10-2")?, code("2-1-2")?);
-    let mend = find_mend(alloc, version.routing(x)?, Wanted::Allowed, q).ok()??;
+    let routing = version.routing(x)?;
+    let mend = find_mend(alloc, &routing, Wanted::Allowed, q).ok()??;
     Some(mend.as_slice().is_empty())
 }
 

@@ -4,7 +4,7 @@ use crate::desks::result_of;
 use crate::samples::{change, code, frozen, worked};
 use route_state::choices::Far;
 use route_state::codes::PointCode;
-use route_state::excerpt::{Excerpt, Frozen};
+use route_state::excerpt::{Excerpt, Frozen, SharedExcerpt};
 use route_state::jobs::{Job, Settled};
 use route_state::marks::LinkChange;
 use route_state::nets::{Event, Kind, Net};
@@ -23,12 +23,12 @@ fn is_read(excerpt: &Excerpt, net: &Net) -> Option<bool> {
 /// Whether an excerpt equals itself, shared once more.
 fn shares(excerpt: &Excerpt) -> Option<bool> {
     let same = excerpt.share().ok()?;
-    Some(excerpt.equals(&same))
+    Some(excerpt.equals(&same.excerpt()))
 }
 
 /// What the table of 2-1-2 reads of a network.
 fn asks_excerpt(net: &Frozen, x: PointCode) -> Option<bool> {
-    let excerpt = Excerpt::of(net, x).ok()?;
+    let excerpt = Excerpt::of(net, x)?;
     let read = is_read(&excerpt, net.net());
     let shared = shares(&excerpt);
     Some(read? && shared?)
@@ -50,10 +50,10 @@ fn net_after(alloc: Global, how: LinkChange) -> Option<Net> {
 }
 
 /// What the table of 2-1-2 reads of it.
-fn excerpt_after(alloc: Global, how: LinkChange) -> Option<Excerpt> {
+fn excerpt_after(alloc: Global, how: LinkChange) -> Option<SharedExcerpt> {
     let x = code("2-1-2")?;
     let net = Frozen::new(alloc, net_after(alloc, how)?).ok()?;
-    Excerpt::of(&net, x).ok()
+    SharedExcerpt::of(&net, x).ok()
 }
 
 /// In a table 2-10-2 leads restricted over its mate.
@@ -122,7 +122,7 @@ pub(crate) fn tables(alloc: Global) -> Option<bool> {
     let q = code("2-10-2")?;
     let before = excerpt_after(alloc, LinkChange::Restore)?;
     match excerpt_after(alloc, LinkChange::Fail) {
-        Some(after) => asks_table(alloc, &before, &after, q),
+        Some(after) => asks_table(alloc, &before.excerpt(), &after.excerpt(), q),
         None => None,
     }
 }

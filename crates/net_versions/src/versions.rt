@@ -1,13 +1,13 @@
 //! The version.
 
-ghost use Rattle.std.specs.Prelude.{◌≡◌, ◌<◌, [], IfOk, IfErr, length, map, slice_index_or};
-ghost use Rattle.std.specs.Option.{option_copied};
+ghost use Rattle.std.specs.Prelude.{◌≡◌, ◌<◌, true, false, [], IfOk, IfErr, length, map, slice_index_or};
+ghost use Rattle.std.specs.Arc.{arc_value};
 ghost use Rattle.net_items.specs.declared.items.Plan.{Plan};
 ghost use Rattle.net_items.specs.Keyed.{IsRising, IsFoundAt, IsGapAt};
-ghost use Rattle.excerpts.specs.Excerpt.{excerpt_in, table_at};
+ghost use Rattle.excerpts.specs.Excerpt.{content_at, excerpt_in, table_at};
 ghost use Rattle.excerpts.specs.Turned.{HasTurned};
-ghost use Rattle.transfer_state.specs.Routing.{settled_routing};
-ghost use Rattle.net_versions.specs.Versions.{IsSettledVersion, routing_at, settled_routings, settled_version};
+ghost use Rattle.transfer_state.specs.Routing.{settled_choices, settled_routing};
+ghost use Rattle.net_versions.specs.Versions.{AreKept, IsSettledVersion, all_choices, routing_at, settled_version};
 
 use excerpts::{Ends, Excerpt, Frozen};
 use net_data::{Event, Net};
@@ -15,7 +15,8 @@ use point_codes::PointCode;
 use profile::Table;
 use std::alloc::{AllocError, Global};
 use std::marker::Model;
-use transfer_state::Routing;
+use std::sync::Arc;
+use transfer_state::{Choices, Routing};
 
 /// A published version.
 #[derive(Drop)]
@@ -23,117 +24,143 @@ pub struct Version {
     number: u64,
     batch: Vec<Event>,
     net: Frozen,
-    routings: Vec<Routing>,
+    /// What is kept for each planned destination, in rising code. Versions between which no set turned share it as it is.
+    choices: Arc<Vec<Choices>>,
 }
 
 impl Model for Version {
-    ghost use Rattle.std.specs.Prelude.{◌≡◌, map};
-    ghost use Rattle.transfer_state.specs.Routing.{kept_table};
-    ghost use Rattle.net_versions.specs.Versions.{VersionValue, settled_routings};
+    ghost use Rattle.std.specs.Prelude.{◌≡◌};
+    ghost use Rattle.std.specs.Arc.{arc_value};
+    ghost use Rattle.net_versions.specs.Versions.{VersionValue, all_choices, kept_tables};
 
     ghost Value = { VersionValue };
 
-    ghost view = { λ v. record { number = v.number; batch = v.batch.items; network = v.net; tables = map kept_table v.routings.items } };
+    ghost view = { λ v. record { number = v.number; batch = v.batch.items; network = v.net; tables = kept_tables v.net v.net.plans (arc_value v.choices).items } };
 
-    ghost invariant = { λ v. v.routings.items ≡ settled_routings v.net };
+    ghost invariant = { λ v. (arc_value v.choices).items ≡ all_choices v.net };
 }
 
-/// The place of the routing towards a destination, or where it would go. It is looked for first in a place.
-fn position_of_routing(routings: &[Routing], first: usize, dest: PointCode) -> Result<usize, usize>
-    requires { IsRising (λ r. r.excerpt.plan.dest) routings.now }
-    ensures found { IfOk result (IsFoundAt (λ r. r.excerpt.plan.dest) dest routings.now) }
-    ensures absent { IfErr result (IsGapAt (λ r. r.excerpt.plan.dest) dest routings.now) }
+/// The place of what is kept for a destination, or where it would go. It is looked for first in a place.
+fn position_of_choices(choices: &[Choices], first: usize, dest: PointCode) -> Result<usize, usize>
+    requires { IsRising (λ c. c.dest) choices.now }
+    ensures found { IfOk result (IsFoundAt (λ c. c.dest) dest choices.now) }
+    ensures absent { IfErr result (IsGapAt (λ c. c.dest) dest choices.now) }
 {
-    if first < routings.len() && routings[first].dest() == dest {
+    if first < choices.len() && choices[first].dest() == dest {
         return Ok(first);
     }
-    routings.binary_search_by_key(&dest, |r| r.dest())
+    choices.binary_search_by_key(&dest, |c| c.dest())
 }
 
-/// The destinations of some routings.
-fn dests_of(alloc: Global, routings: &[Routing]) -> Result<Vec<PointCode>, AllocError>
-    ensures { IfOk result (λ dests. dests.items ≡ map (λ r. r.excerpt.plan.dest) routings.now) }
+/// The destinations for which something is kept.
+fn dests_of(alloc: Global, choices: &[Choices]) -> Result<Vec<PointCode>, AllocError>
+    ensures { IfOk result (λ dests. dests.items ≡ map (λ c. c.dest) choices.now) }
 {
-    let mut dests = Vec::with_capacity(alloc, routings.len())?;
-    for routing in routings {
-        dests.push(routing.dest())?;
+    let mut dests = Vec::with_capacity(alloc, choices.len())?;
+    for kept in choices {
+        dests.push(kept.dest())?;
     }
     Ok(dests)
 }
 
-/// The excerpt of the plan in a place of a network's plans.
-fn excerpt_in_place(net: &Frozen, position: usize) -> Result<Excerpt, AllocError>
-    requires { position < length net.now.plans }
-    ensures { IfOk result (λ x. (d : Plan) → x ≡ excerpt_in net.now (slice_index_or net.now.plans position d)) }
-{
-    net.validity();
-    let dest = net.net().plans().at(position).dest;
-    match Excerpt::of(net, dest) {
-        Ok(excerpt) => Ok(excerpt),
-        Err(_) => Err(AllocError),
-    }
-}
-
-/// The settled routing of the plan in a place of a network's plans.
-fn routing_in(alloc: Global, net: &Frozen, position: usize) -> Result<Routing, AllocError>
-    requires { position < length net.now.plans }
-    ensures { IfOk result (λ r. (d : Plan) → r ≡ settled_routing (excerpt_in net.now (slice_index_or net.now.plans position d))) }
-{
-    match Routing::of(alloc, excerpt_in_place(net, position)?) {
-        Ok(routing) => Ok(routing),
-        Err((_, refused)) => Err(refused),
-    }
-}
-
-/// The settled routing of each planned destination of a network, in rising code.
-fn all_routings(alloc: Global, net: &Frozen) -> Result<Vec<Routing>, AllocError>
-    ensures { IfOk result (λ v. v.items ≡ settled_routings net.now) }
+/// The choices towards each planned destination of a network, from scratch, in rising code.
+fn chosen(alloc: Global, net: &Frozen) -> Result<Vec<Choices>, AllocError>
+    ensures { IfOk result (λ v. v.items ≡ all_choices net.now) }
 {
     let plans = net.net().plans();
-    let mut routings = Vec::with_capacity(alloc, plans.len())?;
+    let mut list = Vec::with_capacity(alloc, plans.len())?;
     for position in 0..plans.len() {
-        routings.push(routing_in(alloc, net, position)?)?;
+        list.push(Choices::of(alloc, &Excerpt::in_place(net, position))?)?;
     }
-    Ok(routings)
+    Ok(list)
 }
 
-/// The settled routing of an excerpt, followed from that of the same destination in a version before, if it has one.
-fn follow_from(
-    alloc: Global,
-    excerpt: Excerpt,
-    before: &Version,
-    turned: &[Ends],
-) -> Result<Routing, AllocError>
-    requires { HasTurned before.now.network excerpt.network turned.now }
-    ensures { IfOk result (λ r. r ≡ settled_routing excerpt) }
-{
-    let followed = match before.routing(excerpt.dest()) {
-        Some(routing) => Routing::follow(alloc, excerpt, routing, turned),
-        None => Routing::of(alloc, excerpt),
-    };
-    match followed {
-        Ok(routing) => Ok(routing),
-        Err((_, refused)) => Err(refused),
-    }
-}
-
-/// The settled routing of each planned destination of a network, in rising code, followed from those of a version before.
-fn followed_routings(
+/// The choices of the plan in a place, followed from those in a version before.
+fn followed_in_place(
     alloc: Global,
     net: &Frozen,
     before: &Version,
     turned: &[Ends],
-) -> Result<Vec<Routing>, AllocError>
+    position: usize,
+) -> Result<Choices, AllocError>
+    requires turned { HasTurned before.now.network net.now turned.now }
+    requires position { position < length net.now.plans }
+    ensures { IfOk result (λ c. (d : Plan) → c ≡ settled_choices (excerpt_in net.now (slice_index_or net.now.plans position d))) }
+{
+    let routing = before.routing_in_place(position);
+    routing.follow(alloc, &Excerpt::in_place(net, position), turned)
+}
+
+/// The choices towards each planned destination of a network, in rising code, each followed from those in a version before.
+fn each_followed(
+    alloc: Global,
+    net: &Frozen,
+    before: &Version,
+    turned: &[Ends],
+) -> Result<Vec<Choices>, AllocError>
     requires { HasTurned before.now.network net.now turned.now }
-    ensures { IfOk result (λ v. v.items ≡ settled_routings net.now) }
+    ensures { IfOk result (λ v. v.items ≡ all_choices net.now) }
 {
     let plans = net.net().plans();
-    let mut routings = Vec::with_capacity(alloc, before.read_ahead().max(plans.len()))?;
+    let mut list = Vec::with_capacity(alloc, before.read_ahead().max(plans.len()))?;
     for position in 0..plans.len() {
-        let excerpt = excerpt_in_place(net, position)?;
-        routings.push(follow_from(alloc, excerpt, before, turned)?)?;
+        list.push(followed_in_place(alloc, net, before, turned, position)?)?;
     }
-    Ok(routings)
+    Ok(list)
+}
+
+/// The choices of the plan in a place, from scratch if its destination was touched since a version before, and else its, shared.
+fn renewed_in_place(
+    alloc: Global,
+    net: &Frozen,
+    before: &Version,
+    touched: bool,
+    position: usize,
+) -> Result<Choices, AllocError>
+    requires position { position < length net.now.plans }
+    requires kept { touched ≡ false → (d : Plan) → content_at net.now (slice_index_or net.now.plans position d).dest ≡ content_at before.now.network (slice_index_or net.now.plans position d).dest }
+    ensures { IfOk result (λ c. (d : Plan) → c ≡ settled_choices (excerpt_in net.now (slice_index_or net.now.plans position d))) }
+{
+    let excerpt = Excerpt::in_place(net, position);
+    if touched {
+        return Choices::of(alloc, &excerpt);
+    }
+    excerpt.validity();
+    match before.routing(excerpt.dest()) {
+        Some(routing) => {
+            routing.excerpt().validity();
+            routing.share_choices()
+        }
+        None => Choices::of(alloc, &excerpt),
+    }
+}
+
+/// Whether the plan in a place was touched.
+fn is_touched(touched: &[bool], position: usize) -> bool
+    requires { position < length touched.now }
+    ensures { result ≡ slice_index_or touched.now position true }
+{
+    touched[position]
+}
+
+/// The choices towards each planned destination of a network, in rising code, those towards touched ones from scratch.
+fn each_renewed(
+    alloc: Global,
+    net: &Frozen,
+    before: &Version,
+    touched: &[bool],
+) -> Result<Vec<Choices>, AllocError>
+    requires together { length touched.now ≡ length net.now.plans }
+    requires kept { AreKept net.now before.now.network touched.now }
+    ensures { IfOk result (λ v. v.items ≡ all_choices net.now) }
+{
+    let plans = net.net().plans();
+    let mut list = Vec::with_capacity(alloc, before.read_ahead().max(plans.len()))?;
+    for position in 0..plans.len() {
+        let touched = is_touched(touched, position);
+        list.push(renewed_in_place(alloc, net, before, touched, position)?)?;
+    }
+    Ok(list)
 }
 
 impl Version {
@@ -142,31 +169,45 @@ impl Version {
         ensures { IfOk result (λ v. v ≡ settled_version 0 [] net) }
     {
         let net = Frozen::new(alloc, net)?;
-        let routings = all_routings(alloc, &net)?;
-        Ok(Version {
-            number: 0,
-            batch: Vec::new(alloc),
-            net,
-            routings,
-        })
+        let choices = Arc::new(alloc, chosen(alloc, &net)?)?;
+        Ok(Version::new(0, Vec::new(alloc), net, choices))
     }
 
-    /// The version of that number, with the events since the one before, the network, and the settled routing of each
-    /// planned destination.
-    pub fn new(number: u64, batch: Vec<Event>, net: Frozen, routings: Vec<Routing>) -> Version
-        requires { routings.items ≡ settled_routings net }
+    /// The version of that number, with the events since the one before, the network, and the choices towards each planned
+    /// destination.
+    pub fn new(number: u64, batch: Vec<Event>, net: Frozen, choices: Arc<Vec<Choices>>) -> Version
+        requires { (arc_value choices).items ≡ all_choices net }
         ensures { result ≡ settled_version number batch.items net }
     {
+        net.validity();
         Version {
             number,
             batch,
             net,
-            routings,
+            choices,
         }
     }
 
+    /// The choices towards each planned destination of a network, followed from those of this version: these, shared, if no set turned.
+    fn followed_choices(
+        &self,
+        alloc: Global,
+        net: &Frozen,
+        turned: &[Ends],
+    ) -> Result<Arc<Vec<Choices>>, AllocError>
+        requires { HasTurned self.now.network net.now turned.now }
+        ensures { IfOk result (λ v. (arc_value v).items ≡ all_choices net.now) }
+    {
+        if turned.is_empty() {
+            self.net.validity();
+            net.validity();
+            return Arc::try_clone(&self.choices);
+        }
+        Ok(Arc::new(alloc, each_followed(alloc, net, self, turned)?)?)
+    }
+
     /// The version of that number, with the events since the one before, and a network that differs from that one's in sets alone: the
-    /// routings are followed from those of the version before. `turned` has the ends of each set that became available since, or is so
+    /// choices are followed from those of the version before. `turned` has the ends of each set that became available since, or is so
     /// no longer.
     pub fn followed(
         alloc: Global,
@@ -179,8 +220,26 @@ impl Version {
         requires { HasTurned before.now.network net turned.now }
         ensures { IfOk result (λ v. v ≡ settled_version number batch.items net) }
     {
-        let routings = followed_routings(alloc, &net, before, turned)?;
-        Ok(Version::new(number, batch, net, routings))
+        let choices = before.followed_choices(alloc, &net, turned)?;
+        Ok(Version::new(number, batch, net, choices))
+    }
+
+    /// The version of that number, with the events since the one before, and a network in which the tables of plans read the same as in
+    /// that one's, but for those that are told to be touched, in their places: these are settled from scratch.
+    pub fn renewed(
+        alloc: Global,
+        number: u64,
+        batch: Vec<Event>,
+        net: Frozen,
+        before: &Version,
+        touched: &[bool],
+    ) -> Result<Version, AllocError>
+        requires together { length touched.now ≡ length net.plans }
+        requires kept { AreKept net before.now.network touched.now }
+        ensures { IfOk result (λ v. v ≡ settled_version number batch.items net) }
+    {
+        let choices = Arc::new(alloc, each_renewed(alloc, &net, before, touched)?)?;
+        Ok(Version::new(number, batch, net, choices))
     }
 
     /// Its number.
@@ -210,41 +269,46 @@ impl Version {
         ensures { IsSettledVersion self.now }
     {
         // The proof reads the type's invariant from this.
-        let _number = self.number;
+        self.net.validity();
     }
 
-    /// The settled routing of each planned destination, in rising code.
-    pub fn routings(&self) -> &[Routing]
-        ensures { result.now ≡ settled_routings self.now.network }
-    {
-        self.routings.as_slice()
-    }
-
-    /// Reads ahead the counts of the shares of its routings: how many of these have a row. Nothing rests on what this tells; but who
-    /// shares them then has the counts come from memory at once, and not one after the other.
+    /// Reads ahead the counts of the shares of what is kept for each destination: for how many of these a row is kept. Nothing rests on
+    /// what this tells; but who shares it then has the counts come from memory at once, and not one after the other.
     pub fn read_ahead(&self) -> usize {
         let mut count = 0usize;
-        for routing in self.routings.iter() {
-            count = count.saturating_add(usize::from(routing.row_count() > 0));
+        for choices in self.choices.iter() {
+            count = count.saturating_add(usize::from(choices.row_count() > 0));
         }
         count
     }
 
-    /// The destinations of which it keeps a routing, in rising code.
+    /// The destinations for which it keeps something, in rising code.
     pub fn dests(&self, alloc: Global) -> Result<Vec<PointCode>, AllocError>
         ensures { IfOk result (λ dests. dests.items ≡ map (λ t. t.dest) self.now.tables) }
     {
-        dests_of(alloc, self.routings.as_slice())
+        self.net.validity();
+        dests_of(alloc, self.choices.as_slice())
+    }
+
+    /// The settled routing of the plan in a place of its network's plans.
+    pub fn routing_in_place(&self, position: usize) -> Routing<'_>
+        requires { position < length self.now.network.plans }
+        ensures { (d : Plan) → result ≡ settled_routing (excerpt_in self.entry.now.network (slice_index_or self.entry.now.network.plans position d)) }
+    {
+        Routing::by(
+            Excerpt::in_place(&self.net, position),
+            &self.choices[position],
+        )
     }
 
     /// The settled routing towards a destination, if it is planned.
-    pub fn routing(&self, dest: PointCode) -> Option<&Routing>
-        ensures { option_copied result ≡ routing_at self.now.network dest }
+    pub fn routing(&self, dest: PointCode) -> Option<Routing<'_>>
+        ensures { result ≡ routing_at self.entry.now.network dest }
     {
         self.net.validity();
-        let first = self.net.expected(self.routings.len(), dest);
-        match position_of_routing(self.routings.as_slice(), first, dest) {
-            Ok(at) => Some(&self.routings[at]),
+        let first = self.net.expected(self.choices.len(), dest);
+        match position_of_choices(self.choices.as_slice(), first, dest) {
+            Ok(at) => Some(self.routing_in_place(at)),
             Err(_) => None,
         }
     }

@@ -86,5 +86,5 @@ pub fn trace(
     };
     // The proof of the law reads what every excerpt keeps from this.
     routing.excerpt().validity();
-    trace_by(alloc, routing, point, s)
+    trace_by(alloc, &routing, point, s)
 }

@@ -7,19 +7,19 @@ ghost use Rattle.pictures.specs.Shown.{colour_of as the_colour, colour_towards, 
 use crate::faults::PictureFault;
 use crate::shares::share_over;
 use crate::styles::{Colour, colour_of};
-use excerpts::{Excerpt, ExcerptFault, Frozen};
+use excerpts::{ExcerptFault, Frozen, SharedExcerpt};
 use point_codes::PointCode;
 use std::alloc::Global;
 use std::marker::Model;
-use transfer_state::{Routing, is_member};
+use transfer_state::{Routing, SharedRouting, is_member};
 
 /// The excerpt of a destination, with the faults of a picture.
-fn excerpt_of(net: &Frozen, dest: PointCode) -> Result<Excerpt, PictureFault>
+fn excerpt_of(net: &Frozen, dest: PointCode) -> Result<SharedExcerpt, PictureFault>
     ensures ok { IfOk result (λ e. excerpt_at net.now dest ≡ Some e) }
     ensures err { IfErr result (λ fault. fault ≡ picture_fault net.now (Some dest)) }
     ensures there { IfOk result (λ e. lacks_plan net.now (Some dest) ≡ false) }
 {
-    match Excerpt::of(net, dest) {
+    match SharedExcerpt::of(net, dest) {
         Ok(excerpt) => Ok(excerpt),
         Err(ExcerptFault::NoPlan) => Err(PictureFault::NoPlan),
         Err(ExcerptFault::OutOfMemory) => Err(PictureFault::OutOfMemory),
@@ -30,7 +30,7 @@ fn excerpt_of(net: &Frozen, dest: PointCode) -> Result<Excerpt, PictureFault>
 /// excerpt.
 #[derive(Drop)]
 pub(crate) struct Shown {
-    routing: Option<Routing>,
+    routing: Option<SharedRouting>,
 }
 
 impl Model for Shown {
@@ -58,7 +58,7 @@ impl Shown {
             return Ok(Shown { routing: None });
         };
         let excerpt = excerpt_of(net, dest)?;
-        match Routing::of(alloc, excerpt) {
+        match SharedRouting::of(alloc, excerpt) {
             Ok(routing) => Ok(Shown {
                 routing: Some(routing),
             }),
@@ -78,7 +78,7 @@ impl Shown {
         ensures { result ≡ the_colour self.now point }
     {
         match &self.routing {
-            Some(routing) => colour_by(routing, point),
+            Some(routing) => colour_by(&routing.routing(), point),
             None => Colour::White,
         }
     }
@@ -98,7 +98,7 @@ impl Shown {
         ensures { result ≡ share_of self.now point other }
     {
         match &self.routing {
-            Some(routing) => share_by(routing, point, other),
+            Some(routing) => share_by(&routing.routing(), point, other),
             None => None,
         }
     }

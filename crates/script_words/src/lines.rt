@@ -96,48 +96,16 @@ fn read_post(alloc: Global, words: &[&[u8]]) -> Result<Option<Command>, AllocErr
     }
 }
 
-/// The command of a first word that neither an event nor a file follows, and the words after it.
-fn read_plain(word: CommandWord, rest: &[&[u8]]) -> Option<Command>
-    requires events { (word ≢ CommandWord.WhatIf) × (word ≢ CommandWord.Reroutes) × (word ≢ CommandWord.Survey) × (word ≢ CommandWord.Post) }
-    requires files { (word ≢ CommandWord.Picture) × (word ≢ CommandWord.Save) }
-    ensures value { result ≡ command_by word (map (λ w. w.now) rest.now) }
-    ensures within { IfSome result IsWithin }
-{
-    match word {
-        CommandWord::Status => read_about(Question::Status, rest),
-        CommandWord::Sls => read_about(Question::Links, rest),
-        CommandWord::Messages => read_about(Question::Messages, rest),
-        CommandWord::Octets => read_octets(rest),
-        CommandWord::Why => read_about(Question::Why, rest),
-        CommandWord::Mend => read_either(Question::Mend, Question::MendAllowed, rest),
-        CommandWord::Remedy => read_either(Question::Remedy, Question::RemedyAllowed, rest),
-        CommandWord::Trace => read_trace(rest),
-        CommandWord::Show => read_show(rest).map(Command::Show),
-        CommandWord::Statuses => read_statuses(rest).map(Command::Show),
-        CommandWord::Sync => only(Command::Sync, rest),
-        CommandWord::Open => only(Command::Open, rest),
-        CommandWord::Take => read_only_slot(rest).map(Command::Take),
-        CommandWord::Give => read_only_slot(rest).map(Command::Give),
-        CommandWord::Abandon => read_only_slot(rest).map(Command::Abandon),
-        CommandWord::Publish => only(Command::Publish, rest),
-        CommandWord::Version => only(Command::Version, rest),
-        CommandWord::Last => read_only_collector(rest).map(Command::Last),
-        CommandWord::Who => only(Command::Who, rest),
-        CommandWord::Warn => only(Command::Warn, rest),
-        CommandWord::Audit => only(Command::Audit, rest),
-        CommandWord::Changes => read_changes(rest),
-        CommandWord::Watch => read_switch(rest).map(Command::Watch),
-        CommandWord::WhatIf
-        | CommandWord::Reroutes
-        | CommandWord::Survey
-        | CommandWord::Post
-        | CommandWord::Picture
-        | CommandWord::Save => unreachable!(),
-    }
-}
-
-/// The command of a first word and the words after it.
-fn read_by(alloc: Global, word: CommandWord, rest: &[&[u8]]) -> Result<Option<Command>, AllocError>
+/// The command of a first word that asks nothing about the row of a point, and the words after it. It stands apart, so that
+/// questions, which are many, don't make room for what only others need.
+#[inline(never)]
+fn read_besides(
+    alloc: Global,
+    word: CommandWord,
+    rest: &[&[u8]],
+) -> Result<Option<Command>, AllocError>
+    requires rows { (word ≢ CommandWord.Status) × (word ≢ CommandWord.Sls) × (word ≢ CommandWord.Messages) × (word ≢ CommandWord.Octets) }
+    requires ways { (word ≢ CommandWord.Why) × (word ≢ CommandWord.Mend) × (word ≢ CommandWord.Remedy) × (word ≢ CommandWord.Trace) }
     ensures value { IfOk result (λ command. command ≡ command_by word (map (λ w. w.now) rest.now)) }
     ensures within { IfOk result (λ command. IfSome command IsWithin) }
 {
@@ -148,7 +116,40 @@ fn read_by(alloc: Global, word: CommandWord, rest: &[&[u8]]) -> Result<Option<Co
         CommandWord::Post => read_post(alloc, rest),
         CommandWord::Picture => read_picture(alloc, rest),
         CommandWord::Save => read_save(alloc, rest),
-        _ => Ok(read_plain(word, rest)),
+        CommandWord::Show => Ok(read_show(rest).map(Command::Show)),
+        CommandWord::Statuses => Ok(read_statuses(rest).map(Command::Show)),
+        CommandWord::Sync => Ok(only(Command::Sync, rest)),
+        CommandWord::Open => Ok(only(Command::Open, rest)),
+        CommandWord::Take => Ok(read_only_slot(rest).map(Command::Take)),
+        CommandWord::Give => Ok(read_only_slot(rest).map(Command::Give)),
+        CommandWord::Abandon => Ok(read_only_slot(rest).map(Command::Abandon)),
+        CommandWord::Publish => Ok(only(Command::Publish, rest)),
+        CommandWord::Version => Ok(only(Command::Version, rest)),
+        CommandWord::Last => Ok(read_only_collector(rest).map(Command::Last)),
+        CommandWord::Who => Ok(only(Command::Who, rest)),
+        CommandWord::Warn => Ok(only(Command::Warn, rest)),
+        CommandWord::Audit => Ok(only(Command::Audit, rest)),
+        CommandWord::Changes => Ok(read_changes(rest)),
+        CommandWord::Watch => Ok(read_switch(rest).map(Command::Watch)),
+        _ => unreachable!(),
+    }
+}
+
+/// The command of a first word and the words after it.
+fn read_by(alloc: Global, word: CommandWord, rest: &[&[u8]]) -> Result<Option<Command>, AllocError>
+    ensures value { IfOk result (λ command. command ≡ command_by word (map (λ w. w.now) rest.now)) }
+    ensures within { IfOk result (λ command. IfSome command IsWithin) }
+{
+    match word {
+        CommandWord::Status => Ok(read_about(Question::Status, rest)),
+        CommandWord::Sls => Ok(read_about(Question::Links, rest)),
+        CommandWord::Messages => Ok(read_about(Question::Messages, rest)),
+        CommandWord::Octets => Ok(read_octets(rest)),
+        CommandWord::Why => Ok(read_about(Question::Why, rest)),
+        CommandWord::Mend => Ok(read_either(Question::Mend, Question::MendAllowed, rest)),
+        CommandWord::Remedy => Ok(read_either(Question::Remedy, Question::RemedyAllowed, rest)),
+        CommandWord::Trace => Ok(read_trace(rest)),
+        _ => read_besides(alloc, word, rest),
     }
 }
 

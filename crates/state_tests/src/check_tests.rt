@@ -23,7 +23,8 @@ fn expect_complaint(rt: &impl Abort, said: Said, text: &str, clause: Clause) {
 
 /// What the check says of a table between two ends.
 fn said_of(rt: &impl Abort, alloc: Global, table: &Table) -> Said {
-    check(&two_ends_excerpt(rt, alloc), table)
+    let excerpt = two_ends_excerpt(rt, alloc);
+    check(&excerpt.excerpt(), table)
 }
 
 #[test]
@@ -100,13 +101,15 @@ const RESTORE_6_0: Edit = (6, 0, LinkChange::Restore);
 
 /// The table of 2-1-2 in the worked network after those edits.
 fn table_after(rt: &impl Abort, alloc: Global, edits: &[Edit]) -> Table {
-    new_table(rt, alloc, &worked_excerpt(rt, alloc, edits))
+    let excerpt = worked_excerpt(rt, alloc, edits);
+    new_table(rt, alloc, &excerpt.excerpt())
 }
 
 /// What the check says of the table after some edits, on the excerpt after others.
 fn check_after(rt: &impl Abort, alloc: Global, made: &[Edit], read: &[Edit]) -> Said {
     let table = table_after(rt, alloc, made);
-    check(&worked_excerpt(rt, alloc, read), &table)
+    let excerpt = worked_excerpt(rt, alloc, read);
+    check(&excerpt.excerpt(), &table)
 }
 
 #[test]
@@ -213,14 +216,15 @@ fn round_table(rt: &impl Abort, alloc: Global) -> Table {
 fn mates_do_not_use_each_other(rt: HostRuntime) {
     let table = round_table(&rt, rt.alloc());
     let excerpt = worked_excerpt(&rt, rt.alloc(), &[FAIL_3_0, FAIL_3_1, FAIL_4_0]);
-    expect_complaint(&rt, check(&excerpt, &table), "2-10-1", Clause::Route);
+    expect_complaint(&rt, check(&excerpt.excerpt(), &table), "2-10-1", Clause::Route);
 }
 
 /// What the check says of a table of some rows of the worked network, and of another destination.
 fn check_with(rt: &impl Abort, alloc: Global, count: usize, dest: &str) -> Said {
     let dest = point(rt, dest);
     let rows = first_rows(rt, alloc, &table_after(rt, alloc, &[]), count);
-    check(&worked_excerpt(rt, alloc, &[]), &Table { dest, rows })
+    let excerpt = worked_excerpt(rt, alloc, &[]);
+    check(&excerpt.excerpt(), &Table { dest, rows })
 }
 
 #[test]

@@ -1,7 +1,7 @@
 //! Which sets the table of an excerpt reads, and of which networks it reads the same.
 
 use crate::samples::{Edit, event_of, excerpt_of, frozen, point, worked_after, worked_excerpt};
-use excerpts::{Excerpt, ExcerptFault, Frozen};
+use excerpts::{Excerpt, ExcerptFault, Frozen, SharedExcerpt};
 use link_state::LinkChange;
 use std::alloc::Global;
 use std::process::Abort;
@@ -16,7 +16,8 @@ fn worked_with_plan(rt: &impl Abort, alloc: Global) -> Frozen {
 
 /// The ids of the sets that the table of a destination of a network reads.
 fn ids_read(rt: &impl Abort, alloc: Global, net: &Frozen, dest: &str) -> Vec<u16> {
-    let excerpt = excerpt_of(rt, net, dest);
+    let shared = excerpt_of(rt, net, dest);
+    let excerpt = shared.excerpt();
     let mut ids = Vec::new(alloc);
     for set in net.net().sets() {
         if excerpt.reads(set) {
@@ -45,13 +46,14 @@ const FAIL_4_0: Edit = (4, 0, LinkChange::Fail);
 fn is_of_after(rt: &impl Abort, alloc: Global, edits: &[Edit], dest: &str) -> bool {
     let excerpt = worked_excerpt(rt, alloc, &[]);
     let net = worked_after(rt, alloc, edits);
-    excerpt.is_of(&net, point(rt, dest))
+    excerpt.excerpt().is_of(&net, point(rt, dest))
 }
 
 /// Whether the excerpt of 2-1-2 of the worked network equals the one after some edits.
 fn equals_after(rt: &impl Abort, alloc: Global, edits: &[Edit]) -> bool {
-    let excerpt = worked_excerpt(rt, alloc, &[]);
-    excerpt.equals(&worked_excerpt(rt, alloc, edits))
+    let before = worked_excerpt(rt, alloc, &[]);
+    let after = worked_excerpt(rt, alloc, edits);
+    before.excerpt().equals(&after.excerpt())
 }
 
 #[test]
@@ -70,8 +72,9 @@ fn an_excerpt_is_of_one_destination(rt: HostRuntime) {
 #[test]
 fn an_excerpt_wants_a_plan(rt: HostRuntime) {
     let net = frozen(&rt, rt.alloc(), worked_after(&rt, rt.alloc(), &[]));
-    let none = Excerpt::of(&net, point(&rt, "2-1-1"));
-    assert_eq!(rt; none.err(), Some(ExcerptFault::NoPlan));
+    let dest = point(&rt, "2-1-1");
+    assert!(rt; Excerpt::of(&net, dest).is_none());
+    assert_eq!(rt; SharedExcerpt::of(&net, dest).err(), Some(ExcerptFault::NoPlan));
 }
 
 /// An excerpt tells the kinds of the points of a network.
@@ -85,6 +88,7 @@ fn expect_kinds(rt: &impl Abort, excerpt: &Excerpt, net: &Frozen) {
 fn an_excerpt_tells_the_kinds_of_points(rt: HostRuntime) {
     let net = frozen(&rt, rt.alloc(), worked_after(&rt, rt.alloc(), &[]));
     let excerpt = excerpt_of(&rt, &net, "2-1-2");
+    let excerpt = excerpt.excerpt();
     expect_kinds(&rt, &excerpt, &net);
     assert!(rt; excerpt.kind_of(point(&rt, "7-7-7")).is_none());
 }

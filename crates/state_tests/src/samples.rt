@@ -1,7 +1,7 @@
 //! What the tests start from: networks after changes of links, and excerpts and tables of them.
 
 use desk_core::Desk;
-use excerpts::{Excerpt, Frozen};
+use excerpts::{Excerpt, Frozen, SharedExcerpt};
 use link_state::LinkChange;
 use net_data::{Event, Net};
 use point_codes::PointCode;
@@ -42,18 +42,18 @@ pub(crate) fn frozen(rt: &impl Abort, alloc: Global, net: Net) -> Frozen {
 }
 
 /// What the table of a destination reads of a network.
-pub(crate) fn excerpt_of(rt: &impl Abort, net: &Frozen, dest: &str) -> Excerpt {
-    Excerpt::of(net, point(rt, dest)).expect(rt, "a plan")
+pub(crate) fn excerpt_of(rt: &impl Abort, net: &Frozen, dest: &str) -> SharedExcerpt {
+    SharedExcerpt::of(net, point(rt, dest)).expect(rt, "a plan")
 }
 
 /// What the table of 2-1-2 reads of the worked network after some changes of links.
-pub(crate) fn worked_excerpt(rt: &impl Abort, alloc: Global, edits: &[Edit]) -> Excerpt {
+pub(crate) fn worked_excerpt(rt: &impl Abort, alloc: Global, edits: &[Edit]) -> SharedExcerpt {
     let net = frozen(rt, alloc, worked_after(rt, alloc, edits));
     excerpt_of(rt, &net, "2-1-2")
 }
 
 /// What the table of 2-1-2 reads between two ends.
-pub(crate) fn two_ends_excerpt(rt: &impl Abort, alloc: Global) -> Excerpt {
+pub(crate) fn two_ends_excerpt(rt: &impl Abort, alloc: Global) -> SharedExcerpt {
     let net = frozen(rt, alloc, two_ends_net(rt, alloc));
     excerpt_of(rt, &net, "2-1-2")
 }
@@ -65,7 +65,8 @@ pub(crate) fn new_table(rt: &impl Abort, alloc: Global, excerpt: &Excerpt) -> Ta
 
 /// The table of 2-1-2 between two ends.
 pub(crate) fn two_ends_table(rt: &impl Abort, alloc: Global) -> Table {
-    new_table(rt, alloc, &two_ends_excerpt(rt, alloc))
+    let excerpt = two_ends_excerpt(rt, alloc);
+    new_table(rt, alloc, &excerpt.excerpt())
 }
 
 /// The event that a line of words says.

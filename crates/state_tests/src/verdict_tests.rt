@@ -92,7 +92,7 @@ fn kept_of(rt: &impl Abort, alloc: Global, table: &Table) -> Vec<Kept> {
 fn expect_kept(rt: &impl Abort, alloc: Global, table: &Table, said: Result<(), Complaint>) {
     let kept = kept_of(rt, alloc, table);
     let excerpt = two_ends_excerpt(rt, alloc);
-    assert_eq!(rt; check_kept(&excerpt, kept.as_slice()), said);
+    assert_eq!(rt; check_kept(&excerpt.excerpt(), kept.as_slice()), said);
 }
 
 /// A complaint about a point.

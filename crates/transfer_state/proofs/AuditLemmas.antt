@@ -79,11 +79,13 @@ module _ (src : Source) (ks : List KeptValue) where
   no_complaint (Ok u) settled wrong = refl
   no_complaint (Err e) settled wrong = absurd (wrong settled)
 
--- what is kept of the choices from scratch is the settled table
+-- what is kept of the choices from scratch makes the table from scratch
+pub chosen_scratch : (x : ExcerptValue) → IsRight x → (ks : List KeptValue) → IsChosen x ks → kept_table (source_of x) ks ≡ scratch (source_of x)
+chosen_scratch x right ks is = table_settled (source_of x) (opened_rows (source_of x) x.plan.rows ks) (opened_chosen x right ks is)
+
+-- and that is settled
 pub chosen_settled : (x : ExcerptValue) → IsRight x → (ks : List KeptValue) → IsChosen x ks → IsSettledKept (source_of x) ks
-chosen_settled x right ks is =
-    let scratched : kept_table (source_of x) ks ≡ scratch (source_of x) = table_settled (source_of x) (opened_rows (source_of x) x.plan.rows ks) (opened_chosen x right ks is) in
-    record {
-      together = ap (length {A = KeptValue}) is ∙ length-map x.plan.rows (λ (row : Row). kept (choice (source_of x) row));
-      settled = subst (IsSettledTable (source_of x)) (sym scratched) (scratch_table (source_of x) right.valid);
-    }
+chosen_settled x right ks is = record {
+  together = ap (length {A = KeptValue}) is ∙ length-map x.plan.rows (λ (row : Row). kept (choice (source_of x) row));
+  settled = subst (IsSettledTable (source_of x)) (sym (chosen_scratch x right ks is)) (scratch_table (source_of x) right.valid);
+}

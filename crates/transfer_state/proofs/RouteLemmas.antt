@@ -15,11 +15,11 @@ use Rattle.profile.specs.declared.hops.Hop.{Hop}
 use Rattle.profile.specs.Traces.{hop_of}
 use Rattle.profile.specs.Whole.{state_of, carrier, link_of}
 use Rattle.profile.proofs.CertificateLemmas.{find-map}
-use Rattle.excerpts.specs.Excerpt.{ExcerptValue, source_of, content_of, IsRight}
+use Rattle.excerpts.specs.Excerpt.{Content, ExcerptValue, source_of, content_of, IsRight}
 use Rattle.excerpts.proofs.ExcerptLemmas.{table_equal}
 use Rattle.excerpts.proofs.SourceLemmas.{row_point_is}
 use Rattle.transfer_state.specs.Kept.{KeptValue, kept, opened, opened_rows, kept_statuses}
-use Rattle.transfer_state.specs.Routing.{state_at, hop_by, statuses_of, IsChosen, IsFoundRow}
+use Rattle.transfer_state.specs.Routing.{state_at, hop_by, settled_choices, statuses_of, IsChosen, IsFoundRow}
 use Rattle.transfer_state.specs.Told.{AreChoices}
 use Rattle.transfer_state.proofs.KeptLemmas.{opened_back}
 use Rattle.transfer_state.proofs.MatchLemmas.{map_by_places, map_at}
@@ -54,6 +54,12 @@ chosen_same x y one other same choices is =
     is ∙ sym (choices_in (source_of x) x.plan.rows)
     ∙ ap (λ (t : Table). map (λ (s : RowState). kept s.choice) t.rows) (table_equal x y one other (sym same))
     ∙ choices_in (source_of y) y.plan.rows
+
+pub settled_same : (x y : ExcerptValue) → IsRight x → IsRight y → content_of y ≡ content_of x → settled_choices x ≡ settled_choices y
+settled_same x y one other same =
+    let dest : x.plan.dest ≡ y.plan.dest = ap (λ (c : Content). c.plan.dest) (sym same) in
+    ap (λ n. record { dest = n; kept = (settled_choices x).kept }) dest
+    ∙ ap (λ (ks : List KeptValue). record { dest = y.plan.dest; kept = ks }) (chosen_same x y one other same (settled_choices x).kept refl)
 
 -- the row of a point is found with what is kept of its choice in its place
 pub found_row : (x : ExcerptValue) → IsRight x → (choices : List KeptValue) → IsChosen x choices → (y i : ℕ) (row : Row) (k : KeptValue) (c : Choice) → row_at x.plan.rows y ≡ Some row → slice_get x.plan.rows i ≡ Some row → slice_get choices i ≡ Some k → c ≡ opened (source_of x) row k → IsFoundRow x y row c

@@ -14,7 +14,7 @@ use Rattle.profile.specs.Valid.{IsSmall}
 use Rattle.profile.specs.Status.{Source, source_row, offers, choice, status}
 use Rattle.profile.specs.Whole.{scratch, carrier, link_of, state_of}
 use Rattle.excerpts.specs.Excerpt.{ExcerptValue, source_of}
-use Rattle.transfer_state.specs.Kept.{KeptValue, kept}
+use Rattle.transfer_state.specs.Kept.{KeptValue, kept, opened_rows}
 use Rattle.transfer_state.specs.Promises.{state_in}
 
 -- what the settled table of an excerpt, from scratch, has for a point
@@ -34,6 +34,15 @@ hop_by src row c s =
 abbrev pub IsChosen : ExcerptValue → List KeptValue → Type 0
 IsChosen x choices = choices ≡ map (λ row. kept (choice (source_of x) row)) x.plan.rows
 
+-- the destination of a plan, and what is kept of the choices of its rows, in their places
+pub record ChoicesValue : Type 0 where
+  pub dest : ℕ
+  pub kept : List KeptValue
+
+-- those of an excerpt, from scratch
+abbrev pub settled_choices : ExcerptValue → ChoicesValue
+settled_choices x = record { dest = x.plan.dest; kept = map (λ row. kept (choice (source_of x) row)) x.plan.rows }
+
 -- the statuses of choices, in their places
 abbrev pub statuses_of : List Choice → List Far
 statuses_of choices = map (λ (c : Choice). c.status) choices
@@ -42,6 +51,10 @@ statuses_of choices = map (λ (c : Choice). c.status) choices
 pub record RoutingValue : Type 0 where
   pub excerpt : ExcerptValue
   pub choices : List Choice
+
+-- the routing of an excerpt by what is kept of its choices
+abbrev pub routing_by : ExcerptValue → ChoicesValue → RoutingValue
+routing_by x choices = record { excerpt = x; choices = opened_rows (source_of x) x.plan.rows choices.kept }
 
 -- the routing of an excerpt, from scratch
 abbrev pub settled_routing : ExcerptValue → RoutingValue
@@ -75,7 +88,7 @@ kept_table r = record { dest = r.excerpt.plan.dest; rows = choice_rows r.excerpt
 abbrev pub choices_of : Table → ChoiceTable
 choices_of table = record { dest = table.dest; rows = map (λ (s : RowState). record { point = s.point; choice = s.choice }) table.rows }
 
--- a place for the routing of an excerpt, and whether that has come
+-- a place for the choices of an excerpt, and whether these have come
 pub record RoutingSlotValue : Type 0 where
   pub excerpt : ExcerptValue
   pub settled : Bool

@@ -26,7 +26,7 @@ pub(crate) enum Statuses<'a> {
 }
 
 /// The rows of an excerpt's plan.
-pub(crate) fn rows_of(e: &Excerpt) -> &[Row]
+pub(crate) fn rows_of<'a>(e: &'a Excerpt) -> &'a [Row]
     ensures { result.now ≡ e.now.plan.rows }
 {
     e.plan().rows.as_slice()

@@ -4,7 +4,6 @@
 //! rest on it are marked. Once none is left, all choices obey the rule, and only those from scratch do.
 
 ghost use Rattle.std.specs.Prelude.{◌≡◌, ◌≢◌, ◌<◌, ℕ, ◌∷◌, [], true, false, IfOk, OnOk, IfNone, Some, length, slice_get};
-ghost use Rattle.std.specs.Arc.{arc_value};
 ghost use Rattle.std.specs.Option.{IfSome};
 ghost use Rattle.excerpts.specs.Excerpt.{source_of};
 ghost use Rattle.net_items.specs.Keyed.{IsFoundAt};
@@ -13,15 +12,15 @@ ghost use Rattle.std.specs.List.{list_any, AllByRecursion};
 ghost use Rattle.excerpts.specs.Turned.{has_ends, HasTurned, IsTold};
 ghost use Rattle.excerpts.specs.declared.turned.Ends.{Ends};
 ghost use Rattle.transfer_state.specs.Following.{is_marked, rests_on, AreMarks, HasMark, HasMarks, HasMarksOf, HasReaders, IsWithoutMark, KeepsMarks, ObeysBut};
-ghost use Rattle.transfer_state.specs.Routing.{IsChosen};
+ghost use Rattle.transfer_state.specs.Routing.{settled_choices, IsChosen};
 
+use crate::choices::Choices;
 use crate::choosing::{Statuses, is_same_status, kept_choice, rows_of};
 use crate::kept::Kept;
 use excerpts::{Ends, Excerpt};
 use net_items::Row;
 use point_codes::PointCode;
 use std::alloc::{AllocError, Global};
-use std::sync::Arc;
 
 /// How many rows are chosen anew at most. Beyond, it costs less to choose all from scratch.
 const FOLLOW_LIMIT: usize = 128;
@@ -217,7 +216,7 @@ fn take_least(rows: &[Row], marks: &mut Vec<usize>, expected: u8) -> Option<usiz
 }
 
 /// The row in a place.
-fn row_in_place(e: &Excerpt, position: usize) -> &Row
+fn row_in_place<'a>(e: &'a Excerpt, position: usize) -> &'a Row
     requires { position < length e.now.plan.rows }
     ensures { slice_get e.entry.now.plan.rows position ≡ Some result.now }
 {
@@ -316,27 +315,27 @@ fn marks_of(alloc: Global, e: &Excerpt, turned: &[Ends]) -> Result<Vec<usize>, A
     Ok(marks)
 }
 
-/// The choices of all rows, if few have to be chosen anew: those before, shared, if none has to.
+/// What is kept of the choices of all rows, if few have to be chosen anew: that of those before, shared, if none has to.
 pub(crate) fn choices_after(
     alloc: Global,
     e: &Excerpt,
     before: &Excerpt,
-    choices: &Arc<Vec<Kept>>,
+    choices: &Choices,
     turned: &[Ends],
-) -> Result<Option<Arc<Vec<Kept>>>, AllocError>
+) -> Result<Option<Choices>, AllocError>
     requires dest { e.now.plan.dest ≡ before.now.plan.dest }
     requires turned { HasTurned before.now.network e.now.network turned.now }
-    requires chosen { IsChosen before.now (arc_value choices.now).items }
-    ensures { IfOk result (λ o. IfSome o (λ list. IsChosen e.now (arc_value list).items)) }
+    requires settled { choices.now ≡ settled_choices before.now }
+    ensures { IfOk result (λ o. IfSome o (λ c. c ≡ settled_choices e.now)) }
 {
     e.validity();
     before.validity();
     let marks = marks_of(alloc, e, turned)?;
     if marks.is_empty() {
-        return Ok(Some(Arc::try_clone(choices)?));
+        return Ok(Some(choices.share()?));
     }
-    match followed(alloc, e, choices, marks)? {
-        Some(list) => Ok(Some(Arc::new(alloc, list)?)),
+    match followed(alloc, e, choices.as_slice(), marks)? {
+        Some(list) => Ok(Some(Choices::by(alloc, e.dest(), list)?)),
         None => Ok(None),
     }
 }

@@ -10,8 +10,8 @@
 //! 4. The table is the one that the definitions of `profile` give from scratch.
 //! 5. A table that is at hand is checked by the local rule (own): each row is what it makes of the messages that its
 //!    neighbours hold towards it. Exactly the table from scratch passes. What is kept of a table is checked by the same rule.
-//! 6. The routing towards a destination is the choice of each row. A byte is kept of it: class, places used and status (own). It is
-//!    shared, and what follows, members, links and messages, is worked out when it is asked for.
+//! 6. The routing towards a destination is the choice of each row. A byte is kept of it: class, places used and status (own). These bytes
+//!    are shared, and what follows, members, links and messages, is worked out when it is asked for.
 //! 7. The routing of a plan can be followed from that in another network, if the two differ in link sets alone: only rows that rest on
 //!    a set that became available or was so no longer, or on a status that changed, are chosen anew (own).
 //!
@@ -20,6 +20,7 @@
 #![tactic(auto)]
 
 mod auditing;
+pub mod choices;
 mod choosing;
 mod comparing;
 pub mod complaints;
@@ -28,14 +29,19 @@ mod hearing;
 mod kept;
 mod routes;
 pub mod routing;
+pub mod shared;
+pub mod slots;
 mod states;
 mod sweep;
 pub mod table;
 
 pub use auditing::check_kept;
+pub use choices::Choices;
 pub use complaints::{Clause, Complaint, check};
 pub use kept::Kept;
 pub use profile::tables::{LinkRef, Message, Messages, RowLinks, RowState, RowStates, Table};
-pub use routing::{Routing, RoutingSlot};
+pub use routing::Routing;
+pub use shared::SharedRouting;
+pub use slots::RoutingSlot;
 pub use states::{is_member, size_of};
 pub use table::table_of;

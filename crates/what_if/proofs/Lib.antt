@@ -1,5 +1,6 @@
 pub mod GatheringLemmas
 pub mod UnchangedLemmas
+pub mod PlacesLemmas
 pub mod RerouteLemmas
 pub mod CostLemmas
 pub mod MendUnfoldingLemmas

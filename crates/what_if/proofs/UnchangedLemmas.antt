@@ -164,13 +164,19 @@ module _ (old x : ExcerptValue) (was : IsRight old) (right : IsRight x) (turned 
       ∙ opened_chosen old was choices refl
 
 -- so they do towards a destination no row of which rests on a set that turned
+pub choices_rest : (x y : ExcerptValue) → IsRight x → IsRight y → (turned : List Ends) → y.plan.dest ≡ x.plan.dest → HasTurned x.network y.network turned
+    → list_any (λ (ends : Ends). rests_on x ends.point ends.other) turned ≡ false → (point : ℕ) → choice_of (Some x) point ≡ choice_of (Some y) point
+choices_rest x y right other turned dest has none point =
+    found_same (choice (source_of x)) (choice (source_of y)) point x.plan.rows y.plan.rows
+    (ap (λ (p : Plan). map (λ (row : Row). row.point) p.rows) (sym (same_plan x y right other turned dest has)))
+    (sym (choices_stay x y right other turned dest has none))
+
+-- the same in a network
 pub choices_kept : (x : ExcerptValue) (net : Network) (turned : List Ends) (dest : ℕ) → IsRight x → IsValidNet net → excerpt_at x.network dest ≡ Some x → HasTurned x.network net turned
     → list_any (λ (ends : Ends). rests_on x ends.point ends.other) turned ≡ false → (point : ℕ) → choice_of (Some x) point ≡ choice_of (excerpt_at net dest) point
 choices_kept x net turned dest right valid planned has none point =
     let there : plan_at net.plans dest ≡ Some x.plan = plan_after x net turned dest planned has in
-    let y : ExcerptValue = excerpt_in net x.plan in
-    let same : map (choice (source_of y)) x.plan.rows ≡ map (choice (source_of x)) x.plan.rows = choices_stay x y right (extract_right net valid dest x.plan there) turned refl has none in
-    found_same (choice (source_of x)) (choice (source_of y)) point x.plan.rows x.plan.rows refl (sym same)
+    choices_rest x (excerpt_in net x.plan) right (extract_right net valid dest x.plan there) turned refl has none point
     ∙ ap (λ (o : Option Plan). choice_of (option_map (excerpt_in net) o) point) (sym there)
 
 -- the network that events make, none of which is refused

@@ -17,7 +17,7 @@ use Rattle.route_choice.specs.declared.choices.Far.{Far}
 use Rattle.route_choice.specs.declared.choices.Far.TheVariants.{Prohibited}
 use Rattle.route_choice.specs.Routes.{same_far}
 use Rattle.profile.specs.Status.{choice}
-use Rattle.excerpts.specs.Excerpt.{ExcerptValue, excerpt_at, source_of}
+use Rattle.excerpts.specs.Excerpt.{ExcerptValue, excerpt_at, excerpt_in, source_of}
 use Rattle.transfer_state.specs.Routing.{RoutingValue, settled_routing}
 use Rattle.what_if.specs.declared.changes.Change.{Change}
 use Rattle.what_if.specs.declared.reports.Refused.{Refused}
@@ -68,6 +68,10 @@ each_point tell old new x = flat_map (tell old new x) (both (points old) (points
 -- and so towards each destination that is planned before or after, from a network to another
 abbrev pub each_dest : {X : Type 0} → Account X → Network → Network → List X
 each_dest tell old new = flat_map (λ x. each_point tell (excerpt_at old x) (excerpt_at new x) x) (both (dests old) (dests new))
+
+-- what is told towards the destination of a plan that both networks have
+abbrev pub told_of_plan : {X : Type 0} → Account X → Network → Network → Plan → List X
+told_of_plan tell old new plan = each_point tell (Some (excerpt_in old plan)) (Some (excerpt_in new plan)) plan.dest
 
 -- nothing is told of two settled routings whose rows are of the same points
 abbrev pub IsQuiet : {X : Type 0} → Account X → RoutingValue → Option RoutingValue → Type 0

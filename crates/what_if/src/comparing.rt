@@ -1,24 +1,24 @@
 //! What is told from a network to another: of each point towards each destination, where something differs.
 
-ghost use Rattle.std.specs.Prelude.{◌≡◌, ◌++◌, [], ℕ, true, Some, IfOk, OnOk};
-ghost use Rattle.std.specs.Option.{IfSome, option_copied};
+ghost use Rattle.std.specs.Prelude.{◌≡◌, ◌++◌, ◌<◌, [], ℕ, true, Some, IfOk, OnOk, length, slice_index_or};
+ghost use Rattle.std.specs.Option.{option_copied};
+ghost use Rattle.net_items.specs.declared.items.Plan.{Plan};
 ghost use Rattle.excerpts.specs.Excerpt.{excerpt_at};
 ghost use Rattle.excerpts.specs.Turned.{HasTurned};
 ghost use Rattle.net_data.specs.Edits.{replay};
-ghost use Rattle.transfer_state.specs.Routing.{routed_excerpt, settled_routing};
-ghost use Rattle.net_versions.specs.Versions.{routing_at};
-ghost use Rattle.what_if.specs.Reports.{choice_of, each_dest, each_point, status_of as the_status};
+ghost use Rattle.transfer_state.specs.Routing.{routed_excerpt};
+ghost use Rattle.what_if.specs.Reports.{choice_of, each_dest, each_point, told_of_plan, status_of as the_status};
 
 use crate::changes::{Change, is_same};
 use crate::codes::{dests_of_both, points_of_both};
 use crate::versions::add_unlike;
-use excerpts::{Ends, Excerpt, ExcerptFault, Frozen};
+use excerpts::{Ends, Excerpt, Frozen};
 use net_data::Event;
 use net_versions::Version;
 use point_codes::PointCode;
 use route_choice::Far;
 use std::alloc::{AllocError, Global};
-use transfer_state::Routing;
+use transfer_state::{Choices, Routing};
 
 /// What is told of a point towards a destination, where it isn't the same before and after.
 pub(crate) trait Difference: Copy {
@@ -113,27 +113,6 @@ pub(crate) fn add_between<D: Difference>(
     Ok(())
 }
 
-/// The settled routing of an excerpt.
-fn settled(alloc: Global, excerpt: Excerpt) -> Result<Routing, AllocError>
-    ensures { IfOk result (λ r. r ≡ settled_routing excerpt) }
-{
-    match Routing::of(alloc, excerpt) {
-        Ok(routing) => Ok(routing),
-        Err((_, refused)) => Err(refused),
-    }
-}
-
-/// The settled routing towards a destination of a network, if it is planned.
-fn routing_in(alloc: Global, net: &Frozen, dest: PointCode) -> Result<Option<Routing>, AllocError>
-    ensures { IfOk result (λ r. r ≡ routing_at net.now dest) }
-{
-    match Excerpt::of(net, dest) {
-        Ok(excerpt) => Ok(Some(settled(alloc, excerpt)?)),
-        Err(ExcerptFault::NoPlan) => Ok(None),
-        Err(ExcerptFault::OutOfMemory) => Err(AllocError),
-    }
-}
-
 /// Whether a destination reads the same in a network as before, so that each choice towards it stays.
 fn reads_the_same(before: Option<&Routing>, net: &Frozen, dest: PointCode) -> bool
     ensures { result ≡ true → (point : ℕ) → choice_of (routed_excerpt (option_copied before.entry)) point ≡ choice_of (excerpt_at net.now dest) point }
@@ -149,72 +128,71 @@ fn reads_the_same(before: Option<&Routing>, net: &Frozen, dest: PointCode) -> bo
     }
 }
 
-/// The settled routing of an excerpt, followed from that of the same plan in a network before.
-fn followed(
-    alloc: Global,
-    excerpt: Excerpt,
-    before: &Routing,
-    turned: &[Ends],
-) -> Result<Routing, AllocError>
-    requires dest { excerpt.plan.dest ≡ before.now.excerpt.plan.dest }
-    requires turned { HasTurned before.now.excerpt.network excerpt.network turned.now }
-    ensures { IfOk result (λ r. r ≡ settled_routing excerpt) }
-{
-    match Routing::follow(alloc, excerpt, before, turned) {
-        Ok(routing) => Ok(routing),
-        Err((_, refused)) => Err(refused),
-    }
-}
-
-/// The settled routing towards a destination of a network, followed from that in a network before, if it is planned.
-fn routing_after(
-    alloc: Global,
-    net: &Frozen,
-    before: &Routing,
-    turned: &[Ends],
-    dest: PointCode,
-) -> Result<Option<Routing>, AllocError>
-    requires planned { excerpt_at before.now.excerpt.network dest ≡ Some before.now.excerpt }
-    requires turned { HasTurned before.now.excerpt.network net.now turned.now }
-    ensures { IfOk result (λ r. r ≡ routing_at net.now dest) }
-{
-    match Excerpt::of(net, dest) {
-        Ok(excerpt) => Ok(Some(followed(alloc, excerpt, before, turned)?)),
-        Err(ExcerptFault::NoPlan) => Ok(None),
-        Err(ExcerptFault::OutOfMemory) => Err(AllocError),
-    }
-}
-
 /// Whether no choice towards a destination changes, as far as that can be told without choosing a row anew.
-fn keeps_choices(before: &Routing, net: &Frozen, turned: &[Ends], dest: PointCode) -> bool
-    requires planned { excerpt_at before.now.excerpt.network dest ≡ Some before.now.excerpt }
-    requires turned { HasTurned before.now.excerpt.network net.now turned.now }
-    ensures { result ≡ true → (point : ℕ) → choice_of (Some before.now.excerpt) point ≡ choice_of (excerpt_at net.now dest) point }
+fn keeps_choices(before: &Routing, after: &Excerpt, turned: &[Ends]) -> bool
+    requires dest { after.now.plan.dest ≡ before.now.excerpt.plan.dest }
+    requires turned { HasTurned before.now.excerpt.network after.now.network turned.now }
+    ensures { result ≡ true → (point : ℕ) → choice_of (Some before.now.excerpt) point ≡ choice_of (Some after.now) point }
 {
     before.excerpt().validity();
-    net.validity();
+    after.validity();
     before.keeps_statuses(turned)
 }
 
-/// Adds what is told towards a destination, followed from its routing before.
+/// Adds what is told towards a destination, by its routing before and the ends of the sets that turned since.
 fn add_followed<D: Difference>(
     alloc: Global,
     before: &Routing,
-    net: &Frozen,
+    excerpt: &Excerpt,
     turned: &[Ends],
-    dest: PointCode,
     list: &mut Vec<D>,
 ) -> Result<(), AllocError>
-    requires planned { excerpt_at before.now.excerpt.network dest ≡ Some before.now.excerpt }
-    requires turned { HasTurned before.now.excerpt.network net.now turned.now }
-    ensures { OnOk result (list.new.items ≡ list.old.items ++ each_point D.told (Some before.now.excerpt) (excerpt_at net.now dest) dest) }
+    requires dest { excerpt.now.plan.dest ≡ before.now.excerpt.plan.dest }
+    requires turned { HasTurned before.now.excerpt.network excerpt.now.network turned.now }
+    ensures { OnOk result (list.new.items ≡ list.old.items ++ each_point D.told (Some before.now.excerpt) (Some excerpt.now) excerpt.now.plan.dest) }
 {
     D::stays();
-    if keeps_choices(before, net, turned, dest) {
+    if keeps_choices(before, excerpt, turned) {
         return Ok(());
     }
-    let after = routing_after(alloc, net, before, turned, dest)?;
-    add_unlike(alloc, Some(before), after.as_ref(), dest, list)
+    let choices = before.follow(alloc, excerpt, turned)?;
+    let after = Routing::by(excerpt.copy(), &choices);
+    add_unlike(alloc, Some(before), Some(&after), excerpt.dest(), list)
+}
+
+/// Adds what is told towards the destination of the plan in a place, by the ends of the sets that turned.
+fn add_in_place<D: Difference>(
+    alloc: Global,
+    version: &Version,
+    net: &Frozen,
+    turned: &[Ends],
+    position: usize,
+    list: &mut Vec<D>,
+) -> Result<(), AllocError>
+    requires turned { HasTurned version.now.network net.now turned.now }
+    requires position { position < length net.now.plans }
+    ensures { OnOk result ((d : Plan) → list.new.items ≡ list.old.items ++ told_of_plan D.told version.now.network net.now (slice_index_or net.now.plans position d)) }
+{
+    let before = version.routing_in_place(position);
+    add_followed(alloc, &before, &Excerpt::in_place(net, position), turned, list)
+}
+
+/// What is told from a version to a network, by the ends of the sets that turned.
+fn told_followed<D: Difference>(
+    alloc: Global,
+    version: &Version,
+    net: &Frozen,
+    turned: &[Ends],
+) -> Result<Vec<D>, AllocError>
+    requires { HasTurned version.now.network net.now turned.now }
+    ensures { IfOk result (λ v. v.items ≡ each_dest D.told version.now.network net.now) }
+{
+    net.validity();
+    let mut list = Vec::new(alloc);
+    for position in 0..net.net().plans().len() {
+        add_in_place(alloc, version, net, turned, position, &mut list)?;
+    }
+    Ok(list)
 }
 
 /// Adds what is told towards a destination, settled anew if it doesn't read the same.
@@ -231,44 +209,27 @@ fn add_settled<D: Difference>(
     if reads_the_same(before, net, dest) {
         return Ok(());
     }
-    let after = routing_in(alloc, net, dest)?;
-    add_unlike(alloc, before, after.as_ref(), dest, list)
+    let Some(excerpt) = Excerpt::of(net, dest) else {
+        return add_unlike(alloc, before, None, dest, list);
+    };
+    let choices = Choices::of(alloc, &excerpt)?;
+    let after = Routing::by(excerpt, &choices);
+    add_unlike(alloc, before, Some(&after), dest, list)
 }
 
-/// Adds what is told towards a destination from a version to a network. If the ends of the sets that turned are known, its
-/// routing is followed.
-fn add_told<D: Difference>(
+/// What is told from a version to a network, each destination by what its table reads.
+fn told_settled<D: Difference>(
     alloc: Global,
     version: &Version,
     net: &Frozen,
-    turned: Option<&[Ends]>,
-    dest: PointCode,
-    list: &mut Vec<D>,
-) -> Result<(), AllocError>
-    requires { IfSome turned (λ ends. HasTurned version.now.network net.now ends.now) }
-    ensures { OnOk result (list.new.items ≡ list.old.items ++ each_point D.told (excerpt_at version.now.network dest) (excerpt_at net.now dest) dest) }
-{
-    let before = version.routing(dest);
-    match (before, turned) {
-        (Some(routing), Some(turned)) => add_followed(alloc, routing, net, turned, dest, list),
-        _ => add_settled(alloc, before, net, dest, list),
-    }
-}
-
-/// What is told from a version to a network, by the ends of the sets that turned, if these are known.
-fn told_by<D: Difference>(
-    alloc: Global,
-    version: &Version,
-    net: &Frozen,
-    turned: Option<&[Ends]>,
 ) -> Result<Vec<D>, AllocError>
-    requires { IfSome turned (λ ends. HasTurned version.now.network net.now ends.now) }
     ensures { IfOk result (λ v. v.items ≡ each_dest D.told version.now.network net.now) }
 {
     let dests = dests_of_both(alloc, version.net().net(), net.net())?;
     let mut list = Vec::new(alloc);
     for dest in dests.as_slice() {
-        add_told(alloc, version, net, turned, *dest, &mut list)?;
+        let before = version.routing(*dest);
+        add_settled(alloc, before.as_ref(), net, *dest, &mut list)?;
     }
     Ok(list)
 }
@@ -302,9 +263,11 @@ pub(crate) fn told_after<D: Difference>(
     requires { net.now ≡ replay version.now.network events.now }
     ensures { IfOk result (λ v. v.items ≡ each_dest D.told version.now.network net.now) }
 {
-    let turned = net.turned_by(alloc, version.net(), events)?;
-    match turned.as_deref() {
-        Some(turned) if turned.is_empty() => Ok(none_told(alloc, version, net, turned)),
-        turned => told_by(alloc, version, net, turned),
+    let Some(turned) = net.turned_by(alloc, version.net(), events)? else {
+        return told_settled(alloc, version, net);
+    };
+    if turned.is_empty() {
+        return Ok(none_told(alloc, version, net, &turned));
     }
+    told_followed(alloc, version, net, &turned)
 }

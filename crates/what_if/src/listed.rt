@@ -68,7 +68,10 @@ pub(crate) fn network_listed(
 {
     let copy = version.net().net().copy(alloc)?;
     match make_listed(alloc, copy, entries)? {
-        Ok((net, events)) => Ok(Ok((Frozen::after(alloc, net, version.net())?, events))),
+        Ok((net, events)) => {
+            let frozen = Frozen::after_events(alloc, net, version.net(), &events)?;
+            Ok(Ok((frozen, events)))
+        }
         Err(refused) => Ok(Err(refused)),
     }
 }

@@ -280,7 +280,7 @@ fn point_mend(
 }
 
 /// The rows of a routing's plan.
-fn rows_of(routing: &Routing) -> &[Row]
+fn rows_of<'a>(routing: &'a Routing) -> &'a [Row]
     ensures { result.now ≡ routing.now.excerpt.plan.rows }
 {
     routing.excerpt().plan().rows.as_slice()

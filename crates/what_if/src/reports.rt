@@ -89,7 +89,10 @@ pub(crate) fn network_after(
 {
     let copy = version.net().net().copy(alloc)?;
     match after_events(alloc, copy, events)? {
-        Ok(net) => Ok(Ok(Frozen::after(alloc, net, version.net())?)),
+        Ok(net) => {
+            let frozen = Frozen::after_events(alloc, net, version.net(), events)?;
+            Ok(Ok(frozen))
+        }
         Err(refused) => Ok(Err(refused)),
     }
 }

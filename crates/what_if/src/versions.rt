@@ -76,13 +76,9 @@ fn told_since<D: Difference>(
     let dests = dests_of_both(alloc, old.net().net(), new.net().net())?;
     let mut list = Vec::new(alloc);
     for dest in dests.as_slice() {
-        add_unlike(
-            alloc,
-            old.routing(*dest),
-            new.routing(*dest),
-            *dest,
-            &mut list,
-        )?;
+        let before = old.routing(*dest);
+        let after = new.routing(*dest);
+        add_unlike(alloc, before.as_ref(), after.as_ref(), *dest, &mut list)?;
     }
     Ok(list)
 }

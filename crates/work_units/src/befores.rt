@@ -8,13 +8,13 @@ use excerpts::Ends;
 use std::alloc::AllocError;
 use std::marker::Model;
 use std::sync::Arc;
-use transfer_state::Routing;
+use transfer_state::{Routing, SharedRouting};
 
 /// The settled routing of a destination in the version before, and the ends of each set that became available since, or is so
 /// no longer.
 #[derive(Drop)]
 pub(crate) struct Before {
-    routing: Routing,
+    routing: SharedRouting,
     turned: Arc<Vec<Ends>>,
 }
 
@@ -39,10 +39,10 @@ impl Before {
     }
 
     /// The routing.
-    pub(crate) fn routing(&self) -> &Routing
-        ensures { result.now ≡ self.now.routing }
+    pub(crate) fn routing(&self) -> Routing<'_>
+        ensures { result ≡ self.entry.now.routing }
     {
-        &self.routing
+        self.routing.routing()
     }
 
     /// The ends.

@@ -8,7 +8,7 @@ ghost use Rattle.work_units.specs.Work.{IsJob};
 ghost use Rattle.work_units.specs.Before.{CanFollowAny};
 
 use crate::befores::Before;
-use excerpts::{Ends, Excerpt, ExcerptFault, Frozen};
+use excerpts::{Ends, Excerpt, ExcerptFault, Frozen, SharedExcerpt};
 use net_data::Net;
 use point_codes::PointCode;
 use std::alloc::{AllocError, Global};
@@ -20,7 +20,7 @@ use transfer_state::Routing;
 #[derive(Drop)]
 pub struct Job {
     version: u64,
-    excerpt: Excerpt,
+    excerpt: SharedExcerpt,
     /// What it can be followed from, if there is something. The result is the same without.
     before: Option<Before>,
 }
@@ -65,7 +65,7 @@ impl Job {
     pub fn of(version: u64, net: &Frozen, dest: PointCode) -> Result<Job, ExcerptFault>
         ensures { IsJob version (excerpt_at net.now dest) result }
     {
-        let excerpt = Excerpt::of(net, dest)?;
+        let excerpt = SharedExcerpt::of(net, dest)?;
         Ok(Job {
             version,
             excerpt,
@@ -85,7 +85,7 @@ impl Job {
         requires { HasTurned before.now.excerpt.network net.now (arc_value turned.now).items }
         ensures { IsJob version (excerpt_at net.now before.now.excerpt.plan.dest) result }
     {
-        let excerpt = Excerpt::of(net, before.dest())?;
+        let excerpt = SharedExcerpt::of(net, before.dest())?;
         match Before::of(before, turned) {
             Ok(before) => Ok(Job {
                 version,
@@ -97,7 +97,11 @@ impl Job {
     }
 
     /// A job for an excerpt.
-    pub(crate) fn from_parts(version: u64, excerpt: Excerpt, before: Option<Before>) -> Job
+    pub(crate) fn from_parts(
+        version: u64,
+        excerpt: SharedExcerpt,
+        before: Option<Before>,
+    ) -> Job
         requires { CanFollowAny excerpt before }
         ensures { result ≡ record { version = version; excerpt = excerpt } }
     {
@@ -109,7 +113,7 @@ impl Job {
     }
 
     /// The version that it is for, the excerpt, and what that can be followed from.
-    pub(crate) fn into_parts(self) -> (u64, Excerpt, Option<Before>)
+    pub(crate) fn into_parts(self) -> (u64, SharedExcerpt, Option<Before>)
         ensures version { result.0 ≡ self.version }
         ensures excerpt { result.1 ≡ self.excerpt }
         ensures before { CanFollowAny result.1 result.2 }
@@ -132,9 +136,9 @@ impl Job {
     }
 
     /// What the table of the destination reads.
-    pub fn excerpt(&self) -> &Excerpt
-        ensures { result.now ≡ self.now.excerpt }
+    pub fn excerpt(&self) -> Excerpt<'_>
+        ensures { result ≡ self.entry.now.excerpt }
     {
-        &self.excerpt
+        self.excerpt.excerpt()
     }
 }

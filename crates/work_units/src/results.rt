@@ -8,18 +8,18 @@ ghost use Rattle.work_units.specs.Before.{CanFollowAny};
 
 use crate::befores::Before;
 use crate::jobs::Job;
-use excerpts::Excerpt;
+use excerpts::{Excerpt, SharedExcerpt};
 use point_codes::PointCode;
 use profile::Table;
 use std::alloc::{AllocError, Global};
 use std::marker::Model;
-use transfer_state::Routing;
+use transfer_state::{Routing, SharedRouting};
 
 /// The result of a job: its routing is that of the job's excerpt, from scratch.
 #[derive(Drop)]
 pub struct Settled {
     version: u64,
-    routing: Routing,
+    routing: SharedRouting,
 }
 
 impl Model for Settled {
@@ -46,18 +46,18 @@ impl Settled {
     }
 
     /// What the table of the destination reads.
-    pub fn excerpt(&self) -> &Excerpt
-        ensures { result.now ≡ self.now.excerpt }
+    pub fn excerpt(&self) -> Excerpt<'_>
+        ensures { result ≡ self.entry.now.excerpt }
     {
         self.routing.excerpt()
     }
 
     /// The settled routing of the excerpt.
-    pub fn routing(&self) -> &Routing
-        ensures { result.now ≡ settled_routing self.now.excerpt }
+    pub fn routing(&self) -> Routing<'_>
+        ensures { result ≡ settled_routing self.entry.now.excerpt }
     {
         self.routing.validity();
-        &self.routing
+        self.routing.routing()
     }
 
     /// The whole table of the destination, made from what the routing keeps (own, after Q.704 clauses 2.3 and 13.2 to
@@ -65,11 +65,11 @@ impl Settled {
     pub fn table(&self, alloc: Global) -> Result<Table, AllocError>
         ensures { IfOk result (λ t. t ≡ scratch (source_of self.now.excerpt)) }
     {
-        self.routing.table(alloc)
+        self.routing.routing().table(alloc)
     }
 
     /// The settled routing, given away.
-    pub fn into_routing(self) -> Routing
+    pub fn into_routing(self) -> SharedRouting
         ensures { result ≡ settled_routing self.excerpt }
     {
         self.routing.validity();
@@ -80,16 +80,18 @@ impl Settled {
 /// The settled routing of an excerpt, followed from the version before if there is something to follow.
 fn routing_of(
     alloc: Global,
-    excerpt: Excerpt,
+    excerpt: SharedExcerpt,
     before: &Option<Before>,
-) -> Result<Routing, (Excerpt, AllocError)>
+) -> Result<SharedRouting, (SharedExcerpt, AllocError)>
     requires { CanFollowAny excerpt before.now }
     ensures ok { IfOk result (λ r. r ≡ settled_routing excerpt) }
     ensures err { IfErr result (λ e. e.0 ≡ excerpt) }
 {
     match before {
-        Some(before) => Routing::follow(alloc, excerpt, before.routing(), before.turned()),
-        None => Routing::of(alloc, excerpt),
+        Some(before) => {
+            SharedRouting::follow(alloc, excerpt, &before.routing(), before.turned())
+        }
+        None => SharedRouting::of(alloc, excerpt),
     }
 }
 

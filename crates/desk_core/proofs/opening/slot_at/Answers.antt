@@ -4,7 +4,7 @@ use Rattle.net_items.specs.declared.items.Plan.{Plan}
 use Rattle.net_items.specs.Lookups.{plan_at}
 use Rattle.net_data.specs.Network.{Network}
 use Rattle.dirty_sets.specs.Bits.{is_marked}
-use Rattle.net_versions.proofs.PlannedLemmas.{found_in_place}
+use Rattle.excerpts.proofs.PlaceLemmas.{found_in_place}
 use Rattle.desk_core.specs.Targets.{routing_slot_of}
 use Rattle.desk_core.proofs.OpeningLemmas.{planned_is, slot_is}
 use Rattle.desk_core.proofs.opening.slot_at.Goals as goal

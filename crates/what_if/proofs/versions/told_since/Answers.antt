@@ -16,10 +16,10 @@ loop-dest-preserved g c =
     let new = c.args.new.now.network in
     let f : ℕ → List g.row.D.Denot = λ x. each_point tell (excerpt_at old x) (excerpt_at new x) x in
     let x = c.dest-item.result in
-    let before = ap routed_excerpt c.routing.ensures ∙ routed_there old x in
-    let after = ap routed_excerpt c.routing-in-loop-dest.ensures ∙ routed_there new x in
+    let before = ap routed_excerpt (c.as_ref.ensures.value ∙ c.routing-before.ensures) ∙ routed_there old x in
+    let after = ap routed_excerpt (c.as_ref-in-loop-dest.ensures.value ∙ c.routing-after.ensures) ∙ routed_there new x in
     let one =
-    ap (λ (o : Option ExcerptValue). c.loop-dest.list.items ++ each_point tell o (routed_excerpt (option_copied c.routing-in-loop-dest.result)) x) before
+    ap (λ (o : Option ExcerptValue). c.loop-dest.list.items ++ each_point tell o (routed_excerpt (option_copied c.as_ref-in-loop-dest.result)) x) before
     ∙ ap (λ (o : Option ExcerptValue). c.loop-dest.list.items ++ each_point tell (excerpt_at old x) o x) after in
     ap (λ (done : List g.row.D.Denot). done ++ flat_map f (drop (c.loop-dest.dest-index + 1) c.as_slice-dest-items.result.now)) (c.in_ok-add_unlike.ensures ∙ one)
     ∙ each_more f c.as_slice-dest-items.result.now c.loop-dest.dest-index x c.loop-dest.list.items (each_dest tell old new) (omega arith) c.dest-item.is c.loop-dest.invariant

@@ -1,16 +1,13 @@
-use Rattle.std.proofs.Common.{◌≡◌, Some, sym, ◌∙◌, ap, rules}
-use Rattle.std.specs.Arc.{arc_value}
-use Rattle.std.specs.Option.{option_map}
+use Rattle.std.proofs.Common.{◌≡◌, List, Some, sym, ◌∙◌, ap}
+use Rattle.net_items.specs.declared.items.Plan.{Plan}
 use Rattle.net_items.specs.Lookups.{plan_at}
+use Rattle.net_data.specs.Network.{Network}
 use Rattle.excerpts.proofs.ExcerptLemmas.{extract_right}
 use Rattle.excerpts.proofs.excerpt.Excerpt.of.Goals as goal
 
-pub invariant_of-result : goal.invariant_of-result
-invariant_of-result c =
-    let net = c.net-network.result.now in
-    let plan = arc_value c.in-Ok-Some.plan in
-    let there : plan_at net.plans c.args.dest ≡ Some plan = sym c.in-Ok-Some.ensures.ok ∙ ap (option_map arc_value) c.in-Ok-Some.field-0-is in
-    rw (c.in-Ok.ensures, sym c.net-network.ensures) (extract_right net c.validity.ensures c.args.dest plan there)
-
-pub returns-in-Err : goal.returns-in-Err
-returns-in-Err c = search rules
+pub by-requires : goal.by-requires
+by-requires c =
+    let net : Network = c.args.net.now in
+    let plan : Plan = c.in_ok-plan.plan.now in
+    let same : net.plans ≡ c.plans-plans.result.now = sym (c.plans-plans.ensures ∙ ap (λ (n : Network). n.plans) c.net.ensures) in
+    extract_right net c.validity.ensures c.args.dest plan (ap (λ (plans : List Plan). plan_at plans c.args.dest) same ∙ sym c.in_ok-plan.ensures)
