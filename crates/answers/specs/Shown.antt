@@ -12,7 +12,7 @@ use Rattle.net_items.specs.declared.lists.Row.{Row}
 use Rattle.net_items.specs.Lookups.{plan_at, point_at, set_at}
 use Rattle.net_data.specs.declared.events.Refusal.TheVariants as edit
 use Rattle.net_data.specs.Network.{Network}
-use Rattle.link_sets.specs.Availability.{link_available}
+use Rattle.net_items.specs.Links.{link_available}
 use Rattle.route_choice.specs.declared.choices.Far.{Far}
 use Rattle.route_choice.specs.declared.choices.Far.TheVariants.{Allowed, Restricted, Prohibited}
 use Rattle.profile.specs.Status.{Source, source_in, status}

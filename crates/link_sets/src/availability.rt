@@ -1,7 +1,8 @@
 //! Which sets are available, and the set between two points.
 
 ghost use Rattle.std.specs.Prelude.{◌≡◌};
-ghost use Rattle.link_sets.specs.Availability.{set_available as has_available, connected, IsMask};
+ghost use Rattle.net_items.specs.Links.{IsMask};
+ghost use Rattle.link_sets.specs.Availability.{set_available as has_available, connected};
 
 use net_items::LinkSet;
 use net_items::lookups::set_between;
@@ -24,17 +25,10 @@ pub fn is_connected(sets: &[LinkSet], point: PointCode, other: PointCode) -> boo
     }
 }
 
-/// Which of the first sixteen links of a set are available: bit i stands for the link at position i in rising signalling link
-/// code (Q.704 clause 3.2).
+/// Which of the links of a set are available: bit i stands for the link at position i in rising signalling link code (Q.704 clause
+/// 3.2).
 pub fn mask(set: &LinkSet) -> u16
     ensures { IsMask set.now.links result }
 {
-    let links = set.links.listed();
-    let mut mask = 0;
-    for (i, link) in links.as_slice().iter().enumerate() {
-        if i < 16 && link.marks.available() {
-            mask |= 1 << i;
-        }
-    }
-    mask
+    set.links.mask()
 }

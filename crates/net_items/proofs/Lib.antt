@@ -1,3 +1,4 @@
 pub mod ListLemmas
 pub mod KeyedLemmas
 pub mod LinkLemmas
+pub mod MaskLemmas

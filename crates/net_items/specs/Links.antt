@@ -1,7 +1,9 @@
 -- The links of a set as a list, however they are kept (own, after Q.704 clauses 2.2 and 3.2).
-use Rattle.std.specs.Prelude.{◌≡◌, ◌≢◌, ◌<◌, ℕ, ◌==◌, Bool, List, map, filter}
+use Rattle.std.specs.Prelude.{◌≡◌, ◌≢◌, ◌<◌, ℕ, ◌==◌, Bool, false, List, map, filter, slice_get}
 use Rattle.std.specs.Int.{bit_at}
 use Rattle.std.specs.List.{range_with_len}
+use Rattle.std.specs.Option.{option_map_or}
+use Rattle.link_state.specs.Marks.{is_clear}
 use Rattle.link_state.specs.declared.marks.Marks.{Marks}
 use Rattle.net_items.specs.declared.links.Link.{Link}
 use Rattle.net_items.specs.declared.links.MarkBits.{MarkBits}
@@ -37,3 +39,15 @@ pub record IsWithBit (before slc : ℕ) (set : Bool) (after : ℕ) : Type 0 wher
 pub record IsWithMarks (before : MarkBits) (slc : ℕ) (marks : Marks) (after : MarkBits) : Type 0 where
   pub here : marks_in after slc ≡ marks
   pub others : (c : ℕ) → c < 16 → c ≢ slc → marks_in after c ≡ marks_in before c
+
+-- a link with no mark
+abbrev pub link_available : Link → Bool
+link_available link = is_clear link.marks
+
+-- the link at position i is there and available
+abbrev pub available_at : List Link → ℕ → Bool
+available_at links i = option_map_or link_available (slice_get links i) false
+
+-- each of the sixteen bits tells whether the link at its position is there and available
+abbrev pub IsMask : List Link → ℕ → Type 0
+IsMask links mask = (i : ℕ) → i < 16 → has_bit mask i ≡ available_at links i

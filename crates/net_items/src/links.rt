@@ -5,7 +5,7 @@ ghost use Rattle.std.specs.List.{list_any};
 ghost use Rattle.std.specs.Option.{IfSome};
 ghost use Rattle.link_state.specs.Marks.{is_clear};
 ghost use Rattle.net_items.specs.Keyed.{IsRising, at_key, put, without};
-ghost use Rattle.net_items.specs.Links.{has_bit, marks_in, IsWithBit, IsWithMarks};
+ghost use Rattle.net_items.specs.Links.{has_bit, marks_in, IsMask, IsWithBit, IsWithMarks};
 
 use link_state::Marks;
 use std::marker::Model;
@@ -231,6 +231,25 @@ impl Links {
         ensures { result ≡ list_any (λ l. is_clear l.marks) self.now }
     {
         self.there & !self.marked.any() != 0
+    }
+
+    /// Which links have no mark: bit i stands for the link at position i in rising code.
+    pub fn mask(&self) -> u16
+        ensures { IsMask self.now result }
+    {
+        let marked = self.marked.any();
+        let mut mask = 0;
+        let mut position = 0u8;
+        for slc in 0..16u8 {
+            if self.there >> slc == 0 {
+                return mask;
+            }
+            if is_set(self.there, slc) {
+                mask = with_bit(mask, position, !is_set(marked, slc));
+                position += 1;
+            }
+        }
+        mask
     }
 
     /// A bit for each link, at its signalling link code.

@@ -8,7 +8,8 @@ use Rattle.net_items.specs.declared.items.LinkSet.{LinkSet}
 use Rattle.net_items.specs.declared.items.Point.{Point}
 use Rattle.net_items.specs.declared.lists.Row.{Row}
 use Rattle.net_data.specs.Network.{Network}
-use Rattle.link_sets.specs.Availability.{link_available, set_available}
+use Rattle.net_items.specs.Links.{link_available}
+use Rattle.link_sets.specs.Availability.{set_available}
 use Rattle.route_choice.specs.declared.choices.Far.{Far}
 use Rattle.route_choice.specs.declared.choices.Far.TheVariants as far
 use Rattle.route_choice.specs.declared.choices.Choice.{Choice}

@@ -2,7 +2,7 @@
 
 ghost use Rattle.std.specs.Prelude.{◌≡◌};
 ghost use Rattle.std.specs.List.{list_all};
-ghost use Rattle.link_sets.specs.Availability.{link_available};
+ghost use Rattle.net_items.specs.Links.{link_available};
 ghost use Rattle.pictures.specs.Shown.{style_of as the_style, far_colour, hex_text};
 
 use link_sets::set_available;

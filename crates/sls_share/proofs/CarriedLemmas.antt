@@ -16,7 +16,7 @@ use Rattle.std.proofs.lemmas.Nat.Bits.{bit_at-suc, bit_at_lowest, bit_at_set_sam
 use Rattle.std.proofs.lemmas.Option.{slice_get-map, slice_get_past, slice_get-get_or}
 use Rattle.net_items.specs.Keyed.{IsRising}
 use Rattle.net_items.specs.declared.links.Link.{Link}
-use Rattle.link_sets.specs.Availability.{available_at, IsMask}
+use Rattle.net_items.specs.Links.{available_at, IsMask}
 use Rattle.link_sets.proofs.ListLemmas.{map_same}
 use Rattle.sls_share.specs.Share.{probe, position_for, link_for}
 use Rattle.sls_share.specs.Carried.{codes_in, masked_position, code_for, codes_for, links_for, IsCodeMask}
@@ -58,16 +58,6 @@ position_at available n t j i before low is up =
 pub position_nowhere : (available n t : ℕ) → ((k : ℕ) → k < n → eqb (bit_at available (probe t n k)) 1 ≡ false) → None ≡ masked_position available n t
 position_nowhere available n t all = sym (find_nowhere (probe t n) (λ i. eqb (bit_at available i) 1) 0 n
     (λ k lt. subst (λ i. eqb (bit_at available (probe t n i)) 1 ≡ false) (sym (zero-add k)) (all k lt)))
-
--- the link at the place that is found
-pub link_there_is : (links : List Link) (t i : ℕ) (d : Link) → Some i ≡ position_for links t → i < length links → Some (get_or links i d).slc ≡ link_for links t
-link_there_is links t i d found within =
-    let at : slice_get links i ≡ Some (get_or links i d) = slice_get-get_or links i d within in
-    let is : position_for links t ≡ Some i = sym found in
-    rw (is, at) refl
-
-pub link_nowhere_is : (links : List Link) (t : ℕ) → None ≡ position_for links t → None ≡ link_for links t
-link_nowhere_is links t found = let is : position_for links t ≡ None = sym found in rw is refl
 
 -- ---- the codes of a mask
 

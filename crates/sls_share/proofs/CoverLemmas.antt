@@ -6,7 +6,7 @@ use Rattle.std.specs.Option.{option_map_or}
 use Rattle.std.proofs.lemmas.Bool.{eqb-true, eqb-false}
 use Rattle.std.proofs.lemmas.Option.{slice_get_within}
 use Rattle.net_items.specs.declared.links.Link.{Link}
-use Rattle.link_sets.specs.Availability.{link_available, available_at}
+use Rattle.net_items.specs.Links.{link_available, available_at}
 use Rattle.sls_share.specs.Share.{probe, probe_order, position_for, link_for, share_of}
 use Rattle.link_sets.proofs.ListLemmas.{find_gives, and_first, and_second, any_weaker}
 

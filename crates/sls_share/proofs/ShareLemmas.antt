@@ -7,7 +7,7 @@ use Rattle.std.proofs.lemmas.Bool.{cases_eq}
 use Rattle.std.proofs.lemmas.List.{length-set}
 use Rattle.net_items.specs.declared.links.Link.{Link}
 use Rattle.link_sets.proofs.ListLemmas.{find_gives, find_weaker, find_weaker_none}
-use Rattle.link_sets.specs.Availability.{link_available, available_at}
+use Rattle.net_items.specs.Links.{link_available, available_at}
 use Rattle.sls_share.specs.Share.{probe_order, position_for, link_for, IsSteady}
 
 -- the first of a range that passes

@@ -3,7 +3,7 @@ use Rattle.std.specs.Prelude.{◌≡◌, ◌≢◌, ◌<◌, ◌≤◌, ℕ, ◌
 use Rattle.std.specs.List.{range_with_len, list_any}
 use Rattle.std.specs.Option.{option_and_then, option_map}
 use Rattle.net_items.specs.declared.links.Link.{Link}
-use Rattle.link_sets.specs.Availability.{link_available, available_at}
+use Rattle.net_items.specs.Links.{link_available, available_at}
 
 -- the position tried at turn j for share number t in a set of n links
 abbrev pub probe : ℕ → ℕ → ℕ → ℕ

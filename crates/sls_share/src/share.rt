@@ -5,7 +5,7 @@ ghost use Rattle.std.specs.Option.{IfSome};
 ghost use Rattle.sls_share.specs.Share.{probe as probe_of, link_for as link_of, IsSteady, via_of, share_of, HasMember};
 ghost use Rattle.sls_share.specs.Carried.{masked_position as position_of};
 
-use link_sets::mask;
+use crate::carried::Carried;
 use net_items::LinkSet;
 
 /// The position that is tried at turn `j` for share number `t` among `n` links (own).
@@ -46,7 +46,7 @@ pub(crate) fn masked_position(available: u16, n: usize, t: u8) -> Option<usize>
 /// The signalling link code of the link that carries share number `t`, if one is available (own, after Q.704 clause 2.3).
 ///
 /// There are sixteen share numbers: None for `t` from 16 on. When another link becomes unavailable, the answer stays.
-#[tactic(auto, using(crate::proofs::CarriedLemmas::position_is, crate::proofs::CarriedLemmas::link_there_is, crate::proofs::CarriedLemmas::link_nowhere_is, crate::proofs::ShareLemmas::steady_answer))]
+#[tactic(auto, using(crate::proofs::CarriedLemmas::link_of_share, crate::proofs::ShareLemmas::steady_answer))]
 pub fn link_for(set: &LinkSet, t: u8) -> Option<u8>
     ensures answer { t < 16 → result ≡ link_of set.now.links t }
     ensures beyond { 16 ≤ t → result ≡ None }
@@ -56,10 +56,7 @@ pub fn link_for(set: &LinkSet, t: u8) -> Option<u8>
     if t >= 16 {
         return None;
     }
-    let list = set.links.listed();
-    let links = list.as_slice();
-    let i = masked_position(mask(set), links.len(), t)?;
-    Some(links[i].slc)
+    Carried::of(set).link_for(t)
 }
 
 /// The number of the via that carries SLS `s` (0 to 15), 0 or 1, and its share number there (own, after Q.704 clause

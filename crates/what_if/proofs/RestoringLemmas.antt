@@ -9,7 +9,8 @@ use Rattle.net_items.specs.declared.links.Link.{Link}
 use Rattle.net_items.specs.declared.items.LinkSet.{LinkSet}
 use Rattle.net_items.specs.declared.lists.Row.{Row}
 use Rattle.net_items.specs.Lookups.{joins, set_between}
-use Rattle.link_sets.specs.Availability.{connected, link_available, set_available}
+use Rattle.net_items.specs.Links.{link_available}
+use Rattle.link_sets.specs.Availability.{connected, set_available}
 use Rattle.link_sets.proofs.ListLemmas.{and_first}
 use Rattle.profile.specs.Status.{Source}
 use Rattle.profile.specs.Valid.{IsLower, HasMate, IsVia, IsValidRow, IsValidSource}
