@@ -79,6 +79,18 @@ first_here js pair at up within less here = record {
   );
 }
 
+-- where the joint before is smaller and the next one isn't, those from a pair on begin
+pub begins_here : (js : List Joint) (pair at : ℕ) → IsRising (λ (j : Joint). j.pair) js → at ≤ length js → (0 < at → (get_or js (at - 1) unread).pair < pair)
+    → (at < length js → pair ≤ (get_or js at unread).pair) → IsFirstJoint pair js at
+begins_here js pair at up within last here = first_here js pair at up within before here
+  where
+    before : AllWithin (λ (j : Joint). j.pair < pair) js 0 at
+    before k d low lt =
+        let below : (get_or js (at - 1) unread).pair < pair = last (omega arith) in
+        let same : (get_or js (at - 1) d).pair ≡ (get_or js (at - 1) unread).pair = ap (λ (j : Joint). j.pair) (get_or_default js (at - 1) d unread (omega arith)) in
+        let rest : (get_or js k d).pair ≤ (get_or js (at - 1) d).pair = never_fall js up k (at - 1) d (omega arith) (omega arith) in
+        omega (arith, below, same, rest)
+
 -- one more place is written down
 pub firsts_push : (js : List Joint) (firsts : List ℕ) (y at : ℕ) → length firsts ≡ y → ((k : ℕ) → k < y → IsFirstJoint (joint_of k 0) js (slice_index firsts k)) → IsFirstJoint (y * 16384) js at
     → (k : ℕ) → k < y + 1 → IsFirstJoint (joint_of k 0) js (slice_index (firsts ++ at ∷ []) k)

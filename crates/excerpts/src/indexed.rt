@@ -201,11 +201,27 @@ impl Indexed {
         Some(&self.net.sets()[joint.position as usize])
     }
 
+    /// The first point of code `from` or above that an available set joins to the point. It is looked for first in a place among the
+    /// sets of the point, which is the one behind it then.
+    pub fn next_near(&self, point: PointCode, from: u16, place: &mut usize) -> Option<PointCode>
+        ensures value { result ≡ next_from (connected self.now.sets point) from }
+        ensures within { IfSome result (IsCodeFrom from) }
+    {
+        next_up(
+            self.net.sets(),
+            self.joints.of_point(point),
+            point,
+            from,
+            place,
+        )
+    }
+
     /// The first point of code `from` or above that an available set joins to the point.
     pub fn next_neighbour(&self, point: PointCode, from: u16) -> Option<PointCode>
         ensures value { result ≡ next_from (connected self.now.sets point) from }
         ensures within { IfSome result (IsCodeFrom from) }
     {
-        next_up(self.net.sets(), self.joints.of_point(point), point, from)
+        let mut place = 0;
+        self.next_near(point, from, &mut place)
     }
 }

@@ -16,6 +16,8 @@ pub struct Neighbours<'a> {
     net: &'a Indexed,
     point: PointCode,
     from: u16,
+    /// Where the next one is looked for first among the sets of the point.
+    place: usize,
 }
 
 impl<'a> Neighbours<'a> {
@@ -27,6 +29,7 @@ impl<'a> Neighbours<'a> {
             net,
             point,
             from: 0,
+            place: 0,
         }
     }
 }
@@ -39,7 +42,7 @@ impl<'a> Iterator for Neighbours<'a> {
     ghost remaining = { item_count neighbours_left };
 
     fn next(&mut self) -> Option<PointCode> {
-        let z = self.net.next_neighbour(self.point, self.from)?;
+        let z = self.net.next_near(self.point, self.from, &mut self.place)?;
         self.from = z.number() + 1;
         Some(z)
     }

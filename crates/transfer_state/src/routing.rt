@@ -95,10 +95,7 @@ impl<'a> Routing<'a> {
     pub fn share(&self) -> Result<SharedRouting, AllocError>
         ensures { IfOk result (λ r. r ≡ self.now) }
     {
-        Ok(SharedRouting::by(
-            self.excerpt.share()?,
-            self.choices.share()?,
-        ))
+        Ok(SharedRouting::by(self.excerpt.share()?, self.choices.share()?))
     }
 
     /// What is kept of its choices, shared. It fails only if no further share can be counted.

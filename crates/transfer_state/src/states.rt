@@ -143,6 +143,14 @@ pub(crate) fn message_to(
     }
 }
 
+/// Room for so many messages is made at once where any are sent: most points have no more neighbours.
+const FEW_NEIGHBOURS: usize = 8;
+
+/// For how many messages of a point room is made.
+fn room_for_messages(e: &Excerpt, point: PointCode) -> usize {
+    if e.is_stp(point) { FEW_NEIGHBOURS } else { 0 }
+}
+
 /// The messages in force from a row's point, in rising code of the receiver: an end point sends none.
 pub(crate) fn messages_of(
     alloc: Global,
@@ -152,7 +160,7 @@ pub(crate) fn messages_of(
 ) -> Result<Messages, AllocError>
     ensures { IfOk result (λ messages. messages ≡ messages_by (source_of e.now) row.now choice.now) }
 {
-    let mut list = Vec::new(alloc);
+    let mut list = Vec::with_capacity(alloc, room_for_messages(e, row.point))?;
     if e.is_stp(row.point) {
         for z in e.neighbours(row.point) {
             if z != e.dest() {

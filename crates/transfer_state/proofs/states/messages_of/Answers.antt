@@ -30,6 +30,6 @@ returns c = elim c.if-is_stp.branch [
       ∙ ap (λ (zs : List ℕ). map (λ z. record { kind = message c.args.choice.now z; to = z }) (filter (λ z. not (eqb z src.dest)) zs)) (sym (map-id w.loop-z.yielded) ∙ all)
       ∙ messages_from src c.args.row.now c.args.choice.now (sym c.is_stp.ensures ∙ w.if-is_stp.true)
   | else-is_stp w ↦
-      c.from_vec.ensures ∙ ap (λ (v : Vec Message Global). v.items) w.list-is ∙ c.new-list.ensures.items
+      c.from_vec.ensures ∙ ap (λ (v : Vec Message Global). v.items) w.list-is ∙ c.in_ok-list.ensures.items
       ∙ messages_never (source_of c.args.e.now) c.args.row.now c.args.choice.now (sym c.is_stp.ensures ∙ w.if-is_stp.false)
 ]

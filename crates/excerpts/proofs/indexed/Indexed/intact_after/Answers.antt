@@ -28,8 +28,8 @@ returns-then-is_empty c =
     let none : c.in_ok-turned.turned.items ≡ [] = nil_from_length c.in_ok-turned.turned.items (omega (arith, eqb-true _ _ (sym c.is_empty.ensures ∙ c.if-is_empty.true))) in
     let told : (id : ℕ) → is_named c.args.events.now id ≡ true → HasTold old.sets new.sets [] id
     = subst (λ (sets : List LinkSet). (id : ℕ) → is_named c.args.events.now id ≡ true → HasTold old.sets sets [] id) c.sets.ensures
-      (subst (λ (sets : List LinkSet). (id : ℕ) → is_named c.args.events.now id ≡ true → HasTold sets c.sets.result.now [] id) c.sets-2.ensures
-      (subst (λ (list : List Pair). (id : ℕ) → is_named c.args.events.now id ≡ true → HasTold c.sets-2.result.now c.sets.result.now list id) none c.in_ok-turned.ensures)) in
+    (subst (λ (sets : List LinkSet). (id : ℕ) → is_named c.args.events.now id ≡ true → HasTold sets c.sets.result.now [] id) c.sets-2.ensures
+    (subst (λ (list : List Pair). (id : ℕ) → is_named c.args.events.now id ≡ true → HasTold c.sets-2.result.now c.sets.result.now list id) none c.in_ok-turned.ensures)) in
     let same : ArePairsTurned old.sets new.sets [] = named_turned old new c.args.events.now [] made c.requires.links c.validity-2.ensures.sets_rise c.validity.ensures.sets_rise told in
     IfOk-weaker c.share.result _ _
     (λ intact is. subst (TellIntact new.sets) (sym is) (intact_stays old.sets new.sets _ (ends_after old new c.args.events.now made c.requires.links) (λ y z. same y z refl) c.self.invariant.intact))

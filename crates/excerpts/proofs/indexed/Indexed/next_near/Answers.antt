@@ -4,7 +4,7 @@ use Rattle.link_sets.specs.Availability.{connected}
 use Rattle.link_sets.specs.Neighbours.{next_from}
 use Rattle.net_data.specs.Network.{Network}
 use Rattle.excerpts.proofs.IndexLemmas.{next_agreed}
-use Rattle.excerpts.proofs.indexed.Indexed.next_neighbour.Goals as goal
+use Rattle.excerpts.proofs.indexed.Indexed.next_near.Goals as goal
 
 -- the joints of the point tell of each other point whether it is joined
 pub returns-clause-value : goal.returns-clause-value
