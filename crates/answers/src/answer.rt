@@ -1,12 +1,13 @@
 //! What is answered to a line, with its values.
 
-use crate::net_box::NetBox;
+use crate::boxed::Boxed;
 use crate::remedies::Remedy;
-use crate::shown::ShownBox;
+use crate::shown::Shown;
 use crate::taken::AllTaken;
 use crate::text::Text;
 use crate::ways::Ways;
 use crate::who::SeatCounts;
+use net_data::Net;
 use point_codes::PointCode;
 use profile::{Messages, RowLinks, Trace};
 use route_choice::{Choice, Far};
@@ -73,11 +74,11 @@ pub struct Moved {
 #[derive(Drop)]
 pub enum Publication {
     /// The version of this number is published, and what moved, if that is told behind publications.
-    Published(u64, Option<Moved>),
+    Published(u64, Option<Boxed<Moved>>),
     /// All that is accepted is published, under this number; and what moved, if that is told behind publications.
-    Synced(u64, Option<Moved>),
+    Synced(u64, Option<Boxed<Moved>>),
     /// What moved since an earlier version to the one of this number.
-    Changes(u64, Moved),
+    Changes(u64, Boxed<Moved>),
 }
 
 /// What is told of the row of a point.
@@ -109,7 +110,7 @@ pub enum NetAnswer {
     /// What events would move.
     Reroutes(Reroutes),
     /// What single failures would take, or single repairs bring back.
-    Survey(Survey),
+    Survey(Boxed<Survey>),
     /// What a planner is warned of.
     Warned(Warnings),
     /// So many tables, each right.
@@ -117,11 +118,11 @@ pub enum NetAnswer {
     /// A wrong table: its destination, and the first complaint about it.
     Wrong(PointCode, Complaint),
     /// The file that a picture is for, and the picture.
-    Picture(Text, Text),
+    Picture(Text, Boxed<Text>),
     /// The file that a picture was put into.
     Drawn(Text),
     /// The file that a network is for, and the network.
-    Saving(Text, NetBox),
+    Saving(Text, Boxed<Net>),
     /// The file that a network was put into.
     Saved(Text),
 }
@@ -140,7 +141,7 @@ pub enum Answer {
     /// What is told of the whole network.
     Net(NetAnswer),
     /// What is shown of the network.
-    Shown(ShownBox),
+    Shown(Boxed<Shown>),
     /// How many events were accepted through each seat.
     Who(SeatCounts),
     /// What `help` tells.

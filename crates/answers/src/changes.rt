@@ -6,6 +6,7 @@ ghost use Rattle.answers.specs.Answers.{notice_text, publication_text};
 ghost use Rattle.answers.specs.Changes.{changes_answer, earlier, is_of_kind as of_kind, moved as all_moved, moved_since as since_earlier, told_of};
 
 use crate::answer::{Answer, Moved, Publication};
+use crate::boxed::Boxed;
 use crate::codes::put_numbered;
 use crate::reroutes::put_moved;
 use net_versions::Version;
@@ -59,14 +60,15 @@ fn moved(
     which: Moves,
     since: Option<u64>,
     reroutes: Reroutes,
-) -> Result<Moved, AllocError>
+) -> Result<Boxed<Moved>, AllocError>
     ensures { IfOk result (λ moved. moved ≡ all_moved which since reroutes) }
 {
-    Ok(Moved {
+    let moved = Moved {
         since,
         counts: count_reroutes(reroutes.as_slice()),
         reroutes: told(alloc, which, reroutes)?,
-    })
+    };
+    Boxed::new(alloc, moved)
 }
 
 /// What moved since an earlier version, all of it or what is of a kind; nothing if there is no earlier one. It fails if memory is
@@ -76,7 +78,7 @@ pub fn moved_since(
     which: Moves,
     before: Option<&Version>,
     version: &Version,
-) -> Result<Moved, AllocError>
+) -> Result<Boxed<Moved>, AllocError>
     ensures { IfOk result (λ moved. moved ≡ since_earlier which (option_map earlier (option_copied before.entry)) version.now.network) }
 {
     match before {
@@ -103,13 +105,17 @@ pub fn answer_changes(
 }
 
 /// Adds what a publication moved on a line of its own, if that is told.
-fn put_notice(text: &mut String, number: u64, moved: &Option<Moved>) -> Result<(), AllocError>
+fn put_notice(
+    text: &mut String,
+    number: u64,
+    moved: &Option<Boxed<Moved>>,
+) -> Result<(), AllocError>
     ensures { OnOk result (string_bytes text.new ≡ string_bytes text.old ++ notice_text number moved.now) }
 {
     match moved {
         Some(moved) => {
             put_numbered(text, "\n*changes ", number)?;
-            put_moved(text, moved)
+            put_moved(text, moved.get())
         }
         None => Ok(()),
     }
@@ -133,7 +139,7 @@ pub(crate) fn put_publication(
         }
         Publication::Changes(number, moved) => {
             put_numbered(text, "changes ", *number)?;
-            put_moved(text, moved)
+            put_moved(text, moved.get())
         }
     }
 }

@@ -52,6 +52,7 @@
 
 pub mod answer;
 pub mod audits;
+pub mod boxed;
 pub mod changes;
 mod codes;
 mod desk_refusals;
@@ -61,7 +62,6 @@ pub mod laws;
 mod links;
 mod mend;
 mod messages;
-pub mod net_box;
 pub mod printing;
 pub mod refusals;
 pub mod remedies;
@@ -85,11 +85,11 @@ mod why;
 
 pub use answer::{Answer, Moved, NetAnswer, Publication, Reason, Reply, RowAnswer};
 pub use audits::{answer_audit, clause_word, put_complaint};
+pub use boxed::Boxed;
 pub use changes::{answer_changes, moved_since};
 pub use help::answer_other;
 pub use laws::mend_law;
 pub use messages::{hex_digit, kind_word};
-pub use net_box::NetBox;
 pub use printing::{print_answer, put_answer, reason_title};
 pub use refusals::{cause_word, put_refusal};
 pub use remedies::{Action, Remedy, write_command};
@@ -97,9 +97,7 @@ pub use replies::{answer_abandoned, answer_given, answer_job, answer_open, answe
 pub use reroutes::answer_reroutes;
 pub use rows::answer_about;
 pub use showing::answer_shown;
-pub use shown::{
-    DownLinks, NetSize, PointStatus, SetNumbers, Shown, ShownBox, StatusCounts, Statuses,
-};
+pub use shown::{DownLinks, NetSize, PointStatus, SetNumbers, Shown, StatusCounts, Statuses};
 pub use status::far_word;
 pub use surveys::{answer_survey, surveyed_word};
 pub use taken::{AllTaken, TakenEvents};

@@ -96,7 +96,7 @@ fn put_net(alloc: Global, text: &mut String, net: &NetAnswer) -> Result<(), Allo
             text.push_str("reroutes")?;
             put_reroutes(text, reroutes)
         }
-        NetAnswer::Survey(survey) => put_survey(text, survey),
+        NetAnswer::Survey(survey) => put_survey(text, survey.get()),
         NetAnswer::Warned(warnings) => put_warnings(text, warnings),
         NetAnswer::Right(count) => put_right(text, *count),
         NetAnswer::Wrong(dest, complaint) => put_wrong(alloc, text, *dest, *complaint),
@@ -115,7 +115,7 @@ pub fn put_answer(alloc: Global, text: &mut String, answer: &Answer) -> Result<(
         Answer::Publication(publication) => put_publication(text, publication),
         Answer::Row(row) => put_row(alloc, text, row),
         Answer::Net(net) => put_net(alloc, text, net),
-        Answer::Shown(shown) => put_shown(alloc, text, shown.as_shown()),
+        Answer::Shown(shown) => put_shown(alloc, text, shown.get()),
         Answer::Who(counts) => put_who(text, counts),
         Answer::Help(told) => text.push_str(told.as_str()),
         Answer::Refused(reason) => put_reason(alloc, text, reason),

@@ -6,9 +6,8 @@ ghost use Rattle.excerpts.specs.Excerpt.{source_of};
 ghost use Rattle.answers.specs.Shown.{counted, down_links, ends_at, is_down, is_status as the_status, links_in, point_answer, point_statuses, set_answer, shown_answer, shown_plan, shown_statuses, size_shown, status_count, status_counts};
 
 use crate::answer::{Answer, Reason};
-use crate::shown::{
-    DownLinks, NetSize, PointStatus, SetNumbers, Shown, ShownBox, StatusCounts, Statuses,
-};
+use crate::boxed::Boxed;
+use crate::shown::{DownLinks, NetSize, PointStatus, SetNumbers, Shown, StatusCounts, Statuses};
 use crate::text::Text;
 use net_data::{Net, Refusal as EditRefusal};
 use net_items::copies::copy_set;
@@ -66,7 +65,7 @@ fn down_among(alloc: Global, links: &[SetLink]) -> Result<Vec<SetLink>, AllocErr
 fn show(alloc: Global, shown: Shown) -> Result<Answer, AllocError>
     ensures { IfOk result (λ answer. answer ≡ Answer.Shown shown) }
 {
-    Ok(Answer::Shown(ShownBox::new(alloc, shown)?))
+    Ok(Answer::Shown(Boxed::new(alloc, shown)?))
 }
 
 /// How large a network is.

@@ -1,13 +1,9 @@
 //! What is shown of a network, with its values.
 
-ghost use Rattle.std.specs.Prelude.{◌≡◌, IfOk};
-
 use crate::text::Text;
 use net_items::{LinkSet, Listing, Point};
 use point_codes::PointCode;
 use route_choice::Far;
-use std::alloc::{AllocError, Global};
-use std::marker::Model;
 use what_if::SetLink;
 
 /// How large a network is.
@@ -71,36 +67,4 @@ pub enum Shown {
     Plan(Text),
     /// How each point of a plan reaches its destination, and how many of them so.
     Statuses(StatusCounts, Statuses),
-}
-
-/// What is shown of a network, in a box, so that an answer is small.
-#[derive(Drop)]
-pub struct ShownBox {
-    held: Box<Shown>,
-}
-
-impl Model for ShownBox {
-    ghost use Rattle.answers.specs.declared.shown.Shown.{Shown};
-
-    ghost Value = { Shown };
-
-    ghost view = { λ b. b.held.value };
-}
-
-impl ShownBox {
-    /// This. It fails if memory is refused.
-    pub fn new(alloc: Global, shown: Shown) -> Result<ShownBox, AllocError>
-        ensures { IfOk result (λ b. b ≡ shown) }
-    {
-        Ok(ShownBox {
-            held: Box::new(alloc, shown)?,
-        })
-    }
-
-    /// What is in the box.
-    pub fn as_shown(&self) -> &Shown
-        ensures { result.now ≡ self.now }
-    {
-        &self.held
-    }
 }

@@ -6,6 +6,7 @@ ghost use Rattle.what_if.specs.Survey.{survey_listed as the_survey};
 ghost use Rattle.answers.specs.Surveys.{effect_text, single_text, survey_answer, survey_text, surveyed_text};
 
 use crate::answer::{Answer, NetAnswer, Reason};
+use crate::boxed::Boxed;
 use crate::codes::{put_number, put_numbered, write_code};
 use net_building::{Listed, Surveyed};
 use net_versions::Version;
@@ -73,7 +74,7 @@ pub fn answer_survey(
     ensures { IfOk result (λ answer. answer ≡ survey_answer (the_survey what version.now.network entries.now)) }
 {
     match survey_listed(alloc, version, what, entries)? {
-        Ok(survey) => Ok(Answer::Net(NetAnswer::Survey(survey))),
+        Ok(survey) => Ok(Answer::Net(NetAnswer::Survey(Boxed::new(alloc, survey)?))),
         Err(refused) => Ok(Answer::Refused(Reason::Event(refused))),
     }
 }

@@ -14,7 +14,7 @@ use crate::asking::answer_asked;
 use crate::console::Console;
 use crate::picturing::answer_save;
 use crate::sync;
-use answers::{Answer, Moved, Publication, Reason, Reply, answer_open, answer_post};
+use answers::{Answer, Boxed, Moved, Publication, Reason, Reply, answer_open, answer_post};
 use desk_core::Refusal;
 use net_data::Event;
 use script_words::{Command, Moves};
@@ -32,7 +32,7 @@ pub fn has_memory<T>(reply: &Result<T, Refusal>) -> bool
 }
 
 /// The answer to a publication, with what it moved, if that is told.
-fn answer_publish(reply: Result<u64, Refusal>, moved: Option<Moved>) -> Answer
+fn answer_publish(reply: Result<u64, Refusal>, moved: Option<Boxed<Moved>>) -> Answer
     ensures { result ≡ published_answer moved reply }
 {
     match reply {

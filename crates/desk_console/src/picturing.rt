@@ -5,7 +5,7 @@ ghost use Rattle.pictures.specs.Shown.{picture_fault, lacks_plan};
 ghost use Rattle.desk_console.specs.Does.{save_told};
 ghost use Rattle.desk_console.specs.Pictures.{is_svg as ends_in_svg, picture_for, picture_told};
 
-use answers::{Answer, NetAnswer, NetBox, Reason, Text};
+use answers::{Answer, Boxed, NetAnswer, Reason, Text};
 use net_data::Net;
 use net_versions::Version;
 use pictures::{PictureFault, write_dot, write_svg};
@@ -45,7 +45,8 @@ fn told(alloc: Global, file: &str, picture: String) -> Result<Answer, AllocError
     ensures { IfOk result (λ answer. answer ≡ Answer.Net (NetAnswer.Picture file.now (string_bytes picture))) }
 {
     let file = Text::from_string(String::from_str(alloc, file)?);
-    Ok(Answer::Net(NetAnswer::Picture(file, Text::from_string(picture))))
+    let picture = Boxed::new(alloc, Text::from_string(picture))?;
+    Ok(Answer::Net(NetAnswer::Picture(file, picture)))
 }
 
 /// The answer to `picture FILE` and `picture FILE X`: a picture of a version, about a destination if one is named, for that
@@ -70,5 +71,6 @@ pub fn answer_save(alloc: Global, net: &Net, file: &str) -> Result<Answer, Alloc
     ensures { IfOk result (λ answer. answer ≡ save_told file.now net.now) }
 {
     let file = Text::from_string(String::from_str(alloc, file)?);
-    Ok(Answer::Net(NetAnswer::Saving(file, NetBox::copy(alloc, net)?)))
+    let copy = Boxed::new(alloc, net.copy(alloc)?)?;
+    Ok(Answer::Net(NetAnswer::Saving(file, copy)))
 }

@@ -6,7 +6,7 @@ ghost use Rattle.std.specs.Option.{option_copied, option_map};
 ghost use Rattle.answers.specs.Changes.{earlier};
 ghost use Rattle.desk_console.specs.Watch.{among, changes_told, is_replaced as replaced, kept_at, newest, notice as the_notice, unwatched, watched};
 
-use answers::{Answer, Moved, Reason, answer_changes, moved_since};
+use answers::{Answer, Boxed, Moved, Reason, answer_changes, moved_since};
 use net_versions::Version;
 use script_words::Moves;
 use std::alloc::{AllocError, Global};
@@ -124,7 +124,7 @@ impl Watch {
         alloc: Global,
         old: Arc<Version>,
         new: &Version,
-    ) -> Result<Option<Moved>, AllocError>
+    ) -> Result<Option<Boxed<Moved>>, AllocError>
         ensures kept { self.new ≡ watched self.old (arc_value old) new.now }
         ensures notice { IfOk result (λ moved. moved ≡ the_notice self.old (arc_value old) new.now) }
     {

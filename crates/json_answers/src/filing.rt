@@ -5,7 +5,7 @@ ghost use Rattle.answers.specs.Filed.{IsFiled, IsUnfiled};
 ghost use Rattle.json_answers.specs.Form.{printed_in};
 
 use crate::form::Form;
-use answers::{Answer, Asked, NetAnswer, NetBox, Publication, Reason, RowAnswer, Telling, Text};
+use answers::{Answer, Asked, Boxed, NetAnswer, Publication, Reason, RowAnswer, Telling, Text};
 use net_data::Net;
 use std::alloc::{AllocError, Global};
 
@@ -134,11 +134,11 @@ fn filed_picture<C: Clerk>(
     alloc: Global,
     asked: Asked<'_>,
     file: Text,
-    picture: Text,
+    picture: Boxed<Text>,
 ) -> Result<Answer, AllocError>
     ensures { IfOk result (IsFiled (Answer.Net (NetAnswer.Picture file picture))) }
 {
-    let content = Content::Picture(picture.as_str());
+    let content = Content::Picture(picture.get().as_str());
     let outcome = clerk.put(alloc, asked, file.as_str(), content)?;
     match reason_of(outcome) {
         None => Ok(Answer::Net(NetAnswer::Drawn(file))),
@@ -152,11 +152,11 @@ fn filed_net<C: Clerk>(
     alloc: Global,
     asked: Asked<'_>,
     file: Text,
-    net: NetBox,
+    net: Boxed<Net>,
 ) -> Result<Answer, AllocError>
     ensures { IfOk result (IsFiled (Answer.Net (NetAnswer.Saving file net))) }
 {
-    let content = Content::Net(net.as_net());
+    let content = Content::Net(net.get());
     let outcome = clerk.put(alloc, asked, file.as_str(), content)?;
     match reason_of(outcome) {
         None => Ok(Answer::Net(NetAnswer::Saved(file))),

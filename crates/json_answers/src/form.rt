@@ -44,7 +44,7 @@ fn put_notice(alloc: Global, text: &mut String, answer: &Answer) -> Result<(), A
     match answer {
         Answer::Publication(Publication::Published(number, Some(moved)))
         | Answer::Publication(Publication::Synced(number, Some(moved))) => {
-            let number = *number;
+            let (number, moved) = (*number, moved.get());
             put_line(alloc, text, &Notice { number, moved })
         }
         _ => Ok(()),

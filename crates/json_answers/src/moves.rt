@@ -165,7 +165,7 @@ pub fn put_publication(
         Publication::Published(number, _) => put_numbered(writer, "published", "version", *number),
         Publication::Synced(number, _) => put_numbered(writer, "synced", "version", *number),
         Publication::Changes(number, moved) => {
-            put_changes(alloc, writer, "changes", *number, moved)
+            put_changes(alloc, writer, "changes", *number, moved.get())
         }
     }
 }

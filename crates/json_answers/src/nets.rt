@@ -132,7 +132,7 @@ fn put_net_values(alloc: Global, writer: &mut Writer, net: &NetAnswer) -> Result
         NetAnswer::Trace(trace) => put_trace(alloc, writer, trace),
         NetAnswer::WhatIf(report) => put_report(alloc, writer, report),
         NetAnswer::Reroutes(reroutes) => put_moves(alloc, writer, reroutes),
-        NetAnswer::Survey(survey) => put_survey(alloc, writer, survey),
+        NetAnswer::Survey(survey) => put_survey(alloc, writer, survey.get()),
         NetAnswer::Warned(warnings) => put_warnings(alloc, writer, warnings),
         NetAnswer::Right(count) => put_right(writer, *count as u64),
         NetAnswer::Wrong(dest, complaint) => put_wrong(alloc, writer, *dest, *complaint),

@@ -43,7 +43,7 @@ impl Told for Answer {
             Answer::Publication(publication) => put_publication(alloc, writer, publication),
             Answer::Row(row) => put_row(alloc, writer, row),
             Answer::Net(net) => put_net(alloc, writer, net),
-            Answer::Shown(shown) => put_shown(alloc, writer, shown.as_shown()),
+            Answer::Shown(shown) => put_shown(alloc, writer, shown.get()),
             Answer::Who(counts) => put_who(alloc, writer, counts),
             Answer::Help(text) => put_help(writer, text.as_str()),
             Answer::Refused(reason) => put_reason(alloc, writer, reason),

@@ -65,7 +65,7 @@ fn put_size_shown(page: &mut Page, answer: &Answer) -> Result<(), AllocError> {
     let Answer::Shown(shown) = answer else {
         return Ok(());
     };
-    match shown.as_shown() {
+    match shown.get() {
         Shown::Size(size) => put_size(page, size),
         _ => Ok(()),
     }
@@ -158,7 +158,7 @@ fn put_down_shown(page: &mut Page, net: &Net, answer: &Answer) -> Result<(), All
     let Answer::Shown(shown) = answer else {
         return Ok(());
     };
-    match shown.as_shown() {
+    match shown.get() {
         Shown::Down(links) => put_down_links(page, net, links.as_slice()),
         _ => Ok(()),
     }
@@ -186,7 +186,7 @@ fn put_counts_shown(page: &mut Page, dest: PointCode, answer: &Answer) -> Result
     let Answer::Shown(shown) = answer else {
         return Ok(());
     };
-    match shown.as_shown() {
+    match shown.get() {
         Shown::Statuses(counts, _) => put_counts(page, dest, counts),
         _ => Ok(()),
     }

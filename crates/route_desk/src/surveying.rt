@@ -3,7 +3,7 @@
 use crate::loading::load_file;
 use crate::reports::{Done, Stop, Teller};
 use crate::terminal::is_terminal;
-use answers::{Answer, NetAnswer};
+use answers::{Answer, Boxed, NetAnswer};
 use console::{Watch, survey_by};
 use json_answers::Form;
 use net_building::Surveyed;
@@ -74,7 +74,7 @@ pub fn print_in(alloc: Global, answer: &Answer, form: Form) -> Result<String, Al
 
 /// A survey as it is told, on a line.
 fn line_of(alloc: Global, survey: Survey, form: Form) -> Result<String, AllocError> {
-    let answer = Answer::Net(NetAnswer::Survey(survey));
+    let answer = Answer::Net(NetAnswer::Survey(Boxed::new(alloc, survey)?));
     print_in(alloc, &answer, form)
 }
 

@@ -9,4 +9,4 @@ returns-in-Published c =
 
 pub returns-in-Changes : goal.returns-in-Changes
 returns-in-Changes c =
-    subst (λ p. OnOk c.put_changes.result (Adds c.args.writer.now c.put_changes.new.writer (member_tokens (publication_members p)))) (sym c.in-Changes.is) c.put_changes.ensures
+    subst (λ p. OnOk c.put_changes.result (Adds c.args.writer.now c.put_changes.new.writer (member_tokens (publication_members p)))) (sym c.in-Changes.is) (rw c.get.ensures at c.put_changes.ensures)
