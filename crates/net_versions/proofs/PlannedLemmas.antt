@@ -53,7 +53,7 @@ found_plan net dest at rising found =
     let keeps : Plan → ChoicesValue = λ p. settled_choices (excerpt_in net p) in
     let within : at < length net.plans = subst (λ n. at < n) (length-map net.plans keeps) found.in_range in
     found_here (λ (p : Plan). p.dest) dest net.plans at rising within
-        (λ d. sym (ap (λ (c : ChoicesValue). c.dest) (get_or-map keeps net.plans at d (keeps d) within)) ∙ found.has_key (keeps d))
+    (λ d. sym (ap (λ (c : ChoicesValue). c.dest) (get_or-map keeps net.plans at d (keeps d) within)) ∙ found.has_key (keeps d))
 
 -- and its routing is that of the plan in this place
 pub routing_found : (net : Network) (dest at : ℕ) → IsFoundAt (λ (p : Plan). p.dest) dest net.plans at → (r : RoutingValue) → ((d : Plan) → r ≡ settled_routing (excerpt_in net (get_or net.plans at d))) → Some r ≡ routing_at net dest
@@ -119,10 +119,10 @@ choices_same x y one other plans has =
 pub choices_stay : (old new : Network) → IsValidNet old → IsValidNet new → HasTurned old new [] → all_choices old ≡ all_choices new
 choices_stay old new one other has =
     map_places (λ (p : Plan). settled_choices (excerpt_in old p)) (λ (p : Plan). settled_choices (excerpt_in new p)) old.plans
-        (λ i d within.
-        choices_same (excerpt_in old (get_or old.plans i d)) (excerpt_in new (get_or old.plans i d)) (right_in_place old one i d within)
-        (subst (λ (plans : List Plan). IsRight (excerpt_in new (get_or plans i d))) has.plans (right_in_place new other i d (subst (λ (plans : List Plan). i < length plans) (sym has.plans) within)))
-        refl has)
+    (λ i d within.
+    choices_same (excerpt_in old (get_or old.plans i d)) (excerpt_in new (get_or old.plans i d)) (right_in_place old one i d within)
+    (subst (λ (plans : List Plan). IsRight (excerpt_in new (get_or plans i d))) has.plans (right_in_place new other i d (subst (λ (plans : List Plan). i < length plans) (sym has.plans) within)))
+    refl has)
     ∙ ap (map (λ (p : Plan). settled_choices (excerpt_in new p))) (sym has.plans)
 
 -- the content of a destination is that of its excerpt

@@ -216,7 +216,12 @@ fn round_table(rt: &impl Abort, alloc: Global) -> Table {
 fn mates_do_not_use_each_other(rt: HostRuntime) {
     let table = round_table(&rt, rt.alloc());
     let excerpt = worked_excerpt(&rt, rt.alloc(), &[FAIL_3_0, FAIL_3_1, FAIL_4_0]);
-    expect_complaint(&rt, check(&excerpt.excerpt(), &table), "2-10-1", Clause::Route);
+    expect_complaint(
+        &rt,
+        check(&excerpt.excerpt(), &table),
+        "2-10-1",
+        Clause::Route,
+    );
 }
 
 /// What the check says of a table of some rows of the worked network, and of another destination.

@@ -74,7 +74,10 @@ fn an_excerpt_wants_a_plan(rt: HostRuntime) {
     let net = frozen(&rt, rt.alloc(), worked_after(&rt, rt.alloc(), &[]));
     let dest = point(&rt, "2-1-1");
     assert!(rt; Excerpt::of(&net, dest).is_none());
-    assert_eq!(rt; SharedExcerpt::of(&net, dest).err(), Some(ExcerptFault::NoPlan));
+    assert_eq!(rt;
+        SharedExcerpt::of(&net, dest).err(),
+        Some(ExcerptFault::NoPlan)
+    );
 }
 
 /// An excerpt tells the kinds of the points of a network.

@@ -48,4 +48,4 @@ module _ {X : Type 0} (tell : Account X) (old new : Network) (rising : IsRising 
   each_planned =
       by_places (λ x. each_point tell (excerpt_at old x) (excerpt_at new x) x) (told_of_plan tell old new) new.plans there
       ∙ ap (flat_map (λ x. each_point tell (excerpt_at old x) (excerpt_at new x) x))
-        (sym (both_same (dests new) (dests_rise new rising)) ∙ ap (λ (plans : List Plan). both (map (λ (p : Plan). p.dest) plans) (dests new)) same)
+      (sym (both_same (dests new) (dests_rise new rising)) ∙ ap (λ (plans : List Plan). both (map (λ (p : Plan). p.dest) plans) (dests new)) same)

@@ -174,7 +174,13 @@ fn add_in_place<D: Difference>(
     ensures { OnOk result ((d : Plan) → list.new.items ≡ list.old.items ++ told_of_plan D.told version.now.network net.now (slice_index_or net.now.plans position d)) }
 {
     let before = version.routing_in_place(position);
-    add_followed(alloc, &before, &Excerpt::in_place(net, position), turned, list)
+    add_followed(
+        alloc,
+        &before,
+        &Excerpt::in_place(net, position),
+        turned,
+        list,
+    )
 }
 
 /// What is told from a version to a network, by the ends of the sets that turned.

@@ -97,11 +97,7 @@ impl Job {
     }
 
     /// A job for an excerpt.
-    pub(crate) fn from_parts(
-        version: u64,
-        excerpt: SharedExcerpt,
-        before: Option<Before>,
-    ) -> Job
+    pub(crate) fn from_parts(version: u64, excerpt: SharedExcerpt, before: Option<Before>) -> Job
         requires { CanFollowAny excerpt before }
         ensures { result ≡ record { version = version; excerpt = excerpt } }
     {
